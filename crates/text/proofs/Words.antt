@@ -1,17 +1,18 @@
--- Laws of the test `same` and of a table of words.
+-- Laws of the test `same` and of a table of words. Assumes nothing.
 use mathlib.Core.Path.{_≡_, refl, sym, ap, _∙_}
-use mathlib.Core.List.{List, [], _∷_, _++_}
+use mathlib.Core.List.{List, [], _∷_}
 use mathlib.Core.Bool.{Bool, true, false, cond}
 use Prim.Native.Nat.{ℕ, suc, _+_, _-_, _≤_, _<_}
-use native.Mathlib.Nat.{sub-self, add-zero}
+use native.Mathlib.Nat.{add-zero}
 use native.Mathlib.Numerals.{add-one}
 use native.Mathlib.Omega.{arith}
 use lib.ListN.{length, getD, take, drop, drop-of-length-le, length-drop}
-use lib.Seq.{drop-cons, take-suc, getD-drop}
-use lib.Dec.{eqb}
+use lib.Seq.{drop-cons, drop-drop}
 use borrow.Author.Tests.{eq-eqb, ne-eqb}
-use Rattle.text.specs.Text.{same}
+use lib.Dec.{eqb}
+use Rattle.text.specs.Text.{same, either, upto, ended}
 use Rattle.text.specs.Word.{split, place}
+use Rattle.text.proofs.Pieces.{upto-front, ended-next, ended-none}
 
 -- lists of two lengths are not the same
 pub same-length : (a b : List ℕ) → (length a ≡ length b → ⊥) → same a b ≡ false
@@ -25,62 +26,51 @@ same-length (x ∷ xs) (y ∷ ys) h = rw (same-length xs ys (λ e. h (ap suc e))
     both true = refl
     both false = refl
 
--- one step of the comparison
-pub same-differs : (a b : List ℕ) (i : ℕ) → (getD a i 0 ≡ getD b i 0 → ⊥) → i < length a → i < length b → same (drop i a) (drop i b) ≡ false
-unfolding same
-same-differs a b i h ha hb = rw (drop-cons a i 0 ha, drop-cons b i 0 hb, ne-eqb (getD a i 0) (getD b i 0) h)
+-- A turn of the comparison: r is the answer, and i the place of the turn.
+module _ (a b : List ℕ) (i : ℕ) (r : Bool) (e : r ≡ same (drop i a) (drop i b)) where
+  pub same-differs : (getD a i 0 ≡ getD b i 0 → ⊥) → i < length a → i < length b → false ≡ r
+  unfolding same
+  same-differs h ha hb = sym (e ∙ rw (drop-cons a i 0 ha, drop-cons b i 0 hb, ne-eqb (getD a i 0) (getD b i 0) h))
 
-pub same-agrees : (a b : List ℕ) (i : ℕ) → getD a i 0 ≡ getD b i 0 → i < length a → i < length b
-    → same (drop i a) (drop i b) ≡ same (drop (i + 1) a) (drop (i + 1) b)
-unfolding same
-same-agrees a b i h ha hb = rw (add-one, drop-cons a i 0 ha, drop-cons b i 0 hb, eq-eqb (getD a i 0) (getD b i 0) h)
+  pub same-agrees : getD a i 0 ≡ getD b i 0 → i < length a → i < length b → r ≡ same (drop (i + 1) a) (drop (i + 1) b)
+  unfolding same
+  same-agrees h ha hb = e ∙ rw (add-one, drop-cons a i 0 ha, drop-cons b i 0 hb, eq-eqb (getD a i 0) (getD b i 0) h)
 
-pub same-end : (a b : List ℕ) (i : ℕ) → length a ≤ i → length b ≤ i → same (drop i a) (drop i b) ≡ true
-unfolding same
-same-end a b i ha hb = rw (drop-of-length-le a ha, drop-of-length-le b hb)
+  pub same-end : length a ≤ i → length b ≤ i → true ≡ r
+  unfolding same
+  same-end ha hb = sym (e ∙ rw (drop-of-length-le a ha, drop-of-length-le b hb))
 
--- the part of t from start to before i
-abbrev pub part : List ℕ → ℕ → ℕ → List ℕ
-part t start i = take (i - start) (drop start t)
+-- A turn of the search in a table: n is the place, k the words passed, start where the next one starts, and end where it ends.
+module _ (p t : List ℕ) (k start end n : ℕ) (e : n ≡ k + place p (split (drop start t)))
+    (f : end ≡ start + length (upto (either 32 32) (drop start t))) where
+  abbrev part : List ℕ
+  part = take (end - start) (drop start t)
 
--- the word ends at i
-pub split-space : (t : List ℕ) (start i : ℕ) → getD t i 0 ≡ 32 → i < length t
-    → split (part t start i) (drop i t) ≡ part t start i ∷ split (part t (i + 1) (i + 1)) (drop (i + 1) t)
-unfolding split
-split-space t start i h hi = rw (add-one, drop-cons t i 0 hi, eq-eqb (getD t i 0) 32 h, sub-self)
+  here : end - start ≡ length (upto (either 32 32) (drop start t))
+  here = omega arith
 
--- the word goes on at i
-pub split-more : (t : List ℕ) (start i : ℕ) → (getD t i 0 ≡ 32 → ⊥) → i < length t → start ≤ i
-    → split (part t start i) (drop i t) ≡ split (part t start (i + 1)) (drop (i + 1) t)
-unfolding split
-split-more t start i h hi hs = rw (grows, drop-cons t i 0 hi, ne-eqb (getD t i 0) 32 h, add-one)
-  where
-    here : start + (i - start) ≡ i
-    here = omega arith
+  word : part ≡ upto (either 32 32) (drop start t)
+  word = rw here (upto-front (either 32 32) (drop start t))
 
-    next : i + 1 - start ≡ suc (i - start)
-    next = omega arith
+  next : end < length t → split (drop start t) ≡ part ∷ split (drop (end + 1) t)
+  unfolding split
+  next h =
+      ended-next (either 32 32) [] (drop start t) (rw (length-drop start t) (omega arith))
+      ∙ rw (word, ← here, drop-drop, add-one end, let q : start + suc (end - start) ≡ suc end = omega arith in q)
 
-    grows : part t start (i + 1) ≡ part t start i ++ (getD t i 0 ∷ [])
-    grows = rw (next, take-suc (drop start t) (i - start) 0 (simp length-drop (omega arith)), getD-drop start t (i - start) 0, here)
+  pub place-hit : end < length t → same p part ≡ true → k ≡ n
+  unfolding place
+  place-hit h hit = sym (e ∙ rw (next h, hit) (add-zero k))
 
--- p is the first word that is left
-pub place-hit : (p t : List ℕ) (start i k n : ℕ) → n ≡ k + place p (split (part t start i) (drop i t)) → getD t i 0 ≡ 32 → i < length t
-    → same p (part t start i) ≡ true → k ≡ n
-unfolding place
-place-hit p t start i k n e h hi hit = sym (e ∙ rw (split-space t start i h hi, hit) (add-zero k))
+  pub place-miss : end < length t → same p part ≡ false → n ≡ k + 1 + place p (split (drop (end + 1) t))
+  unfolding place
+  place-miss h miss = e ∙ rw (next h, miss) (omega arith)
 
--- it is not
-pub place-miss : (p t : List ℕ) (start i k n : ℕ) → n ≡ k + place p (split (part t start i) (drop i t)) → getD t i 0 ≡ 32 → i < length t
-    → same p (part t start i) ≡ false → n ≡ k + 1 + place p (split (part t (i + 1) (i + 1)) (drop (i + 1) t))
-unfolding place
-place-miss p t start i k n e h hi miss = e ∙ rw (split-space t start i h hi, miss) (omega arith)
+  -- what no space ends is no word
+  pub place-rest : length t ≤ end → k ≡ n
+  unfolding place split
+  place-rest h = sym (e ∙ rw (ended-none (either 32 32) [] (drop start t) (rw (length-drop start t) (omega arith))) (add-zero k))
 
-pub place-end : (p t : List ℕ) (start i k n : ℕ) → n ≡ k + place p (split (part t start i) (drop i t)) → length t ≤ i → k ≡ n
-unfolding place split
-place-end p t start i k n e hi = sym (e ∙ rw (drop-of-length-le t hi) (add-zero k))
-
--- the word goes on
-pub place-more : (p t : List ℕ) (start i k n : ℕ) → n ≡ k + place p (split (part t start i) (drop i t)) → (getD t i 0 ≡ 32 → ⊥) → i < length t → start ≤ i
-    → n ≡ k + place p (split (part t start (i + 1)) (drop (i + 1) t))
-place-more p t start i k n e h hi hs = e ∙ ap (λ ws. k + place p ws) (split-more t start i h hi hs)
+pub place-end : (p t : List ℕ) (k start n : ℕ) → n ≡ k + place p (split (drop start t)) → length t ≤ start → k ≡ n
+unfolding place split ended
+place-end p t k start n e h = sym (e ∙ rw (drop-of-length-le t h) (add-zero k))

@@ -1,9 +1,9 @@
--- Texts as lists of bytes.
+-- Texts as lists of bytes, and their pieces.
 use Prim.Native.Nat.{ℕ}
 use Prim.Native.Char.{code}
 use Prim.Native.String.{String, [] as []ˢ, _∷_ as _∷ˢ_}
-use mathlib.Core.List.{List, [], _∷_}
-use mathlib.Core.Bool.{Bool, true, false, cond, _&&_}
+use mathlib.Core.List.{List, [], _∷_, _++_}
+use mathlib.Core.Bool.{Bool, true, false, cond, _&&_, _||_}
 use lib.Dec.{eqb}
 
 -- the bytes of a fixed text
@@ -22,3 +22,17 @@ same (x ∷ xs) (y ∷ ys) = cond (eqb x y) (same xs ys) false
 unfoldable pub all : (ℕ → Bool) → List ℕ → Bool
 all p [] = true
 all p (b ∷ bs) = p b && all p bs
+
+-- the test for either of two bytes
+abbrev pub either : ℕ → ℕ → ℕ → Bool
+either a b x = eqb x a || eqb x b
+
+-- the bytes before the first that passes the test
+unfoldable pub upto : (ℕ → Bool) → List ℕ → List ℕ
+upto p [] = []
+upto p (b ∷ bs) = cond (p b) [] (b ∷ upto p bs)
+
+-- the pieces of a text, each ended by a byte that passes the test; w is the start of the first one
+unfoldable pub ended : (ℕ → Bool) → List ℕ → List ℕ → List (List ℕ)
+ended p w [] = []
+ended p w (b ∷ bs) = cond (p b) (w ∷ ended p [] bs) (ended p (w ++ (b ∷ [])) bs)

@@ -1,5 +1,5 @@
 // Fixed byte strings compared against a part of a line.
-ghost use mathlib.Core.List.{[]};
+use crate::piece::find;
 ghost use mathlib.Core.Path.{_≡_};
 ghost use Rattle.text.specs.Text.{same};
 ghost use Rattle.text.specs.Word.{place, split};
@@ -23,22 +23,20 @@ pub fn is_word(part: &[u8], word: &[u8]) -> bool
 
 // The place of part among the words of a table, each of which is ended by a space; the number of words where it is none.
 pub fn place_in(part: &[u8], table: &[u8]) -> usize
-    ensures { λ r. ⌜ r ≡ place (now (part .entry)) (split [] (now (table .entry))) ⌝ }
+    ensures { λ r. ⌜ r ≡ place (now (part .entry)) (split (now (table .entry))) ⌝ }
 {
     let mut k = 0;
     let mut start = 0;
-    let mut i = 0;
-    while i < table.len() {
-        if table[i] != b' ' {
-            i += 1;
-            continue;
+    while start < table.len() {
+        let end = find(table, start, b' ', b' ');
+        if table.len() <= end {
+            return k;
         }
-        if is_word(part, &table[start..i]) {
+        if is_word(part, &table[start..end]) {
             return k;
         }
         k += 1;
-        i += 1;
-        start = i;
+        start = end + 1;
     }
     k
 }

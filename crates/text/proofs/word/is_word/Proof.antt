@@ -34,7 +34,7 @@ returns-2 : tie.Need-returns-2 Inv-loop μ-loop
 returns-2 c =
     let h = c .before .before .before .before in
     let a = h .before .before .args in
-    sym (h .loop .inv .2 ∙ same-differs (now (a .part)) (now (a .word)) (h .loop .i) (c .if2 .taken) (omega arith) (omega arith))
+    same-differs (now (a .part)) (now (a .word)) (h .loop .i) _ (h .loop .inv .2) (c .if2 .taken) (omega arith) (omega arith)
 
 add-i : tie.Need-add-i Inv-loop μ-loop
 add-i c = omega arith
@@ -46,10 +46,10 @@ loop-again : tie.Need-loop-again Inv-loop μ-loop
 loop-again c =
     let h = c .before .before .before .before in
     let a = h .before .before .args in
-    (omega arith, omega arith, h .loop .inv .2 ∙ same-agrees (now (a .part)) (now (a .word)) (h .loop .i) (c .if2 .left) (omega arith) (omega arith))
+    (omega arith, omega arith, same-agrees (now (a .part)) (now (a .word)) (h .loop .i) _ (h .loop .inv .2) (c .if2 .left) (omega arith) (omega arith))
 
 returns-3 : tie.Need-returns-3 Inv-loop μ-loop
-returns-3 c = sym (c .before .loop .inv .2 ∙ same-end _ _ _ (c .loop-test .left) (omega arith))
+returns-3 c = same-end _ _ _ _ (c .before .loop .inv .2) (c .loop-test .left) (omega arith)
 
 pub is-word-spec : {M : Type 1} → statement M
 is-word-spec =

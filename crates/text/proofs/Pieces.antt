@@ -1,0 +1,96 @@
+-- Laws of the pieces of a text. Assumes nothing.
+use mathlib.Core.Path.{_≡_, refl, sym, ap, _∙_}
+use mathlib.Core.List.{List, [], _∷_, _++_, append-assoc, append-nil}
+use mathlib.Core.Bool.{Bool, true, false, cond}
+use Prim.Native.Nat.{ℕ, suc, _+_, _-_, _≤_, _<_}
+use native.Mathlib.Numerals.{add-one}
+use native.Mathlib.Nat.{add-zero}
+use native.Mathlib.Omega.{arith}
+use lib.ListN.{length, getD, take, drop, drop-of-length-le, length-drop}
+use lib.Seq.{drop-cons}
+use Rattle.text.specs.Text.{upto, ended}
+
+module _ (p : ℕ → Bool) where
+  -- a piece is the front of what it is the first piece of
+  pub upto-front : (l : List ℕ) → take (length (upto p l)) l ≡ upto p l
+  unfolding upto
+  upto-front [] = refl
+  upto-front (b ∷ bs) = go (p b) (upto-front bs)
+    where
+      go : (t : Bool) → take (length (upto p bs)) bs ≡ upto p bs → take (length (cond t [] (b ∷ upto p bs))) (b ∷ bs) ≡ cond t [] (b ∷ upto p bs)
+      go true h = refl
+      go false h = ap (λ l. b ∷ l) h
+
+  pub upto-length : (l : List ℕ) → length (upto p l) ≤ length l
+  unfolding upto
+  upto-length [] = omega arith
+  upto-length (b ∷ bs) = go (p b) (upto-length bs)
+    where
+      go : (t : Bool) → length (upto p bs) ≤ length bs → length (cond t [] (b ∷ upto p bs)) ≤ suc (length bs)
+      go true h = omega arith
+      go false h = omega arith
+
+  -- the first piece, and the others
+  pub ended-next : (w l : List ℕ) → length (upto p l) < length l
+      → ended p w l ≡ (w ++ upto p l) ∷ ended p [] (drop (suc (length (upto p l))) l)
+  unfolding upto ended
+  ended-next w [] h = absurd (omega arith)
+  ended-next w (b ∷ bs) h = go (p b) h (ended-next (w ++ (b ∷ [])) bs)
+    where
+      go : (t : Bool) → length (cond t [] (b ∷ upto p bs)) < suc (length bs)
+          → (length (upto p bs) < length bs
+          → ended p (w ++ (b ∷ [])) bs ≡ ((w ++ (b ∷ [])) ++ upto p bs) ∷ ended p [] (drop (suc (length (upto p bs))) bs))
+          → cond t (w ∷ ended p [] bs) (ended p (w ++ (b ∷ [])) bs)
+          ≡ (w ++ cond t [] (b ∷ upto p bs)) ∷ ended p [] (drop (suc (length (cond t [] (b ∷ upto p bs)))) (b ∷ bs))
+      go true q f = rw (append-nil w)
+      go false q f = f (omega arith) ∙ rw (append-assoc w (b ∷ []) (upto p bs))
+
+  -- where no byte ends it there is no piece
+  pub ended-none : (w l : List ℕ) → length l ≤ length (upto p l) → ended p w l ≡ []
+  unfolding upto ended
+  ended-none w [] h = refl
+  ended-none w (b ∷ bs) h = go (p b) h (ended-none (w ++ (b ∷ [])) bs)
+    where
+      go : (t : Bool) → suc (length bs) ≤ length (cond t [] (b ∷ upto p bs)) → (length bs ≤ length (upto p bs) → ended p (w ++ (b ∷ [])) bs ≡ [])
+          → cond t (w ∷ ended p [] bs) (ended p (w ++ (b ∷ [])) bs) ≡ []
+      go true q f = absurd (omega arith)
+      go false q f = f (omega arith)
+
+  -- how many pieces there are does not depend on the start of the first
+  ended-any : (w l : List ℕ) → length (ended p w l) ≡ length (ended p [] l)
+  unfolding ended
+  ended-any w [] = refl
+  ended-any w (b ∷ bs) = go (p b) (ended-any (w ++ (b ∷ [])) bs) (ended-any (b ∷ []) bs)
+    where
+      go : (t : Bool) → length (ended p (w ++ (b ∷ [])) bs) ≡ length (ended p [] bs) → length (ended p (b ∷ []) bs) ≡ length (ended p [] bs)
+          → length (cond t (w ∷ ended p [] bs) (ended p (w ++ (b ∷ [])) bs)) ≡ length (cond t ([] ∷ ended p [] bs) (ended p ([] ++ (b ∷ [])) bs))
+      go true h k = refl
+      go false h k = h ∙ sym k
+
+-- A turn of the search for the end of a piece: n is the end, and i the place of the turn.
+module _ (p : ℕ → Bool) (s : List ℕ) (i n : ℕ) (e : n ≡ i + length (upto p (drop i s))) where
+  pub find-stop : p (getD s i 0) ≡ true → i < length s → i ≡ n
+  unfolding upto
+  find-stop t h = sym (e ∙ rw (drop-cons s i 0 h, t) (add-zero i))
+
+  pub find-more : p (getD s i 0) ≡ false → i < length s → n ≡ i + 1 + length (upto p (drop (i + 1) s))
+  unfolding upto
+  find-more t h = e ∙ rw (drop-cons s i 0 h, t, add-one) (omega arith)
+
+  pub find-over : length s ≤ i → i ≡ n
+  unfolding upto
+  find-over h = sym (e ∙ rw (drop-of-length-le s h) (add-zero i))
+
+-- A turn of the count of pieces: n is the count, k the pieces so far, and i the place of the turn.
+module _ (p : ℕ → Bool) (s : List ℕ) (i k n : ℕ) (e : n ≡ k + length (ended p [] (drop i s))) where
+  pub count-one : p (getD s i 0) ≡ true → i < length s → n ≡ k + 1 + length (ended p [] (drop (i + 1) s))
+  unfolding ended
+  count-one t h = e ∙ rw (add-one i, drop-cons s i 0 h, t) (omega arith)
+
+  pub count-more : p (getD s i 0) ≡ false → i < length s → n ≡ k + length (ended p [] (drop (i + 1) s))
+  unfolding ended
+  count-more t h = e ∙ rw (add-one i, drop-cons s i 0 h, t) (ap (λ m. k + m) (ended-any p (getD s i 0 ∷ []) (drop (suc i) s)))
+
+  pub count-over : length s ≤ i → k ≡ n
+  unfolding ended
+  count-over h = sym (e ∙ rw (drop-of-length-le s h) (add-zero k))
