@@ -1,0 +1,148 @@
+//! The stored answers, which a program in another language replays. stored/README.md has the
+//! format.
+
+use crate::answer::Answer;
+use crate::case::Case;
+use crate::cases;
+use crate::damage::edges;
+use crate::generate::case;
+use crate::reader::{Loaded, Refusal, Spans};
+
+const SEED: u64 = 200_069_746;
+
+/// The largest generated sheet that is stored for a number.
+fn most_bytes(number: u32) -> usize {
+    match number {
+        1 => usize::MAX,
+        3 | 7 => 1_100,
+        _ => 500,
+    }
+}
+
+/// A file of the folder and its bytes.
+pub type File = (&'static str, Vec<u8>);
+
+pub fn files() -> Vec<File> {
+    let answers = answer_cases();
+    let readings = reader_cases();
+    vec![
+        ("answers.sheets", frames(&answers)),
+        ("answers.expected", expected(&answers, |case| answer_line(&case.answer()))),
+        ("reader.sheets", frames(&readings)),
+        ("reader.expected", expected(&readings, reading_line)),
+    ]
+}
+
+fn frames(cases: &[Case]) -> Vec<u8> {
+    let mut out = Vec::new();
+    for case in cases {
+        let Case { sheet, scratch_len, types_len, message_len } = case;
+        let length = sheet.len();
+        let header = format!("{length:05} {scratch_len:05} {types_len:05} {message_len:05}\n");
+        out.extend(header.bytes());
+        out.extend(sheet);
+    }
+    out
+}
+
+fn expected(cases: &[Case], line: impl Fn(&Case) -> String) -> Vec<u8> {
+    cases.iter().flat_map(|case| (line(case) + "\n").into_bytes()).collect()
+}
+
+/// `number,place,count,length;types;message`.
+pub fn answer_line(answer: &Answer) -> String {
+    let codes = answer.types.iter().flatten().map(u8::to_string);
+    format!(
+        "{},{},{},{};{};{}",
+        answer.number,
+        answer.places[0],
+        answer.count,
+        answer.message.len(),
+        codes.collect::<Vec<_>>().join(" "),
+        answer.written(),
+    )
+}
+
+/// `number,place`, or `0,LINES;` and `word:depth:end` for each line.
+fn reading_line(case: &Case) -> String {
+    match case.read(Spans::Numbered) {
+        Err(Refusal { number, place }) => format!("{number},{place}"),
+        Ok(Loaded { lines, .. }) => {
+            let listed =
+                lines.iter().map(|line| format!("{}:{}:{}", line.word, line.depth, line.end));
+            format!("0,{};{}", lines.len(), listed.collect::<Vec<_>>().join(" "))
+        }
+    }
+}
+
+/// The hand cases, the edges, a message buffer about as long as each message, and generated
+/// sheets up to a share for each number.
+fn answer_cases() -> Vec<Case> {
+    let mut cases = hand_cases();
+    cases.extend(edges());
+    cases.extend(message_lengths());
+    let share = |number| match number {
+        0 => 50,
+        1 => 1,
+        2..=11 => 6,
+        _ => 8,
+    };
+    cases.extend(generated(share, |case| {
+        let answer = case.answer();
+        (answer.places.len() == 1).then_some(answer.number)
+    }));
+    cases
+}
+
+fn reader_cases() -> Vec<Case> {
+    let mut cases = hand_cases();
+    cases.extend(edges());
+    let share = |number| match number {
+        0 => 30,
+        1 => 1,
+        3 => 4,
+        _ => 12,
+    };
+    cases.extend(generated(share, |case| {
+        let reading = case.read(Spans::Numbered);
+        Some(reading.map_or_else(|refusal| refusal.number, |_| 0))
+    }));
+    cases
+}
+
+fn hand_cases() -> Vec<Case> {
+    cases::all().into_iter().map(|case| Case::exact(case.sheet)).collect()
+}
+
+/// Each hand case that has a message, with a buffer that just holds it and one that just doesn't.
+fn message_lengths() -> Vec<Case> {
+    let mut out = Vec::new();
+    for case in hand_cases() {
+        let length = case.answer().message.len();
+        if length > 0 && case.sheet.len() < 180 {
+            out.push(Case { message_len: length, ..case.clone() });
+            out.push(Case { message_len: length - 1, ..case });
+        }
+    }
+    out
+}
+
+/// Generated cases up to `share` for each number that `number` gives them.
+fn generated(share: impl Fn(u32) -> usize, number: impl Fn(&Case) -> Option<u32>) -> Vec<Case> {
+    const TRIED: u64 = 20_000;
+    let mut kept = [0; 47];
+    let mut out = Vec::new();
+    for index in 0..TRIED {
+        let case = case(SEED, index);
+        let Some(number) = number(&case) else {
+            continue;
+        };
+        let seen = &mut kept[number as usize];
+        let small = case.sheet.len() <= most_bytes(number);
+        if small && *seen < share(number) {
+            *seen += 1;
+            out.push(case);
+        }
+    }
+    out
+}

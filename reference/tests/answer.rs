@@ -1,0 +1,74 @@
+//! Messages in lent buffers, several places, and askings.
+
+use reference::answer::answer;
+use reference::askings::listed;
+use reference::reader::{read, Spans};
+use reference::{check, Model};
+
+const EXAMPLE: &[u8] = b"contract,1\nstate,1\nfield,10,level,1\ntype,11,u8,0\nint,17,300\n";
+
+#[test]
+fn a_message_is_written_only_where_it_fits() {
+    let message = "300 does not fit `level`, whose largest value is 255";
+    for (lent, written) in [(52, message), (16_384, message), (51, ""), (0, "")] {
+        let answer = answer(EXAMPLE, 40, 5, lent);
+        assert_eq!((answer.number, answer.places.as_slice()), (27, &[17][..]));
+        assert_eq!((answer.count, answer.message.len()), (1, 52));
+        assert_eq!(answer.written(), written);
+    }
+}
+
+#[test]
+fn refusals_1_to_11_have_no_message_and_leave_the_table() {
+    let answer = answer(EXAMPLE, 39, 5, 16_384);
+    assert_eq!((answer.number, answer.places.as_slice(), answer.count), (5, &[0][..], 0));
+    assert_eq!((answer.message.as_str(), answer.types), ("", None));
+}
+
+#[test]
+fn refusal_20_may_name_any_bad_field_that_is_last_of_its_name() {
+    let sheet = b"contract,2
+state,4
+field,1,a,0
+type,2,GuardianSet,0
+field,3,b,0
+type,4,GuardianSet,0
+field,5,a,0
+type,6,GuardianSet,0
+field,7,c,0
+type,8,u8,0
+entry,1,0,0
+param,g
+type,9,GuardianSet,0
+";
+    let answer = answer(sheet, 104, 13, 16_384);
+    assert_eq!((answer.number, answer.places.as_slice()), (20, &[4, 6][..]));
+}
+
+/// `do m.get(m.get(.. m.get(1)))`, of so many calls.
+fn nested(calls: usize) -> Vec<u8> {
+    let head = "contract,2\nstate,1\nfield,1,m,0\ntype,2,Map,2\ntype,3,u64,0\ntype,4,u64,0\n";
+    let inner = "call,5,1\ndot,6,get,7\nid,8,m\n".repeat(calls);
+    format!("{head}entry,0,0,1\ndo\n{inner}int,9,1\n").into_bytes()
+}
+
+#[test]
+fn askings_double_for_each_keyed_level() {
+    // A level asks itself once and its key twice, so 12 levels make 2^13 - 1; the second look at
+    // the `do` asks the key of the outermost once more: 2^12 - 1.
+    for (calls, askings) in [(1, 4), (2, 10), (12, 12_286)] {
+        let sheet = nested(calls);
+        let loaded = read(&sheet, 8_192, 1_024, Spans::Numbered).expect("a sheet");
+        let (result, list) = listed(|| check(&Model::build(&loaded.contract)));
+        assert_eq!((result, list.len()), (Ok(()), askings));
+    }
+}
+
+#[test]
+fn inner_askings_end_first() {
+    let sheet = b"contract,1\ninvariant\nun,1,not\nun,2,neg\nnow,3\n";
+    let loaded = read(sheet, 40, 5, Spans::Own).expect("a sheet");
+    let (_, list) = listed(|| check(&Model::build(&loaded.contract)));
+    let pairs: Vec<(u32, u8)> = list.iter().map(|asking| (asking.span.0, asking.code)).collect();
+    assert_eq!(pairs, [(3, 1), (2, 1), (1, 11)]);
+}

@@ -1,0 +1,62 @@
+//! What is told of generated sheets.
+
+use reference::generate::case;
+use reference::reader::Spans;
+use reference::{check, Model};
+
+const SEED: u64 = 1;
+
+#[test]
+fn every_number_comes_often() {
+    let mut times = [0; 47];
+    for index in 0..20_000 {
+        times[case(SEED, index).answer().number as usize] += 1;
+    }
+    for (number, &times) in times.iter().enumerate() {
+        assert!(times >= 50, "{number} comes {times} times");
+    }
+}
+
+#[test]
+fn a_case_is_its_seed_and_index() {
+    for index in 0..200 {
+        assert_eq!(case(SEED, index), case(SEED, index));
+    }
+}
+
+/// The sheet's own spans in the tree lead to the same verdict as numbered ones.
+#[test]
+fn both_ways_of_spans_agree() {
+    let mut read_sheets = 0;
+    for index in 0..4_000 {
+        let case = case(SEED, index);
+        let answer = case.answer();
+        let own = case.read(Spans::Own);
+        let Ok(loaded) = own else {
+            assert!((1..=11).contains(&answer.number), "{index}");
+            continue;
+        };
+        read_sheets += 1;
+        match check(&Model::build(&loaded.contract)) {
+            Ok(()) => assert_eq!(answer.number, 0, "{index}"),
+            Err(error) => {
+                assert!(answer.places.contains(&error.span.0), "{index}");
+                assert_eq!(answer.message, error.message, "{index}");
+            }
+        }
+    }
+    assert!(read_sheets >= 2_000, "only {read_sheets} sheets are read");
+}
+
+/// 11 appears in the table exactly with the refusals that end an asking.
+#[test]
+fn codes_of_the_table() {
+    for index in 0..4_000 {
+        let answer = case(SEED, index).answer();
+        let types = answer.types.unwrap_or_default();
+        assert_eq!(types.contains(&11), (30..=42).contains(&answer.number), "{index}");
+        assert!(types.iter().all(|&code| code <= 11), "{index}");
+        let marked = types.iter().filter(|&&code| code != 0).count();
+        assert_eq!(marked as u32, answer.count, "{index}");
+    }
+}
