@@ -67,6 +67,10 @@ module _ (p : ℕ → Bool) where
       go true h k = refl
       go false h k = h ∙ sym k
 
+-- the part of s up to the end of the piece at `at` is that piece
+pub upto-between : (p : ℕ → Bool) (s : List ℕ) (at end : ℕ) → end ≡ at + length (upto p (drop at s)) → take (end - at) (drop at s) ≡ upto p (drop at s)
+upto-between p s at end e = rw (let n : end - at ≡ length (upto p (drop at s)) = omega arith in n) (upto-front p (drop at s))
+
 -- A turn of the search for the end of a piece: n is the end, and i the place of the turn.
 module _ (p : ℕ → Bool) (s : List ℕ) (i n : ℕ) (e : n ≡ i + length (upto p (drop i s))) where
   pub find-stop : p (getD s i 0) ≡ true → i < length s → i ≡ n

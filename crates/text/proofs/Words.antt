@@ -12,7 +12,7 @@ use borrow.Author.Tests.{eq-eqb, ne-eqb}
 use lib.Dec.{eqb}
 use Rattle.text.specs.Text.{same, either, upto, ended}
 use Rattle.text.specs.Word.{split, place}
-use Rattle.text.proofs.Pieces.{upto-front, ended-next, ended-none}
+use Rattle.text.proofs.Pieces.{upto-between, ended-next, ended-none}
 
 -- lists of two lengths are not the same
 pub same-length : (a b : List ℕ) → (length a ≡ length b → ⊥) → same a b ≡ false
@@ -50,7 +50,7 @@ module _ (p t : List ℕ) (k start end n : ℕ) (e : n ≡ k + place p (split (d
   here = omega arith
 
   word : part ≡ upto (either 32 32) (drop start t)
-  word = rw here (upto-front (either 32 32) (drop start t))
+  word = upto-between (either 32 32) t start end f
 
   next : end < length t → split (drop start t) ≡ part ∷ split (drop (end + 1) t)
   unfolding split
