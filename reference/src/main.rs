@@ -22,7 +22,7 @@ reference generate --seed S --index I
 reference coverage --seed S --count N
     How often each number comes in the cases 0 to N - 1.
 reference stored DIR
-    Writes the stored answers.
+    Writes the stored answers into the repository at DIR.
 FILE is standard input if it isn't given.
 ";
 

@@ -19,17 +19,20 @@ fn most_bytes(number: u32) -> usize {
     }
 }
 
-/// A file of the folder and its bytes.
+/// A file of the repository and its bytes.
 pub type File = (&'static str, Vec<u8>);
 
 pub fn files() -> Vec<File> {
     let answers = answer_cases();
     let readings = reader_cases();
     vec![
-        ("answers.sheets", frames(&answers)),
-        ("answers.expected", expected(&answers, |case| answer_line(&case.answer()))),
-        ("reader.sheets", frames(&readings)),
-        ("reader.expected", expected(&readings, reading_line)),
+        ("reference/stored/answers.sheets", frames(&answers)),
+        (
+            "reference/stored/answers.expected",
+            expected(&answers, |case| answer_line(&case.answer())),
+        ),
+        ("crates/replay_reader/stdin", frames(&readings)),
+        ("crates/replay_reader/stdout", expected(&readings, reading_line)),
     ]
 }
 

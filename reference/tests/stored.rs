@@ -4,10 +4,10 @@ use reference::fields::SHAPES;
 use reference::stored::files;
 
 const COMMITTED: &[(&str, &[u8])] = &[
-    ("answers.sheets", include_bytes!("../stored/answers.sheets")),
-    ("answers.expected", include_bytes!("../stored/answers.expected")),
-    ("reader.sheets", include_bytes!("../stored/reader.sheets")),
-    ("reader.expected", include_bytes!("../stored/reader.expected")),
+    ("reference/stored/answers.sheets", include_bytes!("../stored/answers.sheets")),
+    ("reference/stored/answers.expected", include_bytes!("../stored/answers.expected")),
+    ("crates/replay_reader/stdin", include_bytes!("../../crates/replay_reader/stdin")),
+    ("crates/replay_reader/stdout", include_bytes!("../../crates/replay_reader/stdout")),
 ];
 
 fn committed(name: &str) -> &'static [u8] {
@@ -33,13 +33,13 @@ fn times(lines: &[&str]) -> [usize; 47] {
 #[test]
 fn stored_files_are_current() {
     for (name, bytes) in files() {
-        assert!(committed(name) == bytes, "{name}: run `cargo run --release -- stored stored`");
+        assert!(committed(name) == bytes, "{name}: run `cargo run --release -- stored ..`");
     }
 }
 
 #[test]
 fn answers_hold_every_number() {
-    let lines = expected("answers.expected");
+    let lines = expected("reference/stored/answers.expected");
     assert!(lines.len() >= 500);
     for (number, times) in times(&lines).into_iter().enumerate() {
         assert!(times >= if number == 1 { 3 } else { 5 }, "{number}: {times}");
@@ -48,7 +48,7 @@ fn answers_hold_every_number() {
 
 #[test]
 fn readings_hold_every_refusal_and_word() {
-    let lines = expected("reader.expected");
+    let lines = expected("crates/replay_reader/stdout");
     assert!(lines.len() >= 300);
     for (number, times) in times(&lines).into_iter().enumerate().take(12) {
         assert!(times >= if matches!(number, 1 | 3) { 3 } else { 8 }, "{number}: {times}");
@@ -63,8 +63,8 @@ fn readings_hold_every_refusal_and_word() {
 #[test]
 fn frames_are_whole() {
     for (sheets, lines) in [
-        ("answers.sheets", expected("answers.expected")),
-        ("reader.sheets", expected("reader.expected")),
+        ("reference/stored/answers.sheets", expected("reference/stored/answers.expected")),
+        ("crates/replay_reader/stdin", expected("crates/replay_reader/stdout")),
     ] {
         let mut rest = committed(sheets);
         let mut frames = 0;

@@ -1,7 +1,7 @@
 -- Laws of the rules of a field, each a turn of a loop. Assumes nothing.
-use mathlib.Core.Path.{_≡_, sym, _∙_}
+use mathlib.Core.Path.{_≡_, refl, sym, _∙_}
 use mathlib.Core.List.{List, [], _∷_}
-use mathlib.Core.Bool.{Bool, true, false, and-false, and-eq-true-iff}
+use mathlib.Core.Bool.{Bool, true, false, cond, _&&_, and-false, and-eq-true-iff}
 use Prim.Native.Nat.{ℕ, _+_, _-_, _*_, _≤_, _<_}
 use native.Mathlib.Numerals.{add-one}
 use native.Mathlib.Omega.{arith}
@@ -10,7 +10,7 @@ use lib.Seq.{drop-cons}
 use lib.Dec.{leb}
 use borrow.Author.Tests.{lt-leb, le-leb, leb-true}
 use Rattle.text.specs.Text.{all}
-use Rattle.text.specs.Field.{digit, valueFrom, judge}
+use Rattle.text.specs.Field.{digit, isDecimal, valueFrom, judge, numberOf}
 use Rattle.text.specs.declared.field.Number.{Number}
 use Rattle.text.specs.declared.field.Number.the-variants.{Is, Bad}
 
@@ -58,3 +58,14 @@ module _ (f : List ℕ) (i v most : ℕ) (r : Number) (e : r ≡ judge most (all
   pub number-over : length f ≤ i → v ≤ most → Is v ≡ r
   unfolding all valueFrom
   number-over h t = sym (e ∙ rw (drop-of-length-le f h, le-leb v most t))
+
+-- a number that is read is at most the largest
+pub number-most : (most v : ℕ) (f : List ℕ) → numberOf most f ≡ Is v → v ≤ most
+unfolding numberOf
+number-most most v f e = go (isDecimal f && leb (valueFrom 0 f) most) refl e
+  where
+    go : (t : Bool) → (isDecimal f && leb (valueFrom 0 f) most) ≡ t → cond t (Is (valueFrom 0 f)) Bad ≡ Is v → v ≤ most
+    go true q w =
+        let n : valueFrom 0 f ≡ v = cc in
+        rw n at (leb-true (valueFrom 0 f) most (and-eq-true-iff (isDecimal f) (leb (valueFrom 0 f) most) .0 q .1))
+    go false q w = absurd (let z : _≡_ {A = ℕ} 0 1 = cc in omega arith)

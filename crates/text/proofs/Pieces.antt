@@ -2,12 +2,12 @@
 use mathlib.Core.Path.{_≡_, refl, sym, ap, _∙_}
 use mathlib.Core.List.{List, [], _∷_, _++_, append-assoc, append-nil}
 use mathlib.Core.Bool.{Bool, true, false, cond}
-use Prim.Native.Nat.{ℕ, suc, _+_, _-_, _≤_, _<_}
+use Prim.Native.Nat.{ℕ, zero, suc, _+_, _-_, _≤_, _<_}
 use native.Mathlib.Numerals.{add-one}
-use native.Mathlib.Nat.{add-zero}
+use native.Mathlib.Nat.{add-zero, lt-of-not-le}
 use native.Mathlib.Omega.{arith}
 use lib.ListN.{length, getD, take, drop, drop-of-length-le, length-drop}
-use lib.Seq.{drop-cons}
+use lib.Seq.{drop-cons, drop-drop}
 use Rattle.text.specs.Text.{upto, ended}
 
 module _ (p : ℕ → Bool) where
@@ -67,9 +67,52 @@ module _ (p : ℕ → Bool) where
       go true h k = refl
       go false h k = h ∙ sym k
 
+-- a piece ends where a byte passes the test, or before
+pub upto-most : (p : ℕ → Bool) (l : List ℕ) (k : ℕ) → k < length l → p (getD l k 0) ≡ true → length (upto p l) ≤ k
+unfolding upto
+upto-most p [] k h e = absurd (omega arith)
+upto-most p (b ∷ bs) zero h e = rw e (omega arith)
+upto-most p (b ∷ bs) (suc k) h e = go (p b) (upto-most p bs k (omega arith) e)
+  where
+    go : (t : Bool) → length (upto p bs) ≤ k → length (cond t [] (b ∷ upto p bs)) ≤ suc k
+    go true h = omega arith
+    go false h = omega arith
+
+-- the byte that ends it passes the test
+pub upto-stop : (p : ℕ → Bool) (l : List ℕ) → length (upto p l) < length l → p (getD l (length (upto p l)) 0) ≡ true
+unfolding upto
+upto-stop p [] h = absurd (omega arith)
+upto-stop p (b ∷ bs) h = go (p b) refl h (upto-stop p bs)
+  where
+    go : (t : Bool) → p b ≡ t → length (cond t [] (b ∷ upto p bs)) < suc (length bs) → (length (upto p bs) < length bs → p (getD bs (length (upto p bs)) 0) ≡ true)
+        → p (getD (b ∷ bs) (length (cond t [] (b ∷ upto p bs))) 0) ≡ true
+    go true e h f = e
+    go false e h f = f (omega arith)
+
 -- the part of s up to the end of the piece at `at` is that piece
 pub upto-between : (p : ℕ → Bool) (s : List ℕ) (at end : ℕ) → end ≡ at + length (upto p (drop at s)) → take (end - at) (drop at s) ≡ upto p (drop at s)
 upto-between p s at end e = rw (let n : end - at ≡ length (upto p (drop at s)) = omega arith in n) (upto-front p (drop at s))
+
+-- where there is a piece from c on, a byte ends it
+pub piece-ends : (p : ℕ → Bool) (y : List ℕ) (c : ℕ) → 0 < length (ended p [] (drop c y)) → c + length (upto p (drop c y)) < length y
+piece-ends p y c h =
+    lt-of-not-le (λ q. omega (arith, ap length (ended-none p [] (drop c y) (omega (arith, length-drop c y)))))
+
+-- the pieces from c on: the first, and those after the byte that ends it
+pub piece-next : (p : ℕ → Bool) (y : List ℕ) (c : ℕ) → c + length (upto p (drop c y)) < length y
+    → ended p [] (drop c y) ≡ upto p (drop c y) ∷ ended p [] (drop (c + length (upto p (drop c y)) + 1) y)
+piece-next p y c h =
+    ended-next p [] (drop c y) (rw (length-drop c y) (omega arith))
+    ∙ rw (drop-drop, let q : c + suc (length (upto p (drop c y))) ≡ c + length (upto p (drop c y)) + 1 = omega arith in q)
+
+-- what the first piece from c on is, and the others
+pub piece-first : (p : ℕ → Bool) (y : List ℕ) (c : ℕ) (f : List ℕ) (fs : List (List ℕ)) → f ∷ fs ≡ ended p [] (drop c y)
+    → (c + length f < length y) × (f ≡ upto p (drop c y)) × (fs ≡ ended p [] (drop (c + length f + 1) y))
+piece-first p y c f fs e =
+    let h = piece-ends p y c (rw (← e) (omega arith)) in
+    let n = e ∙ piece-next p y c h in
+    let w : f ≡ upto p (drop c y) = cc in
+    (rw w h, w, rw w (cc))
 
 -- A turn of the search for the end of a piece: n is the end, and i the place of the turn.
 module _ (p : ℕ → Bool) (s : List ℕ) (i n : ℕ) (e : n ≡ i + length (upto p (drop i s))) where

@@ -7,12 +7,12 @@ use native.Mathlib.Nat.{add-zero}
 use native.Mathlib.Numerals.{add-one}
 use native.Mathlib.Omega.{arith}
 use lib.ListN.{length, getD, take, drop, drop-of-length-le, length-drop}
-use lib.Seq.{drop-cons, drop-drop}
+use lib.Seq.{drop-cons}
 use borrow.Author.Tests.{eq-eqb, ne-eqb}
 use lib.Dec.{eqb}
 use Rattle.text.specs.Text.{same, either, upto, ended}
 use Rattle.text.specs.Word.{split, place}
-use Rattle.text.proofs.Pieces.{upto-between, ended-next, ended-none}
+use Rattle.text.proofs.Pieces.{upto-between, ended-none, piece-next}
 
 -- lists of two lengths are not the same
 pub same-length : (a b : List ℕ) → (length a ≡ length b → ⊥) → same a b ≡ false
@@ -46,17 +46,12 @@ module _ (p t : List ℕ) (k start end n : ℕ) (e : n ≡ k + place p (split (d
   abbrev part : List ℕ
   part = take (end - start) (drop start t)
 
-  here : end - start ≡ length (upto (either 32 32) (drop start t))
-  here = omega arith
-
   word : part ≡ upto (either 32 32) (drop start t)
   word = upto-between (either 32 32) t start end f
 
   next : end < length t → split (drop start t) ≡ part ∷ split (drop (end + 1) t)
   unfolding split
-  next h =
-      ended-next (either 32 32) [] (drop start t) (rw (length-drop start t) (omega arith))
-      ∙ rw (word, ← here, drop-drop, add-one end, let q : start + suc (end - start) ≡ suc end = omega arith in q)
+  next h = rw (word, f) (piece-next (either 32 32) t start (omega arith))
 
   pub place-hit : end < length t → same p part ≡ true → k ≡ n
   unfolding place

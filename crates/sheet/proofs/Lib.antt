@@ -1,0 +1,17 @@
+pub mod Cases
+pub mod KindLaws
+pub mod Tables
+pub mod Reading
+pub mod Steps
+pub mod Turns
+pub mod Told
+pub mod Sound
+pub mod Due
+pub mod Entries
+pub mod Holds
+pub mod Saying
+pub mod Counts
+pub mod Opening
+pub mod Scanning
+pub mod ScanNeeds
+pub mod Loading

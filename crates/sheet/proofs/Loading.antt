@@ -1,0 +1,110 @@
+-- Laws of the loader: cleared entries, the early refusals, and what is answered and left. Assumes nothing.
+use mathlib.Core.Path.{_≡_, refl, sym, ap, _∙_}
+use mathlib.Core.Bool.{Bool, true, false}
+use mathlib.Core.List.{List, [], _∷_, _++_}
+use Prim.Native.Nat.{ℕ, zero, suc, _+_, _*_, _/_, _≤_, _<_}
+use native.Mathlib.Omega.{arith}
+use native.Mathlib.Numerals.{add-one}
+use lib.Dec.{ltb}
+use lib.ListN.{length, getD, take, drop, set}
+use lib.Seq.{length-take-le, take-all, take-suc-set}
+use borrow.Author.Tests.{ltb-false}
+use Rattle.sheet.specs.Grammar.{Sort}
+use Rattle.sheet.specs.Line.{Line}
+use Rattle.sheet.specs.Load.{Loaded, lines, refused, linesOf, times, scan, unended, firstTrue, early, loadFrom, load}
+use Rattle.sheet.specs.Scratch.{closed}
+use Rattle.sheet.specs.Scan.{Whole, Scans, scanAll, scanned}
+use Rattle.sheet.specs.Promise.{answer, laid, scratchFrom, scratchAfter}
+use Rattle.sheet.specs.declared.loader.Answer.{Answer}
+use Rattle.sheet.specs.declared.loader.Answer.the-variants.{Lines, Refused}
+use Rattle.sheet.specs.declared.scan.Scanned.{Scanned}
+use Rattle.sheet.specs.declared.scan.Scanned.the-variants.{Read, Fault}
+use Rattle.sheet.proofs.Holds.{judged-lines, length-closed}
+
+times-last : {A : Type 0} (n : ℕ) (x : A) → times n x ++ (x ∷ []) ≡ times (suc n) x
+unfolding times
+times-last zero x = refl
+times-last (suc n) x = ap (λ l. x ∷ l) (times-last n x)
+
+-- a turn of `clear`
+pub zeros-more : (S : List ℕ) (i : ℕ) → i < length S → take i S ≡ times i 0 → take (i + 1) (set S i 0) ≡ times (i + 1) 0
+zeros-more S i h e = rw (add-one i, take-suc-set S i 0 h, e) (times-last i 0)
+
+pub zeros-all : (S : List ℕ) (n i : ℕ) → length S ≡ n → n ≤ i → i ≤ n → take i S ≡ times i 0 → S ≡ times n 0
+zeros-all S n i z h g e = sym (take-all i S (omega arith)) ∙ e ∙ ap (λ k. times k 0) (let q : i ≡ n = omega arith in q)
+
+-- an empty sheet is unended
+pub none-unended : (s : List ℕ) → length s ≡ 0 → true ≡ unended s
+none-unended [] e = refl
+none-unended (b ∷ s) e = absurd (omega arith)
+
+-- as many lines are read as there are
+pub scan-length : (ls : List (List ℕ)) (i at : ℕ) (ds : List (ℕ × Sort)) (xs : List Line) → scan i at ds ls ≡ lines xs → length xs ≡ length ls
+unfolding scan
+scan-length [] i at [] xs e = let n : xs ≡ [] = cc in rw n
+scan-length [] i at (d ∷ ds) xs e = absurd (let z : _≡_ {A = ℕ} 0 1 = cc in omega arith)
+scan-length (l ∷ ls) i at [] xs e = absurd (let z : _≡_ {A = ℕ} 0 1 = cc in omega arith)
+scan-length (l ∷ ls) i at (d ∷ ds) xs e = let r = judged-lines _ _ i _ xs e in rw (r .4) (ap suc (scan-length ls _ _ _ _ (r .3)))
+
+-- All lines are read: `scan` left the entries T, and `close` then U.
+pub read-all : (s S T U : List ℕ) (r : Scanned) → r ≡ Read → Whole s S → Scans s S T r → U ≡ closed (length T / 8) T
+    → (Lines (length U / 8) ≡ answer (scanAll s)) × (U ≡ laid (scanAll s) S)
+unfolding answer laid scanned
+read-all s S T U r a w h u = go (scanAll s) refl (sym a ∙ h .answer)
+  where
+    go : (r : Loaded) → scanAll s ≡ r → Read ≡ scanned r → (Lines (length U / 8) ≡ answer (scanAll s)) × (U ≡ laid (scanAll s) S)
+    go (lines ls) e a =
+        let n : length T / 8 ≡ length ls = omega (arith, h .size, w .entries, scan-length (linesOf s) 1 0 _ ls e) in
+        rw (e, u, length-closed (length T / 8) T, n) (refl, ap (closed (length ls)) (h .left ls e))
+    go (refused m i) e a = absurd (let z : _≡_ {A = ℕ} 0 1 = cc in omega arith)
+
+-- A line is refused, and the entries are cleared.
+pub read-none : (s S T U : List ℕ) (r : Scanned) (m i : ℕ) → r ≡ Fault m i → Scans s S T r → U ≡ times (length T) 0
+    → (Refused m i ≡ answer (scanAll s)) × (U ≡ laid (scanAll s) S)
+unfolding answer laid scanned
+read-none s S T U r m i a h u = go (scanAll s) refl (sym a ∙ h .answer)
+  where
+    go : (r : Loaded) → scanAll s ≡ r → Fault m i ≡ scanned r → (Refused m i ≡ answer (scanAll s)) × (U ≡ laid (scanAll s) S)
+    go (lines ls) e a = absurd (let z : _≡_ {A = ℕ} 0 1 = cc in omega arith)
+    go (refused n j) e a = rw (e, u, h .size) (cc, refl)
+
+none-true : (k : ℕ) (bs : List Bool) → firstTrue (suc k) bs ≡ 0 → (i : ℕ) → getD bs i false ≡ false
+unfolding firstTrue
+none-true k [] e i = refl
+none-true k (true ∷ bs) e i = absurd (omega arith)
+none-true k (false ∷ bs) e zero = refl
+none-true k (false ∷ bs) e (suc i) = none-true (suc k) bs e i
+
+-- A sheet without refusals 1 to 5: k is what `early` gives, and m the number of lines.
+module _ (s : List ℕ) (types : ℕ) (S : List ℕ) (k m : ℕ) (e : k ≡ early s types (length S)) (z : k ≡ 0) (l : m ≡ length (linesOf s)) where
+  abbrev tests : List Bool
+  tests =
+      let n = length (linesOf s) in ltb 16384 (length s) ∷ unended s ∷ ltb 1024 n ∷ ltb types n ∷ ltb (length S) (8 * n) ∷ []
+
+  untrue : (i : ℕ) → getD tests i false ≡ false
+  unfolding early
+  untrue = none-true 0 tests (sym e ∙ z)
+
+  pub room : 8 * m ≤ length S
+  room = rw l (ltb-false _ _ (untrue 4))
+
+  pub passed : Whole s (take (8 * m) S)
+  passed =
+      record {
+        small = ltb-false _ _ (untrue 0);
+        ended = untrue 1;
+        few = ltb-false _ _ (untrue 2);
+        entries = length-take-le (8 * m) S room ∙ ap (λ n. 8 * n) l;
+      }
+
+  pub loads : (r : Answer) (T : List ℕ) → r ≡ answer (scanAll s) → T ≡ laid (scanAll s) (take (8 * m) S)
+      → (r ≡ answer (load s types (length S))) × (T ++ drop (8 * m) S ≡ scratchAfter s types S)
+  unfolding load loadFrom scratchAfter scratchFrom
+  loads r T a t = rw (a, t, l, ← e, z) (refl, refl)
+
+-- refusals 1 to 5
+pub refuses : (s : List ℕ) (types : ℕ) (S : List ℕ) (k : ℕ) → k ≡ early s types (length S) → (k ≡ 0 → ⊥)
+    → (Refused k 0 ≡ answer (load s types (length S))) × (S ≡ scratchAfter s types S)
+unfolding load loadFrom scratchAfter scratchFrom answer
+refuses s types S zero e ne = absurd (ne refl)
+refuses s types S (suc k) e ne = rw (← e) (refl, refl)

@@ -1,0 +1,206 @@
+-- What a line that is read is like: its record, its parts, and its name in the sheet. Assumes nothing.
+use mathlib.Core.Logic.{_≢_}
+use mathlib.Core.Path.{_≡_, refl, sym, ap, _∙_}
+use mathlib.Core.Bool.{Bool, true, false, cond}
+use mathlib.Core.List.{List, [], _∷_, _++_, append-nil}
+use mathlib.Core.Option.{Option, none as nothing, some}
+use Prim.Native.Nat.{ℕ, zero, suc, _+_, _-_, _≤_, _<_}
+use native.Mathlib.Nat.{add-zero}
+use native.Mathlib.Omega.{arith}
+use borrow.Author.Tests.{ltb-true, eqb-false}
+use lib.Dec.{eqb}
+use lib.ListN.{length, getD, take, drop, length-append, length-drop}
+use lib.Seq.{drop-append-add, drop-append-le, take-append-le}
+use Rattle.text.specs.Text.{either, ended}
+use Rattle.text.specs.Word.{place}
+use Rattle.text.specs.declared.field.Number.{Number}
+use Rattle.text.specs.declared.field.Number.the-variants.{Is, Bad}
+use Rattle.text.proofs.Fields.{number-most}
+use Rattle.text.proofs.Pieces.{upto-front, piece-first}
+use Rattle.sheet.specs.Field.{fieldAt}
+use Rattle.sheet.specs.Grammar.{Sort, Rule, span, name, text, assignOp, unOp, binOp, count, flag, assignOps, unOps, binOps, none, rowOf, kindFor}
+use Rattle.sheet.specs.Line.{Line, begun, when, onNumber, readField, andThen, readFields, good, bad, orTen, readAs, readPieces}
+use Rattle.sheet.specs.Scratch.{Small}
+use Rattle.sheet.specs.Step.{told}
+use Rattle.sheet.specs.Table.{toldSorts, sortsIn, groupSorts, numbersIn}
+use Rattle.sheet.specs.Tree.{total}
+use Rattle.sheet.proofs.KindLaws.{kind-known}
+use Rattle.sheet.proofs.Tables.{at-most, few-parts}
+
+-- the text f, which starts at a unless it is empty, stands in the line y, which starts at `at`
+abbrev pub Stands : ℕ → List ℕ → ℕ → List ℕ → Type 0
+Stands at y a f = (take (length f) (drop (a - at) y) ≡ f) × (a + length f ≤ at + length y) × (0 < length f → at ≤ a)
+
+-- where what comes before the line is `at` bytes long, the text is that part of the whole
+pub stands-within : (y p q : List ℕ) (a : ℕ) (f : List ℕ) → Stands (length p) y a f → take (length f) (drop a (p ++ (y ++ q))) ≡ f
+stands-within y p q a [] t = refl
+stands-within y p q a (b ∷ bs) t =
+    let h : a ≡ length p + (a - length p) = omega (arith, t .2 (omega arith)) in
+    rw (
+      ap (λ n. drop n (p ++ (y ++ q))) h ∙ drop-append-add p (y ++ q) (a - length p) ∙ drop-append-le (a - length p) y q (omega (arith, t .1)),
+      take-append-le (length (b ∷ bs)) (drop (a - length p) y) q (omega (arith, t .1, length-drop (a - length p) y)),
+    )
+    (t .0)
+
+-- the pieces fs, the first of which starts at a, stand in the line
+abbrev Stand : ℕ → List ℕ → ℕ → List (List ℕ) → Type 0
+Stand at y a [] = Unit
+Stand at y a (f ∷ fs) = Stands at y a f × Stand at y (a + length f + 1) fs
+
+-- no number of the parts is above 1024
+abbrev pub Counted : List (ℕ × Sort) → Type 0
+Counted ps = (i : ℕ) → getD (numbersIn ps) i 0 ≤ 1024
+
+-- parts, with those of the sorts `rest` to come, of the sorts ss
+abbrev Parts : List Sort → List Sort → List (ℕ × Sort) → Type 0
+Parts ss rest ps = (sortsIn ps ++ rest ≡ ss) × Counted ps
+
+-- what a line of kind k, whose record's parts are of the sorts ss, is like before the rules rs
+abbrev Like : ℕ → List ℕ → ℕ → List Sort → List Rule → Line → Type 0
+Like at y k ss rs l =
+    ((l .kind ≡ k) × (l .at ≡ at))
+    × (l .op < 14)
+    × Stands at y (l .start) (l .name)
+    × Parts ss (toldSorts rs) (l .parts)
+
+-- a field that is read, and then the others
+on-number : (x : Number) (g : ℕ → Line) (F : Line → Option Line) (m : Line) (C : Type 0)
+    → andThen (onNumber x g) F ≡ some m → ((v : ℕ) → x ≡ Is v → F (g v) ≡ some m → C) → C
+unfolding andThen onNumber
+on-number (Is v) g F m C e k = k v refl e
+on-number Bad g F m C e k = absurd (let z : _≡_ {A = ℕ} 0 1 = cc in omega arith)
+
+on-test : (b : Bool) (l : Line) (F : Line → Option Line) (m : Line) (C : Type 0) → andThen (when b l) F ≡ some m → (b ≡ true → F l ≡ some m → C) → C
+unfolding andThen when
+on-test true l F m C e k = k refl e
+on-test false l F m C e k = absurd (let z : _≡_ {A = ℕ} 0 1 = cc in omega arith)
+
+sorts-more : (ps : List (ℕ × Sort)) (n : ℕ) (s : Sort) (ss : List Sort) → sortsIn (ps ++ ((n, s) ∷ [])) ++ ss ≡ sortsIn ps ++ (s ∷ ss)
+sorts-more [] n s ss = refl
+sorts-more (p ∷ ps) n s ss = ap (λ l. p .1 ∷ l) (sorts-more ps n s ss)
+
+counted-more : (ps : List (ℕ × Sort)) (n : ℕ) (s : Sort) → n ≤ 1024 → Counted ps → Counted (ps ++ ((n, s) ∷ []))
+counted-more [] n s h c zero = h
+counted-more [] n s h c (suc i) = c 0
+counted-more (p ∷ ps) n s h c zero = c 0
+counted-more (p ∷ ps) n s h c (suc i) = counted-more ps n s h (λ i. c (suc i)) i
+
+more-parts : (ss rest : List Sort) (n : ℕ) (s : Sort) (ps : List (ℕ × Sort)) → n ≤ 1024 → Parts ss (s ∷ rest) ps → Parts ss rest (ps ++ ((n, s) ∷ []))
+more-parts ss rest n s ps h p = (sorts-more ps n s rest ∙ p .0, counted-more ps n s h (p .1))
+
+module _ (at : ℕ) (y : List ℕ) where
+  -- the fields fs, which stand in the line from a on, read by the rules rs
+  fields-like : (k : ℕ) (ss : List Sort) (rs : List Rule) (a : ℕ) (fs : List (List ℕ)) (l m : Line)
+      → Stand at y a fs → readFields rs a fs l ≡ some m → Like at y k ss rs l → Like at y k ss [] m
+  unfolding readFields readField
+  fields-like k ss [] a fs l m t e i = let q : l ≡ m = cc in rw q at i
+  fields-like k ss (r ∷ rs) a [] l m t e i = absurd (let z : _≡_ {A = ℕ} 0 1 = cc in omega arith)
+  fields-like k ss (span ∷ rs) a (f ∷ fs) l m t e i =
+      on-number _ _ _ m _ e (λ v q w. fields-like k ss rs _ fs _ m (t .1) w i)
+  fields-like k ss (name ∷ rs) a (f ∷ fs) l m t e i =
+      on-test _ _ _ m _ e (λ q w. fields-like k ss rs _ fs _ m (t .1) w (i .0, i .1, t .0, i .3))
+  fields-like k ss (text ∷ rs) a (f ∷ fs) l m t e i =
+      on-test _ _ _ m _ e (λ q w. fields-like k ss rs _ fs _ m (t .1) w (i .0, i .1, t .0, i .3))
+  fields-like k ss (assignOp ∷ rs) a (f ∷ fs) l m t e i =
+      on-test _ _ _ m _ e (λ q w. fields-like k ss rs _ fs _ m (t .1) w (i .0, omega (arith, ltb-true (place f assignOps) 3 q), i .2, i .3))
+  fields-like k ss (unOp ∷ rs) a (f ∷ fs) l m t e i =
+      on-test _ _ _ m _ e (λ q w. fields-like k ss rs _ fs _ m (t .1) w (i .0, omega (arith, ltb-true (place f unOps) 2 q), i .2, i .3))
+  fields-like k ss (binOp ∷ rs) a (f ∷ fs) l m t e i =
+      on-test _ _ _ m _ e (λ q w. fields-like k ss rs _ fs _ m (t .1) w (i .0, ltb-true (place f binOps) 14 q, i .2, i .3))
+  fields-like k ss (count s ∷ rs) a (f ∷ fs) l m t e i =
+      on-number _ _ _ m _ e (λ v q w. fields-like k ss rs _ fs _ m (t .1) w
+      (i .0, i .1, i .2, more-parts ss (toldSorts rs) v s (l .parts) (number-most 1024 v f q) (i .3)))
+  fields-like k ss (flag s ∷ rs) a (f ∷ fs) l m t e i =
+      on-number _ _ _ m _ e (λ v q w. fields-like k ss rs _ fs _ m (t .1) w
+      (i .0, i .1, i .2, more-parts ss (toldSorts rs) v s (l .parts) (omega (arith, number-most 1 v f q)) (i .3)))
+
+  pieces-stand : (fs : List (List ℕ)) (c : ℕ) → fs ≡ ended (either 44 10) [] (drop c y) → Stand at y (at + c) fs
+  pieces-stand [] c e = tt
+  pieces-stand (f ∷ fs) c e =
+      let p = piece-first (either 44 10) y c f fs e in
+      let h : at + c - at ≡ c = omega arith in
+      let n : at + c + length f + 1 ≡ at + (c + length f + 1) = omega arith in (
+        (rw (h, p .1) (upto-front (either 44 10) (drop c y)), omega (arith, p .0), λ q. omega arith),
+        rw n (pieces-stand fs (c + length f + 1) (p .2)),
+      )
+
+or-ten : (o : Option Line) (l : Line) → orTen o ≡ good l → o ≡ some l
+unfolding orTen
+or-ten (some m) l e = cc
+or-ten nothing l e = absurd (let z : _≡_ {A = ℕ} 0 1 = cc in omega arith)
+
+-- what stands behind a line that is read
+read-as : (k at n : ℕ) (fs : List (List ℕ)) (l : Line) → readAs k at n fs ≡ good l
+    → (k ≢ none) × (readFields (rowOf k .rules) (at + n + 1) fs (begun k at) ≡ some l)
+unfolding readAs
+read-as k at n fs l e = go (eqb k none) (eqb (length fs) (length (rowOf k .rules))) refl e
+  where
+    go : (t u : Bool) → eqb k none ≡ t → cond t (bad 8) (cond u (orTen (readFields (rowOf k .rules) (at + n + 1) fs (begun k at))) (bad 9)) ≡ good l
+        → (k ≢ none) × (readFields (rowOf k .rules) (at + n + 1) fs (begun k at) ≡ some l)
+    go true u q e = absurd (let z : _≡_ {A = ℕ} 0 1 = cc in omega arith)
+    go false true q e = (eqb-false k none q, or-ten _ l e)
+    go false false q e = absurd (let z : _≡_ {A = ℕ} 0 1 = cc in omega arith)
+
+part-most : (ps : List (ℕ × Sort)) (i : ℕ) → getD (numbersIn ps) i 0 ≤ total ps
+unfolding total
+part-most [] i = omega arith
+part-most (p ∷ ps) zero = omega arith
+part-most (p ∷ ps) (suc i) = omega (arith, part-most ps i)
+
+always-counted : (k : ℕ) → k < none → Counted (rowOf k .always)
+unfolding total
+always-counted k h i = omega (arith, part-most (rowOf k .always) i, at-most (λ r. total (r .always)) 1024 k refl h)
+
+sorts-length : (ps : List (ℕ × Sort)) → length (sortsIn ps) ≡ length ps
+sorts-length [] = refl
+sorts-length (p ∷ ps) = ap suc (sorts-length ps)
+
+-- A line l that is read from y, which starts at a position a of the sheet, where a record of the sort s is due.
+pub record Sound (s : Sort) (a : ℕ) (y : List ℕ) (l : Line) : Type 0 where
+  pub fits : l .kind ≡ kindFor s (fieldAt y 0)
+  pub known : l .kind < none
+  pub at : l .at ≡ a
+  pub op : l .op < 14
+  pub named : Stands a y (l .start) (l .name)
+  pub sorts : sortsIn (l .parts) ≡ groupSorts (rowOf (l .kind))
+  pub groups : length (l .parts) ≤ 3
+  pub counted : Counted (l .parts)
+
+module _ (s : Sort) (a : ℕ) (y : List ℕ) (l : Line) where
+  pieces-sound : (fs : List (List ℕ)) → fs ≡ ended (either 44 10) [] y → readPieces s a fs ≡ good l → Sound s a y l
+  unfolding readPieces
+  pieces-sound [] e h = absurd (let z : _≡_ {A = ℕ} 0 1 = cc in omega arith)
+  pieces-sound (w ∷ fs) e h =
+      let k = kindFor s w in
+      let r = read-as k a (length w) fs l h in
+      let known = kind-known s w k refl (r .0) in
+      let i =
+      fields-like a y k (groupSorts (rowOf k)) (rowOf k .rules) _ fs (begun k a) l (rw add-zero at (pieces-stand a y (w ∷ fs) 0 e .1)) (r .1)
+      ((refl, refl), omega arith, (refl, omega arith, λ q. omega arith), (refl, always-counted k known)) in
+      let sorts : sortsIn (l .parts) ≡ groupSorts (rowOf k) = sym (append-nil (sortsIn (l .parts))) ∙ i .3 .0 in
+      record {
+        fits = i .0 .0 ∙ ap (kindFor s) (piece-first (either 44 10) y 0 w fs e .1);
+        known = rw (i .0 .0) known;
+        at = i .0 .1;
+        op = i .1;
+        named = i .2;
+        sorts = rw (i .0 .0) sorts;
+        groups = omega (arith, sorts-length (l .parts), simp length-append at (ap length sorts), sorts-length (rowOf k .always), few-parts k known);
+        counted = i .3 .1;
+      }
+
+  pub read-sound : readPieces s a (ended (either 44 10) [] y) ≡ good l → Sound s a y l
+  read-sound = pieces-sound _ refl
+
+  -- the entries of the scratch hold its numbers
+  pub sound-small : a + length y ≤ 65535 → Sound s a y l → Small (told l)
+  sound-small h t =
+      record {
+        kind = omega (arith, t .known, t .op);
+        at = omega (arith, t .at);
+        start = omega (arith, t .named .1);
+        len = omega (arith, t .named .1);
+        first = omega (arith, t .counted 0);
+        second = omega (arith, t .counted 1);
+        third = omega (arith, t .counted 2);
+      }

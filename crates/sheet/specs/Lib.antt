@@ -1,0 +1,13 @@
+pub mod Grammar
+pub mod Line
+pub mod Load
+pub mod Tree
+pub mod Table
+pub mod Field
+pub mod Step
+pub mod Scratch
+pub mod Held
+pub mod Say
+pub mod Open
+pub mod Scan
+pub mod Promise

@@ -1,0 +1,76 @@
+-- From bytes to lines: document 01, 'The sheet', and refusals 1 to 11.
+use Prim.Native.Nat.{ℕ, zero, suc, _+_, _*_, _-_}
+use mathlib.Core.Bool.{Bool, true, false, cond, _||_, not}
+use mathlib.Core.List.{List, [], _∷_, _++_}
+use lib.Dec.{eqb, ltb}
+use lib.ListN.{length, getD}
+use Rattle.text.specs.Text.{either, ended}
+use Rattle.sheet.specs.Grammar.{Sort, Contract}
+use Rattle.sheet.specs.Line.{Line, Read, good, bad, readLine}
+
+-- the lines of a sheet, each ended by LF
+abbrev pub linesOf : List ℕ → List (List ℕ)
+linesOf s = ended (either 10 10) [] s
+
+-- the sheet's lines, or a refusal's number and place
+pub data Loaded : Type 0 where
+  lines : List Line → Loaded
+  refused : ℕ → ℕ → Loaded
+
+abbrev pub after : Line → Loaded → Loaded
+after l (lines ls) = lines (l ∷ ls)
+after l (refused n i) = refused n i
+
+unfoldable pub times : {A : Type 0} → ℕ → A → List A
+times zero x = []
+times (suc n) x = x ∷ times n x
+
+-- the sorts of a line's parts, one by one
+unfoldable pub sorts : List (ℕ × Sort) → List Sort
+sorts [] = []
+sorts (g ∷ gs) = times (g .0) (g .1) ++ sorts gs
+
+-- records that are due, each with its depth
+unfoldable pub due : ℕ → List Sort → List (ℕ × Sort)
+due d [] = []
+due d (s ∷ ss) = (d, s) ∷ due d ss
+
+-- line i, which stands too deep or not, and is read or not; f has the lines after it
+unfoldable pub judged : ℕ → Bool → Read → (Line → Loaded) → Loaded
+judged i true r f = refused 7 i
+judged i false (bad n) f = refused n i
+judged i false (good x) f = after x (f x)
+
+-- The lines ls, the first of which is line i and starts at `at`, where the records ds are due.
+-- Of a line's faults the lowest number counts.
+unfoldable pub scan : ℕ → ℕ → List (ℕ × Sort) → List (List ℕ) → Loaded
+scan i at [] [] = lines []
+scan i at (d ∷ ds) [] = refused 11 i
+scan i at [] (l ∷ ls) = refused 6 i
+scan i at (d ∷ ds) (l ∷ ls) =
+    judged i (ltb 64 (d .0)) (readLine (d .1) at l)
+    (λ x. scan (suc i) (at + length l + 1) (due (suc (d .0)) (sorts (x .parts)) ++ ds) ls)
+
+-- the last byte isn't LF, or there is none
+abbrev pub unended : List ℕ → Bool
+unended s = not (eqb (getD s (length s - 1) 0) 10)
+
+-- the number of the first test that is true, counted from k, or 0
+unfoldable pub firstTrue : ℕ → List Bool → ℕ
+firstTrue k [] = 0
+firstTrue k (true ∷ bs) = k
+firstTrue k (false ∷ bs) = firstTrue (suc k) bs
+
+-- refusals 1 to 5 of a sheet s, with the lengths of the lent type table and scratch: the number of the first that holds, or 0
+unfoldable pub early : List ℕ → ℕ → ℕ → ℕ
+early s types scratch =
+    let n = length (linesOf s) in
+    firstTrue 1 (ltb 16384 (length s) ∷ unended s ∷ ltb 1024 n ∷ ltb types n ∷ ltb scratch (8 * n) ∷ [])
+
+-- a sheet with such a refusal, or 0
+unfoldable pub loadFrom : ℕ → List ℕ → Loaded
+loadFrom zero s = scan 1 0 ((0, Contract) ∷ []) (linesOf s)
+loadFrom (suc k) s = refused (suc k) 0
+
+unfoldable pub load : List ℕ → ℕ → ℕ → Loaded
+load s types scratch = loadFrom (early s types scratch) s

@@ -1,0 +1,255 @@
+// What a line says: the record's kind, its fields, and how many parts it has.
+use crate::cursor::Cursor;
+use crate::cursor::NameRead;
+use crate::cursor::NumberRead;
+use crate::grammar::always;
+use crate::grammar::fields;
+use crate::grammar::kind_for;
+use crate::grammar::rule;
+use text::count;
+use text::find;
+ghost use mathlib.Core.List.{[]};
+ghost use mathlib.Core.Path.{_≡_};
+ghost use Prim.Native.Nat.{_+_, _<_, _≤_};
+ghost use lib.ListN.{drop, length};
+ghost use Rattle.text.specs.Text.{either, ended};
+ghost use Rattle.text.specs.Word.{split};
+ghost use Rattle.sheet.specs.Field.{Ends, fieldAt, nextAt};
+ghost use Rattle.sheet.specs.Line.{readPieces};
+ghost use Rattle.sheet.specs.Scratch.{Small};
+ghost use Rattle.sheet.specs.Step.{Fields, nameStep, opStep, orTen, partsStep, plainStep, spanStep, stepAll, stepOf, taken, toldRead, withParts};
+ghost use Rattle.sheet.specs.Table.{numbersOf, sortOf};
+
+// A line without its spans: where it and its name start in the sheet, and how many parts of each of its record's sorts it has.
+pub struct Line {
+    pub kind: usize,
+    pub op: usize,
+    pub at: usize,
+    pub start: usize,
+    pub len: usize,
+    pub first: usize,
+    pub second: usize,
+    pub third: usize,
+}
+
+pub enum FieldRead {
+    Taken(Line, Cursor),
+    Wrong,
+}
+
+pub enum LineRead {
+    Good(Line),
+    Bad(u32),
+}
+
+impl Line {
+    // How many parts it has.
+    pub fn parts(self) -> usize
+        requires { ⌜ Small self ⌝ }
+        ensures { λ r. ⌜ r ≡ self .first + self .second + self .third ⌝ }
+    {
+        self.first + self.second + self.third
+    }
+
+    fn with_span(self, y: &[u8], c: Cursor) -> FieldRead
+        requires { ⌜ Ends (now y) (c .at) ⌝ }
+        ensures { λ r. ⌜ r ≡ taken (spanStep (fieldAt (now (y .entry)) (c .at)) self) (nextAt (now (y .entry)) (c .at)) ⌝ }
+    {
+        match c.number(y, 4294967295) {
+            NumberRead::Value(_, next) => FieldRead::Taken(self, next),
+            NumberRead::BadValue => FieldRead::Wrong,
+        }
+    }
+
+    fn with_name(self, y: &[u8], c: Cursor, name: bool) -> FieldRead
+        requires { ⌜ Ends (now y) (c .at) × (self .at + length (now y) ≤ 65535) ⌝ }
+        ensures { λ r. ⌜ r ≡ taken (nameStep name (self .at + c .at) (fieldAt (now (y .entry)) (c .at)) self) (nextAt (now (y .entry)) (c .at)) ⌝ }
+    {
+        let at = self.at;
+        match c.written(y, name) {
+            NameRead::Name { start, len, next } => FieldRead::Taken(
+                Line {
+                    kind: self.kind,
+                    op: self.op,
+                    at,
+                    start: at + start,
+                    len,
+                    first: self.first,
+                    second: self.second,
+                    third: self.third,
+                },
+                next,
+            ),
+            NameRead::BadName => FieldRead::Wrong,
+        }
+    }
+
+    // The operators of a table of n.
+    fn with_op(self, y: &[u8], c: Cursor, table: &[u8], n: usize) -> FieldRead
+        requires { ⌜ Ends (now y) (c .at) ⌝ }
+        ensures { λ r. ⌜ r ≡ taken (opStep (split (now (table .entry))) n (fieldAt (now (y .entry)) (c .at)) self) (nextAt (now (y .entry)) (c .at)) ⌝ }
+    {
+        let found = c.place(y, table);
+        let op = found.place;
+        let next = found.next;
+        if n <= op {
+            return FieldRead::Wrong;
+        }
+        FieldRead::Taken(
+            Line {
+                kind: self.kind,
+                op,
+                at: self.at,
+                start: self.start,
+                len: self.len,
+                first: self.first,
+                second: self.second,
+                third: self.third,
+            },
+            next,
+        )
+    }
+
+    // n parts of group g.
+    fn with_parts(self, g: usize, n: usize) -> Line
+        ensures { λ r. ⌜ r ≡ withParts self g n ⌝ }
+    {
+        if g == 0 {
+            return Line {
+                kind: self.kind,
+                op: self.op,
+                at: self.at,
+                start: self.start,
+                len: self.len,
+                first: n,
+                second: self.second,
+                third: self.third,
+            };
+        }
+        if g == 1 {
+            return Line {
+                kind: self.kind,
+                op: self.op,
+                at: self.at,
+                start: self.start,
+                len: self.len,
+                first: self.first,
+                second: n,
+                third: self.third,
+            };
+        }
+        if g == 2 {
+            return Line {
+                kind: self.kind,
+                op: self.op,
+                at: self.at,
+                start: self.start,
+                len: self.len,
+                first: self.first,
+                second: self.second,
+                third: n,
+            };
+        }
+        self
+    }
+
+    // A COUNT or FLAG, for group g.
+    fn with_number(self, y: &[u8], c: Cursor, most: u32, g: usize) -> FieldRead
+        requires { ⌜ Ends (now y) (c .at) ⌝ }
+        ensures { λ r. ⌜ r ≡ taken (partsStep most g (fieldAt (now (y .entry)) (c .at)) self) (nextAt (now (y .entry)) (c .at)) ⌝ }
+    {
+        match c.number(y, most) {
+            NumberRead::Value(n, next) => FieldRead::Taken(self.with_parts(g, n as usize), next),
+            NumberRead::BadValue => FieldRead::Wrong,
+        }
+    }
+
+    // A field whose rule, below 7, tells no parts.
+    fn with_plain(self, rule: u8, y: &[u8], c: Cursor) -> FieldRead
+        requires { ⌜ Ends (now y) (c .at) × (self .at + length (now y) ≤ 65535) ⌝ }
+        ensures { λ r. ⌜ r ≡ taken (plainStep rule (self .at + c .at) (fieldAt (now (y .entry)) (c .at)) self) (nextAt (now (y .entry)) (c .at)) ⌝ }
+    {
+        match rule {
+            1 => self.with_span(y, c),
+            2 => self.with_name(y, c, true),
+            3 => self.with_name(y, c, false),
+            4 => self.with_op(y, c, b"set add sub ", 3),
+            5 => self.with_op(y, c, b"not neg ", 2),
+            6 => self.with_op(
+                y,
+                c,
+                b"or and eq ne lt gt le ge add sub mul div rem shr ",
+                14,
+            ),
+            _ => FieldRead::Wrong,
+        }
+    }
+
+    // The field at the cursor, read by its rule.
+    fn with_field(self, rule: u8, y: &[u8], c: Cursor) -> FieldRead
+        requires { ⌜ Ends (now y) (c .at) × (self .at + length (now y) ≤ 65535) ⌝ }
+        ensures { λ r. ⌜ r ≡ taken (stepOf rule (self .at + c .at) (fieldAt (now (y .entry)) (c .at)) self) (nextAt (now (y .entry)) (c .at)) ⌝ }
+    {
+        if rule < 7 {
+            return self.with_plain(rule, y, c);
+        }
+        if rule < 10 {
+            return self.with_number(y, c, 1024, (rule - 7) as usize);
+        }
+        self.with_number(y, c, 1, (rule - 10) as usize)
+    }
+}
+
+// The fields from the cursor on, of a line that has as many as its record.
+fn read_fields(line: Line, y: &[u8], cursor: Cursor) -> LineRead
+    requires { ⌜ Fields line (now y) cursor ⌝ }
+    ensures { λ r. ⌜ r ≡ orTen (stepAll (numbersOf (line .kind)) (line .at + cursor .at) (ended (either 44 10) [] (drop (cursor .at) (now (y .entry)))) line) ⌝ }
+{
+    let kind = line.kind;
+    let n = fields(kind);
+    let mut l = line;
+    let mut c = cursor;
+    let mut j = 0;
+    while j < n {
+        match l.with_field(rule(kind, j), y, c) {
+            FieldRead::Taken(next, after) => {
+                l = next;
+                c = after;
+                j += 1;
+            }
+            FieldRead::Wrong => {
+                return LineRead::Bad(10);
+            }
+        }
+    }
+    LineRead::Good(l)
+}
+
+// The line y, taken with its LF, which starts at a position of the sheet where a record of a sort is due.
+pub fn read_line(sort: u8, y: &[u8], at: usize) -> LineRead
+    requires { ⌜ at + length (now y) ≤ 65535 ⌝ }
+    ensures { λ r. ⌜ r ≡ toldRead (readPieces (sortOf sort) at (ended (either 44 10) [] (now (y .entry)))) ⌝ }
+{
+    let end = find(y, 0, b',', b'\n');
+    if y.len() <= end {
+        return LineRead::Bad(8);
+    }
+    let kind = kind_for(sort, &y[..end]);
+    if kind == 34 {
+        return LineRead::Bad(8);
+    }
+    if count(y, b',', b'\n') != fields(kind) + 1 {
+        return LineRead::Bad(9);
+    }
+    let line = Line {
+        kind,
+        op: 0,
+        at,
+        start: 0,
+        len: 0,
+        first: always(kind),
+        second: 0,
+        third: 0,
+    };
+    read_fields(line, y, Cursor { at: end + 1 })
+}

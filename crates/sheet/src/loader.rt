@@ -1,0 +1,91 @@
+// From the bytes of a sheet to loaded lines, or a refusal from 1 to 11.
+use crate::scan::Scanned;
+use crate::scan::scan;
+use crate::scratch::close;
+use text::count;
+ghost use mathlib.Core.Path.{_≡_};
+ghost use lib.ListN.{length};
+ghost use Rattle.sheet.specs.Load.{times};
+ghost use Rattle.sheet.specs.Load.{early as earlyOf, load as loadOf, unended as unendedOf};
+ghost use Rattle.sheet.specs.Promise.{answer, laid, scratchAfter};
+ghost use Rattle.sheet.specs.Scan.{scanAll, Whole};
+
+pub enum Answer {
+    Lines(usize),
+    Refused { number: u32, line: usize },
+}
+
+// Zeros in all entries.
+pub fn clear(lines: &mut [u16])
+    ensures { λ r. ⌜ now (lines .exit) ≡ times (length (now (lines .entry))) 0 ⌝ }
+{
+    let mut i = 0;
+    while i < lines.len() {
+        lines[i] = 0;
+        i += 1;
+    }
+}
+
+// The lines of a sheet that passed refusals 1 to 3.
+fn load_lines(sheet: &[u8], lines: &mut [u16]) -> Answer
+    requires { ⌜ Whole (now sheet) (now lines) ⌝ }
+    ensures { λ r. ⌜ r ≡ answer (scanAll (now (sheet .entry))) ⌝ }
+    ensures { λ r. ⌜ now (lines .exit) ≡ laid (scanAll (now (sheet .entry))) (now (lines .entry)) ⌝ }
+{
+    match scan(sheet, lines) {
+        Scanned::Read => {
+            close(lines);
+            Answer::Lines(lines.len() / 8)
+        }
+        Scanned::Fault { number, line } => {
+            clear(lines);
+            Answer::Refused { number, line }
+        }
+    }
+}
+
+// Whether the last byte isn't LF, or there is none.
+fn unended(sheet: &[u8]) -> bool
+    ensures { λ r. ⌜ r ≡ unendedOf (now (sheet .entry)) ⌝ }
+{
+    if sheet.len() == 0 {
+        return true;
+    }
+    sheet[sheet.len() - 1] != b'\n'
+}
+
+// The first of refusals 1 to 5 that holds, or 0; types and scratch are the lengths of what is lent.
+fn early(sheet: &[u8], types: usize, scratch: usize) -> u32
+    ensures { λ r. ⌜ r ≡ earlyOf (now (sheet .entry)) types scratch ⌝ }
+{
+    if 16384 < sheet.len() {
+        return 1;
+    }
+    if unended(sheet) {
+        return 2;
+    }
+    let n = count(sheet, b'\n', b'\n');
+    if 1024 < n {
+        return 3;
+    }
+    if types < n {
+        return 4;
+    }
+    if scratch < 8 * n {
+        return 5;
+    }
+    0
+}
+
+// Loads a sheet into the scratch; types is the length of the lent type table.
+pub fn load(sheet: &[u8], scratch: &mut [u16], types: usize) -> Answer
+    ensures { λ r. ⌜ r ≡ answer (loadOf (now (sheet .entry)) types (length (now (scratch .entry)))) ⌝ }
+    ensures { λ r. ⌜ now (scratch .exit) ≡ scratchAfter (now (sheet .entry)) types (now (scratch .entry)) ⌝ }
+{
+    let number = early(sheet, types, scratch.len());
+    if number != 0 {
+        return Answer::Refused { number, line: 0 };
+    }
+    let all = 8 * count(sheet, b'\n', b'\n');
+    load_lines(sheet, &mut scratch[..all])
+}
