@@ -1,11 +1,11 @@
 pub mod Cases
 pub mod KindLaws
-pub mod Tables
+pub mod TableLaws
 pub mod Reading
 pub mod Steps
 pub mod Turns
 pub mod Told
-pub mod Sound
+pub mod ReadAs
 pub mod Due
 pub mod Entries
 pub mod Holds
@@ -15,3 +15,4 @@ pub mod Opening
 pub mod Scanning
 pub mod ScanNeeds
 pub mod Loading
+pub mod Loaded

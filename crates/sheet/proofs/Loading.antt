@@ -5,13 +5,12 @@ use mathlib.Core.List.{List, [], _∷_, _++_}
 use Prim.Native.Nat.{ℕ, zero, suc, _+_, _*_, _/_, _≤_, _<_}
 use native.Mathlib.Omega.{arith}
 use native.Mathlib.Numerals.{add-one}
-use lib.Dec.{ltb}
 use lib.ListN.{length, getD, take, drop, set}
 use lib.Seq.{length-take-le, take-all, take-suc-set}
 use borrow.Author.Tests.{ltb-false}
 use Rattle.sheet.specs.Grammar.{Sort}
 use Rattle.sheet.specs.Line.{Line}
-use Rattle.sheet.specs.Load.{Loaded, lines, refused, linesOf, times, scan, unended, firstTrue, early, loadFrom, load}
+use Rattle.sheet.specs.Load.{Loaded, lines, refused, linesOf, times, scan, unended, firstTrue, tests, early, loadFrom, load}
 use Rattle.sheet.specs.Scratch.{closed}
 use Rattle.sheet.specs.Scan.{Whole, Scans, scanAll, scanned}
 use Rattle.sheet.specs.Promise.{answer, laid, scratchFrom, scratchAfter}
@@ -77,13 +76,9 @@ none-true k (false ∷ bs) e (suc i) = none-true (suc k) bs e i
 
 -- A sheet without refusals 1 to 5: k is what `early` gives, and m the number of lines.
 module _ (s : List ℕ) (types : ℕ) (S : List ℕ) (k m : ℕ) (e : k ≡ early s types (length S)) (z : k ≡ 0) (l : m ≡ length (linesOf s)) where
-  abbrev tests : List Bool
-  tests =
-      let n = length (linesOf s) in ltb 16384 (length s) ∷ unended s ∷ ltb 1024 n ∷ ltb types n ∷ ltb (length S) (8 * n) ∷ []
-
-  untrue : (i : ℕ) → getD tests i false ≡ false
+  untrue : (i : ℕ) → getD (tests s types (length S)) i false ≡ false
   unfolding early
-  untrue = none-true 0 tests (sym e ∙ z)
+  untrue = none-true 0 (tests s types (length S)) (sym e ∙ z)
 
   pub room : 8 * m ≤ length S
   room = rw l (ltb-false _ _ (untrue 4))
@@ -108,3 +103,12 @@ pub refuses : (s : List ℕ) (types : ℕ) (S : List ℕ) (k : ℕ) → k ≡ ea
 unfolding load loadFrom scratchAfter scratchFrom answer
 refuses s types S zero e ne = absurd (ne refl)
 refuses s types S (suc k) e ne = rw (← e) (refl, refl)
+
+-- a sheet that is loaded has none of them
+pub loaded-whole : (s : List ℕ) (types scratch : ℕ) (ls : List Line) → load s types scratch ≡ lines ls → (early s types scratch ≡ 0) × (scanAll s ≡ lines ls)
+unfolding load loadFrom
+loaded-whole s types scratch ls = go (early s types scratch)
+  where
+    go : (k : ℕ) → loadFrom k s ≡ lines ls → (k ≡ 0) × (scanAll s ≡ lines ls)
+    go zero e = (refl, e)
+    go (suc k) e = absurd (let z : _≡_ {A = ℕ} 0 1 = cc in omega arith)

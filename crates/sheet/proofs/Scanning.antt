@@ -27,8 +27,8 @@ use Rattle.sheet.specs.declared.line.LineRead.{LineRead}
 use Rattle.sheet.specs.declared.line.LineRead.the-variants.{Good, Bad as BadLine}
 use Rattle.sheet.specs.declared.scan.Scanned.{Scanned}
 use Rattle.sheet.specs.declared.scan.Scanned.the-variants.{Read as AllRead, Fault}
-use Rattle.sheet.proofs.Sound.{Sound, read-sound, sound-small}
-use Rattle.sheet.proofs.Tables.{sort-at}
+use Rattle.sheet.proofs.ReadAs.{ReadAs, read-sound, sound-small}
+use Rattle.sheet.proofs.TableLaws.{sort-at}
 use Rattle.sheet.proofs.Holds.{line-says, line-below, length-line}
 use Rattle.sheet.proofs.Opening.{sorts-length, settled-most, opened-head, after-none, after-some, open-none, open-some}
 
@@ -223,7 +223,7 @@ module _ (s S T ds os : List ℕ) (n at i : ℕ) (w : Whole s S) (g : Going s S 
 
     -- the line is read: x is what it says, and l what the code makes of it
     module _ (l : CodeLine) (x : Line) (c : readLine (sortOf σ) at here ≡ good x) (t : l ≡ told x) where
-      sound : Sound (sortOf σ) at (here ++ (10 ∷ [])) x
+      sound : ReadAs (sortOf σ) at (here ++ (10 ∷ [])) x
       unfolding readLine fieldsOf
       sound = read-sound (sortOf σ) at (here ++ (10 ∷ [])) x c
 

@@ -26,7 +26,7 @@ use Rattle.sheet.specs.declared.line.Line.{Line}
 use Rattle.sheet.specs.declared.line.LineRead.{LineRead}
 use Rattle.sheet.specs.declared.line.LineRead.the-variants.{Bad as BadLine}
 use Rattle.sheet.proofs.KindLaws.{kind-known}
-use Rattle.sheet.proofs.Tables.{number-at, fields-at, few-always, few-parts}
+use Rattle.sheet.proofs.TableLaws.{number-at, fields-at, few-always, few-parts}
 
 unfoldable pub mapTold : Option line.Line → Option Line
 mapTold (some l) = some (told l)

@@ -3,11 +3,13 @@ use Prim.Native.Nat.{ℕ, zero, suc, _+_, _<_, _≤_}
 use mathlib.Core.List.{List, [], _∷_}
 use mathlib.Core.Path.{_≡_}
 use lib.ListN.{length, getD}
+use Rattle.sheet.specs.Grammar as grammar
 use Rattle.sheet.specs.Line as line
 use Rattle.sheet.specs.Tree.{Node, node, Nodes, nil, more, total}
 use Rattle.sheet.specs.Table.{numbersIn}
 use Rattle.sheet.specs.Step.{told}
-use Rattle.sheet.specs.Scratch.{entry, kindAt, opAt, startAt, endAt, Small}
+use Rattle.sheet.specs.Scratch.{entry, kindAt, opAt, startAt, endAt, nameAt, Small}
+use Rattle.sheet.specs.Say.{spanAt, nspanAt}
 
 -- line i's entries say the line l
 pub record Says (S : List ℕ) (i : ℕ) (l : line.Line) : Type 0 where
@@ -45,3 +47,24 @@ pub record Sound (l : line.Line) : Type 0 where
 pub data Each (P : ℕ → line.Line → Type 0) : ℕ → List line.Line → Type 0 where
   none : {i : ℕ} → Each P i []
   one : {i : ℕ} {l : line.Line} {ls : List line.Line} → P i l → Each P (suc i) ls → Each P i (l ∷ ls)
+
+mutual
+  -- P of each line of a tree
+  pub data Every (P : ℕ → line.Line → Type 0) : Node → Type 0 where
+    every : {i : ℕ} {l : line.Line} {ps : Nodes} → P i l → EveryOf P ps → Every P (node i l ps)
+
+  pub data EveryOf (P : ℕ → line.Line → Type 0) : Nodes → Type 0 where
+    no-more : EveryOf P nil
+    and-more : {t : Node} {ns : Nodes} → Every P t → EveryOf P ns → EveryOf P (more t ns)
+
+-- what line i says in the sheet s itself: its name, its span where it has one, and a dot's second span
+pub record Spells (s S : List ℕ) (i : ℕ) (l : line.Line) : Type 0 where
+  pub name : nameAt s S i ≡ l .name
+  pub span : (rs : List grammar.Rule) → grammar.rowOf (l .kind) .rules ≡ grammar.span ∷ rs → spanAt s S i ≡ getD (l .spans) 0 0
+  pub nspan : grammar.rowOf (l .kind) .rules ≡ grammar.span ∷ grammar.name ∷ grammar.span ∷ [] → nspanAt s S i ≡ getD (l .spans) 1 0
+
+-- the entries S of the n lines of the sheet s hold its tree t
+pub record Holding (s S : List ℕ) (n : ℕ) (t : Node) : Type 0 where
+  pub held : Held S n 0 t
+  pub all : endAt S 0 ≡ n
+  pub spells : Every (Spells s S) t

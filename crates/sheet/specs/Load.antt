@@ -1,6 +1,6 @@
 -- From bytes to lines: document 01, 'The sheet', and refusals 1 to 11.
 use Prim.Native.Nat.{ℕ, zero, suc, _+_, _*_, _-_}
-use mathlib.Core.Bool.{Bool, true, false, cond, _||_, not}
+use mathlib.Core.Bool.{Bool, true, false, not}
 use mathlib.Core.List.{List, [], _∷_, _++_}
 use lib.Dec.{eqb, ltb}
 use lib.ListN.{length, getD}
@@ -55,19 +55,28 @@ scan i at (d ∷ ds) (l ∷ ls) =
 abbrev pub unended : List ℕ → Bool
 unended s = not (eqb (getD s (length s - 1) 0) 10)
 
--- the number of the first test that is true, counted from k, or 0
+-- the number of the first test that is true, counted from k; 0 for none
 unfoldable pub firstTrue : ℕ → List Bool → ℕ
 firstTrue k [] = 0
 firstTrue k (true ∷ bs) = k
 firstTrue k (false ∷ bs) = firstTrue (suc k) bs
 
--- refusals 1 to 5 of a sheet s, with the lengths of the lent type table and scratch: the number of the first that holds, or 0
-unfoldable pub early : List ℕ → ℕ → ℕ → ℕ
-early s types scratch =
+-- the tests for refusals 1 to 5 of a sheet s, with the lengths of the lent type table and scratch
+abbrev pub tests : List ℕ → ℕ → ℕ → List Bool
+tests s types scratch =
     let n = length (linesOf s) in
-    firstTrue 1 (ltb 16384 (length s) ∷ unended s ∷ ltb 1024 n ∷ ltb types n ∷ ltb scratch (8 * n) ∷ [])
+    ltb 16384 (length s)
+    ∷ unended s
+    ∷ ltb 1024 n
+    ∷ ltb types n
+    ∷ ltb scratch (8 * n)
+    ∷ []
 
--- a sheet with such a refusal, or 0
+-- the number of the first such refusal; 0 for none
+unfoldable pub early : List ℕ → ℕ → ℕ → ℕ
+early s types scratch = firstTrue 1 (tests s types scratch)
+
+-- the sheet s, where k is that number
 unfoldable pub loadFrom : ℕ → List ℕ → Loaded
 loadFrom zero s = scan 1 0 ((0, Contract) ∷ []) (linesOf s)
 loadFrom (suc k) s = refused (suc k) 0

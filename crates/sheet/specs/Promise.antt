@@ -18,7 +18,7 @@ unfoldable pub laid : Loaded → List ℕ → List ℕ
 laid (lines ls) S = closed (length ls) (written 0 ls S)
 laid (refused n i) S = times (length S) 0
 
--- Refusals 1 to 5 leave the scratch as it was; what lies beyond eight entries a line is never touched.
+-- A sheet with an early refusal k leaves the scratch as it was; what lies beyond eight entries a line is never touched.
 unfoldable pub scratchFrom : ℕ → List ℕ → List ℕ → List ℕ
 scratchFrom zero s S = let n = 8 * length (linesOf s) in laid (scanAll s) (take n S) ++ drop n S
 scratchFrom (suc k) s S = S

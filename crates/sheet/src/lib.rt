@@ -7,6 +7,7 @@ mod loader;
 mod open;
 mod scan;
 mod scratch;
+mod tables;
 
 pub use lines::end;
 pub use lines::first;

@@ -2,10 +2,10 @@
 use crate::cursor::Cursor;
 use crate::cursor::NameRead;
 use crate::cursor::NumberRead;
-use crate::grammar::always;
-use crate::grammar::fields;
 use crate::grammar::kind_for;
-use crate::grammar::rule;
+use crate::tables::always;
+use crate::tables::fields;
+use crate::tables::rule;
 use text::count;
 use text::find;
 ghost use mathlib.Core.List.{[]};
@@ -65,21 +65,13 @@ impl Line {
         requires { ⌜ Ends (now y) (c .at) × (self .at + length (now y) ≤ 65535) ⌝ }
         ensures { λ r. ⌜ r ≡ taken (nameStep name (self .at + c .at) (fieldAt (now (y .entry)) (c .at)) self) (nextAt (now (y .entry)) (c .at)) ⌝ }
     {
-        let at = self.at;
+        let mut l = self;
         match c.written(y, name) {
-            NameRead::Name { start, len, next } => FieldRead::Taken(
-                Line {
-                    kind: self.kind,
-                    op: self.op,
-                    at,
-                    start: at + start,
-                    len,
-                    first: self.first,
-                    second: self.second,
-                    third: self.third,
-                },
-                next,
-            ),
+            NameRead::Name { start, len, next } => {
+                l.start = l.at + start;
+                l.len = len;
+                FieldRead::Taken(l, next)
+            }
             NameRead::BadName => FieldRead::Wrong,
         }
     }
@@ -95,60 +87,26 @@ impl Line {
         if n <= op {
             return FieldRead::Wrong;
         }
-        FieldRead::Taken(
-            Line {
-                kind: self.kind,
-                op,
-                at: self.at,
-                start: self.start,
-                len: self.len,
-                first: self.first,
-                second: self.second,
-                third: self.third,
-            },
-            next,
-        )
+        let mut l = self;
+        l.op = op;
+        FieldRead::Taken(l, next)
     }
 
     // n parts of group g.
-    fn with_parts(self, g: usize, n: usize) -> Line
+    fn with_parts(mut self, g: usize, n: usize) -> Line
         ensures { λ r. ⌜ r ≡ withParts self g n ⌝ }
     {
         if g == 0 {
-            return Line {
-                kind: self.kind,
-                op: self.op,
-                at: self.at,
-                start: self.start,
-                len: self.len,
-                first: n,
-                second: self.second,
-                third: self.third,
-            };
+            self.first = n;
+            return self;
         }
         if g == 1 {
-            return Line {
-                kind: self.kind,
-                op: self.op,
-                at: self.at,
-                start: self.start,
-                len: self.len,
-                first: self.first,
-                second: n,
-                third: self.third,
-            };
+            self.second = n;
+            return self;
         }
         if g == 2 {
-            return Line {
-                kind: self.kind,
-                op: self.op,
-                at: self.at,
-                start: self.start,
-                len: self.len,
-                first: self.first,
-                second: self.second,
-                third: n,
-            };
+            self.third = n;
+            return self;
         }
         self
     }

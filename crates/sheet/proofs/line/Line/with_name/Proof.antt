@@ -4,14 +4,20 @@ use borrow.Author.Needs.{needs}
 use Rattle.sheet.proofs.line.Line.with_name.Statement.{statement}
 use Rattle.sheet.proofs.line.Line.with_name.Tie as tie
 
-add-start : tie.Need-add-t11
-add-start c = omega (arith, name-start _ _ _ _ _ _ _ _ (c .before .before .before .written .ensures) (c .before .start .given .1))
+add-start : tie.Need-add-l
+add-start c =
+    let n = c .before .before in
+    omega (arith, name-start _ _ _ _ _ _ _ _ (n .before .before .written .ensures) (n .start .given .1))
 
 returns : tie.Need-returns
-returns c = name-taken _ _ _ _ _ _ _ _ _ (c .before .before .before .before .before .args .self) (c .before .before .before .written .ensures) (c .before .start .given .1)
+returns c =
+    let n = c .before .before in
+    let w = n .before .before in
+    name-taken _ _ _ _ _ _ _ _ _ (w .before .before .args .self) (w .written .ensures) (n .start .given .1)
 
 returns-2 : tie.Need-returns-2
 returns-2 c = name-wrong _ _ _ _ _ _ (c .before .before .written .ensures) (c .enum-told .given .1)
 
 pub with-name-spec : {M : Type 1} → statement M
-with-name-spec = tie.close (tie.spec (λ c κs. search needs) (λ c. search needs) add-start (λ c. search needs) returns returns-2)
+with-name-spec =
+    tie.close (tie.spec (λ c κs. search needs) (λ c. search needs) add-start (λ c. search needs) returns returns-2)

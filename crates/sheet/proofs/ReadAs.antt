@@ -1,4 +1,4 @@
--- What a line that is read is like: its record, its parts, and its name in the sheet. Assumes nothing.
+-- What a line that is read is like: its record, its parts, and its name and spans in the sheet. Assumes nothing.
 use mathlib.Core.Logic.{_≢_}
 use mathlib.Core.Path.{_≡_, refl, sym, ap, _∙_}
 use mathlib.Core.Bool.{Bool, true, false, cond}
@@ -10,9 +10,10 @@ use native.Mathlib.Omega.{arith}
 use borrow.Author.Tests.{ltb-true, eqb-false}
 use lib.Dec.{eqb}
 use lib.ListN.{length, getD, take, drop, length-append, length-drop}
-use lib.Seq.{drop-append-add, drop-append-le, take-append-le}
-use Rattle.text.specs.Text.{either, ended}
+use lib.Seq.{drop-drop, drop-append-le}
+use Rattle.text.specs.Text.{either, upto, ended}
 use Rattle.text.specs.Word.{place}
+use Rattle.text.specs.Field.{numberOf}
 use Rattle.text.specs.declared.field.Number.{Number}
 use Rattle.text.specs.declared.field.Number.the-variants.{Is, Bad}
 use Rattle.text.proofs.Fields.{number-most}
@@ -20,32 +21,54 @@ use Rattle.text.proofs.Pieces.{upto-front, piece-first}
 use Rattle.sheet.specs.Field.{fieldAt}
 use Rattle.sheet.specs.Grammar.{Sort, Rule, span, name, text, assignOp, unOp, binOp, count, flag, assignOps, unOps, binOps, none, rowOf, kindFor}
 use Rattle.sheet.specs.Line.{Line, begun, when, onNumber, readField, andThen, readFields, good, bad, orTen, readAs, readPieces}
+use Rattle.sheet.specs.Say.{pieceAt}
 use Rattle.sheet.specs.Scratch.{Small}
 use Rattle.sheet.specs.Step.{told}
 use Rattle.sheet.specs.Table.{toldSorts, sortsIn, groupSorts, numbersIn}
 use Rattle.sheet.specs.Tree.{total}
 use Rattle.sheet.proofs.KindLaws.{kind-known}
-use Rattle.sheet.proofs.Tables.{at-most, few-parts}
+use Rattle.sheet.proofs.TableLaws.{at-most, few-parts}
 
--- the text f, which starts at a unless it is empty, stands in the line y, which starts at `at`
+-- what comes behind a piece's end does not change it
+upto-append : (p : ℕ → Bool) (l q : List ℕ) → length (upto p l) < length l → upto p (l ++ q) ≡ upto p l
+unfolding upto
+upto-append p [] q h = absurd (omega arith)
+upto-append p (b ∷ bs) q h = go (p b) (upto-append p bs q) h
+  where
+    go : (t : Bool) → (length (upto p bs) < length bs → upto p (bs ++ q) ≡ upto p bs) → length (cond t [] (b ∷ upto p bs)) < suc (length bs)
+        → cond t [] (b ∷ upto p (bs ++ q)) ≡ cond t [] (b ∷ upto p bs)
+    go true f h = refl
+    go false f h = ap (λ l. b ∷ l) (f (omega arith))
+
+-- the bytes from c on of a line y that starts at `at` in the sheet s, with q after it
+drop-within : (s y q : List ℕ) (at c : ℕ) → drop at s ≡ y ++ q → c ≤ length y → drop (at + c) s ≡ drop c y ++ q
+drop-within s y q at c d h = sym (drop-drop c at s) ∙ rw d (drop-append-le c y q h)
+
+-- the piece f of the line y starts at a, where the line starts at `at`
+abbrev pub Piece : ℕ → List ℕ → ℕ → List ℕ → Type 0
+Piece at y a f = (f ≡ fieldAt y (a - at)) × (a + length f < at + length y) × (at ≤ a)
+
+-- ... and is that piece of the sheet
+pub piece-within : (s y q : List ℕ) (at a : ℕ) (f : List ℕ) → drop at s ≡ y ++ q → Piece at y a f → pieceAt s a ≡ f
+piece-within s y q at a f d t =
+    let h : a ≡ at + (a - at) = omega arith in
+    let e = ap (λ n. drop n s) h ∙ drop-within s y q at (a - at) d (omega arith) in
+    rw e (upto-append _ (drop (a - at) y) q (omega (arith, ap length (t .0), length-drop (a - at) y)) ∙ sym (t .0))
+
+-- the text f is empty, or a piece that starts at a
 abbrev pub Stands : ℕ → List ℕ → ℕ → List ℕ → Type 0
-Stands at y a f = (take (length f) (drop (a - at) y) ≡ f) × (a + length f ≤ at + length y) × (0 < length f → at ≤ a)
+Stands at y a f = (0 < length f → Piece at y a f) × (a + length f ≤ at + length y)
 
--- where what comes before the line is `at` bytes long, the text is that part of the whole
-pub stands-within : (y p q : List ℕ) (a : ℕ) (f : List ℕ) → Stands (length p) y a f → take (length f) (drop a (p ++ (y ++ q))) ≡ f
-stands-within y p q a [] t = refl
-stands-within y p q a (b ∷ bs) t =
-    let h : a ≡ length p + (a - length p) = omega (arith, t .2 (omega arith)) in
-    rw (
-      ap (λ n. drop n (p ++ (y ++ q))) h ∙ drop-append-add p (y ++ q) (a - length p) ∙ drop-append-le (a - length p) y q (omega (arith, t .1)),
-      take-append-le (length (b ∷ bs)) (drop (a - length p) y) q (omega (arith, t .1, length-drop (a - length p) y)),
-    )
-    (t .0)
+pub stands-within : (s y q : List ℕ) (at a : ℕ) (f : List ℕ) → drop at s ≡ y ++ q → Stands at y a f → take (length f) (drop a s) ≡ f
+stands-within s y q at a [] d t = refl
+stands-within s y q at a (b ∷ bs) d t =
+    let e = piece-within s y q at a (b ∷ bs) d (t .0 (omega arith)) in
+    ap (λ f. take (length f) (drop a s)) (sym e) ∙ upto-front (either 44 10) (drop a s) ∙ e
 
--- the pieces fs, the first of which starts at a, stand in the line
+-- the pieces fs, the first of which starts at a
 abbrev Stand : ℕ → List ℕ → ℕ → List (List ℕ) → Type 0
 Stand at y a [] = Unit
-Stand at y a (f ∷ fs) = Stands at y a f × Stand at y (a + length f + 1) fs
+Stand at y a (f ∷ fs) = Piece at y a f × Stand at y (a + length f + 1) fs
 
 -- no number of the parts is above 1024
 abbrev pub Counted : List (ℕ × Sort) → Type 0
@@ -88,7 +111,49 @@ counted-more (p ∷ ps) n s h c (suc i) = counted-more ps n s h (λ i. c (suc i)
 more-parts : (ss rest : List Sort) (n : ℕ) (s : Sort) (ps : List (ℕ × Sort)) → n ≤ 1024 → Parts ss (s ∷ rest) ps → Parts ss rest (ps ++ ((n, s) ∷ []))
 more-parts ss rest n s ps h p = (sorts-more ps n s rest ∙ p .0, counted-more ps n s h (p .1))
 
+some-is : (C : Line → Type 0) {l m : Line} → some l ≡ some m → C l → C m
+some-is C {l} {m} e c = let q : l ≡ m = cc in rw q at c
+
+-- the first span stays where other fields are read
+spans-kept : (rs : List Rule) (a : ℕ) (fs : List (List ℕ)) (l m : Line) (v : ℕ) (vs : List ℕ)
+    → readFields rs a fs l ≡ some m → l .spans ≡ v ∷ vs → getD (m .spans) 0 0 ≡ v
+unfolding readFields readField
+spans-kept [] a fs l m v vs e p = let q : l ≡ m = cc in rw (← q, p)
+spans-kept (r ∷ rs) a [] l m v vs e p = absurd (let z : _≡_ {A = ℕ} 0 1 = cc in omega arith)
+spans-kept (span ∷ rs) a (f ∷ fs) l m v vs e p = on-number _ _ _ m _ e (λ u q w. spans-kept rs _ fs _ m v _ w (ap (λ us. us ++ (u ∷ [])) p))
+spans-kept (name ∷ rs) a (f ∷ fs) l m v vs e p = on-test _ _ _ m _ e (λ q w. spans-kept rs _ fs _ m v vs w p)
+spans-kept (text ∷ rs) a (f ∷ fs) l m v vs e p = on-test _ _ _ m _ e (λ q w. spans-kept rs _ fs _ m v vs w p)
+spans-kept (assignOp ∷ rs) a (f ∷ fs) l m v vs e p = on-test _ _ _ m _ e (λ q w. spans-kept rs _ fs _ m v vs w p)
+spans-kept (unOp ∷ rs) a (f ∷ fs) l m v vs e p = on-test _ _ _ m _ e (λ q w. spans-kept rs _ fs _ m v vs w p)
+spans-kept (binOp ∷ rs) a (f ∷ fs) l m v vs e p = on-test _ _ _ m _ e (λ q w. spans-kept rs _ fs _ m v vs w p)
+spans-kept (count s ∷ rs) a (f ∷ fs) l m v vs e p = on-number _ _ _ m _ e (λ u q w. spans-kept rs _ fs _ m v vs w p)
+spans-kept (flag s ∷ rs) a (f ∷ fs) l m v vs e p = on-number _ _ _ m _ e (λ u q w. spans-kept rs _ fs _ m v vs w p)
+
 module _ (at : ℕ) (y : List ℕ) where
+  -- the SPAN v starts at a
+  abbrev pub SpanAt : ℕ → ℕ → Type 0
+  SpanAt a v = (f : List ℕ) × Piece at y a f × (numberOf 4294967295 f ≡ Is v)
+
+  span-first : (rs : List Rule) (a : ℕ) (fs : List (List ℕ)) (k : ℕ) (m : Line)
+      → Stand at y a fs → readFields (span ∷ rs) a fs (begun k at) ≡ some m → SpanAt a (getD (m .spans) 0 0)
+  unfolding readFields readField
+  span-first rs a [] k m t e = absurd (let z : _≡_ {A = ℕ} 0 1 = cc in omega arith)
+  span-first rs a (f ∷ fs) k m t e = on-number _ _ _ m _ e (λ v q w. (f, t .0, rw (spans-kept rs _ fs _ m v [] w refl) q))
+
+  -- a dot's second span comes after its name
+  span-second : (a : ℕ) (fs : List (List ℕ)) (k : ℕ) (m : Line)
+      → Stand at y a fs → readFields (span ∷ name ∷ span ∷ []) a fs (begun k at) ≡ some m → SpanAt (m .start + length (m .name) + 1) (getD (m .spans) 1 0)
+  unfolding readFields readField andThen
+  span-second a [] k m t e = absurd (let z : _≡_ {A = ℕ} 0 1 = cc in omega arith)
+  span-second a (f ∷ []) k m t e = on-number _ _ _ m _ e (λ v q w. absurd (let z : _≡_ {A = ℕ} 0 1 = cc in omega arith))
+  span-second a (f ∷ g ∷ []) k m t e =
+      on-number _ _ _ m _ e (λ v q w. on-test _ _ _ m _ w (λ p x. absurd (let z : _≡_ {A = ℕ} 0 1 = cc in omega arith)))
+  span-second a (f ∷ g ∷ h ∷ fs) k m t e =
+      on-number _ _ _ m _ e (λ v q w. on-test _ _ _ m _ w (λ p x. on-number _ _ _ m _ x (λ u r z. some-is (λ m. SpanAt (m .start + length (m .name) + 1) (getD (m .spans) 1 0)) z (h, t .1 .1 .0, r))))
+
+  stands : {a : ℕ} {f : List ℕ} → Piece at y a f → Stands at y a f
+  stands p = (λ h. p, omega arith)
+
   -- the fields fs, which stand in the line from a on, read by the rules rs
   fields-like : (k : ℕ) (ss : List Sort) (rs : List Rule) (a : ℕ) (fs : List (List ℕ)) (l m : Line)
       → Stand at y a fs → readFields rs a fs l ≡ some m → Like at y k ss rs l → Like at y k ss [] m
@@ -98,9 +163,9 @@ module _ (at : ℕ) (y : List ℕ) where
   fields-like k ss (span ∷ rs) a (f ∷ fs) l m t e i =
       on-number _ _ _ m _ e (λ v q w. fields-like k ss rs _ fs _ m (t .1) w i)
   fields-like k ss (name ∷ rs) a (f ∷ fs) l m t e i =
-      on-test _ _ _ m _ e (λ q w. fields-like k ss rs _ fs _ m (t .1) w (i .0, i .1, t .0, i .3))
+      on-test _ _ _ m _ e (λ q w. fields-like k ss rs _ fs _ m (t .1) w (i .0, i .1, stands (t .0), i .3))
   fields-like k ss (text ∷ rs) a (f ∷ fs) l m t e i =
-      on-test _ _ _ m _ e (λ q w. fields-like k ss rs _ fs _ m (t .1) w (i .0, i .1, t .0, i .3))
+      on-test _ _ _ m _ e (λ q w. fields-like k ss rs _ fs _ m (t .1) w (i .0, i .1, stands (t .0), i .3))
   fields-like k ss (assignOp ∷ rs) a (f ∷ fs) l m t e i =
       on-test _ _ _ m _ e (λ q w. fields-like k ss rs _ fs _ m (t .1) w (i .0, omega (arith, ltb-true (place f assignOps) 3 q), i .2, i .3))
   fields-like k ss (unOp ∷ rs) a (f ∷ fs) l m t e i =
@@ -120,7 +185,7 @@ module _ (at : ℕ) (y : List ℕ) where
       let p = piece-first (either 44 10) y c f fs e in
       let h : at + c - at ≡ c = omega arith in
       let n : at + c + length f + 1 ≡ at + (c + length f + 1) = omega arith in (
-        (rw (h, p .1) (upto-front (either 44 10) (drop c y)), omega (arith, p .0), λ q. omega arith),
+        (rw h (p .1), omega (arith, p .0), omega arith),
         rw n (pieces-stand fs (c + length f + 1) (p .2)),
       )
 
@@ -156,44 +221,53 @@ sorts-length [] = refl
 sorts-length (p ∷ ps) = ap suc (sorts-length ps)
 
 -- A line l that is read from y, which starts at a position a of the sheet, where a record of the sort s is due.
-pub record Sound (s : Sort) (a : ℕ) (y : List ℕ) (l : Line) : Type 0 where
+pub record ReadAs (s : Sort) (a : ℕ) (y : List ℕ) (l : Line) : Type 0 where
   pub fits : l .kind ≡ kindFor s (fieldAt y 0)
   pub known : l .kind < none
   pub at : l .at ≡ a
   pub op : l .op < 14
+  pub word : Piece a y a (fieldAt y 0)
   pub named : Stands a y (l .start) (l .name)
+  pub spanned : (rs : List Rule) → rowOf (l .kind) .rules ≡ span ∷ rs → SpanAt a y (a + length (fieldAt y 0) + 1) (getD (l .spans) 0 0)
+  pub nspanned : rowOf (l .kind) .rules ≡ span ∷ name ∷ span ∷ [] → SpanAt a y (l .start + length (l .name) + 1) (getD (l .spans) 1 0)
   pub sorts : sortsIn (l .parts) ≡ groupSorts (rowOf (l .kind))
   pub groups : length (l .parts) ≤ 3
   pub counted : Counted (l .parts)
 
 module _ (s : Sort) (a : ℕ) (y : List ℕ) (l : Line) where
-  pieces-sound : (fs : List (List ℕ)) → fs ≡ ended (either 44 10) [] y → readPieces s a fs ≡ good l → Sound s a y l
+  pieces-sound : (fs : List (List ℕ)) → fs ≡ ended (either 44 10) [] y → readPieces s a fs ≡ good l → ReadAs s a y l
   unfolding readPieces
   pieces-sound [] e h = absurd (let z : _≡_ {A = ℕ} 0 1 = cc in omega arith)
   pieces-sound (w ∷ fs) e h =
       let k = kindFor s w in
       let r = read-as k a (length w) fs l h in
       let known = kind-known s w k refl (r .0) in
+      let w-at : w ≡ fieldAt y 0 = piece-first (either 44 10) y 0 w fs e .1 in
+      let t : Stand a y a (w ∷ fs) = rw add-zero at (pieces-stand a y (w ∷ fs) 0 e) in
       let i =
-      fields-like a y k (groupSorts (rowOf k)) (rowOf k .rules) _ fs (begun k a) l (rw add-zero at (pieces-stand a y (w ∷ fs) 0 e .1)) (r .1)
-      ((refl, refl), omega arith, (refl, omega arith, λ q. omega arith), (refl, always-counted k known)) in
+      fields-like a y k (groupSorts (rowOf k)) (rowOf k .rules) _ fs (begun k a) l (t .1) (r .1)
+      ((refl, refl), omega arith, ((λ h. absurd (omega arith)), omega arith), (refl, always-counted k known))
+      in
       let sorts : sortsIn (l .parts) ≡ groupSorts (rowOf k) = sym (append-nil (sortsIn (l .parts))) ∙ i .3 .0 in
       record {
-        fits = i .0 .0 ∙ ap (kindFor s) (piece-first (either 44 10) y 0 w fs e .1);
+        fits = i .0 .0 ∙ ap (kindFor s) w-at;
         known = rw (i .0 .0) known;
         at = i .0 .1;
         op = i .1;
+        word = rw (← w-at) (t .0);
         named = i .2;
+        spanned = λ rs q. rw (← w-at) (span-first a y rs _ fs k l (t .1) (rw (rw (i .0 .0) at q) at (r .1)));
+        nspanned = λ q. span-second a y _ fs k l (t .1) (rw (rw (i .0 .0) at q) at (r .1));
         sorts = rw (i .0 .0) sorts;
         groups = omega (arith, sorts-length (l .parts), simp length-append at (ap length sorts), sorts-length (rowOf k .always), few-parts k known);
         counted = i .3 .1;
       }
 
-  pub read-sound : readPieces s a (ended (either 44 10) [] y) ≡ good l → Sound s a y l
+  pub read-sound : readPieces s a (ended (either 44 10) [] y) ≡ good l → ReadAs s a y l
   read-sound = pieces-sound _ refl
 
   -- the entries of the scratch hold its numbers
-  pub sound-small : a + length y ≤ 65535 → Sound s a y l → Small (told l)
+  pub sound-small : a + length y ≤ 65535 → ReadAs s a y l → Small (told l)
   sound-small h t =
       record {
         kind = omega (arith, t .known, t .op);
