@@ -14,5 +14,6 @@ pub mod Counts
 pub mod Opening
 pub mod Scanning
 pub mod ScanNeeds
+pub mod Forms
 pub mod Loading
 pub mod Loaded

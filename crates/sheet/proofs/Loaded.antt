@@ -21,6 +21,7 @@ use Rattle.sheet.specs.Scan.{Whole, linesFrom, scanAll}
 use Rattle.sheet.specs.Promise.{laid, scratchAfter}
 use Rattle.sheet.proofs.ReadAs.{ReadAs, read-sound, sound-small, piece-within, stands-within, SpanAt}
 use Rattle.sheet.proofs.Holds.{judged-lines, scan-due, holds, one-tree, all-first, all-none, length-written, length-closed}
+use Rattle.sheet.proofs.Forms.{scan-formed, formed-one}
 use Rattle.sheet.proofs.Scanning.{line-part}
 use Rattle.sheet.proofs.Loading.{scan-length, passed, loads, loaded-whole}
 
@@ -142,4 +143,5 @@ module _ (s : List ℕ) (types : ℕ) (S : List ℕ) (ls : List Line) (e : load 
       let q = one-tree d in
       let r = lines-read s (passes .ended) (passes .small) (linesOf s) 1 0 0 _ ls refl (whole .1) in
       let h = all-first (rw (q .1) at (holds T size refl (sounds r) d)) in
-      (q .0, q .1, rw left (record { held = h .0; all = all-none (h .1); spells = spelt (h .0) (every-first (rw (q .1) at (built r)) .0) }))
+      let f = formed-one (rw (q .1) at (scan-formed (linesOf s) 1 0 0 _ ls (whole .1))) in
+      (q .0, q .1, rw left (record { formed = f; held = h .0; all = all-none (h .1); spells = spelt (h .0) (every-first (rw (q .1) at (built r)) .0) }))

@@ -6,7 +6,8 @@ use lib.ListN.{length, getD}
 use Rattle.sheet.specs.Grammar as grammar
 use Rattle.sheet.specs.Line as line
 use Rattle.sheet.specs.Tree.{Node, node, Nodes, nil, more, total}
-use Rattle.sheet.specs.Table.{numbersIn}
+use Rattle.sheet.specs.Load.{sorts}
+use Rattle.sheet.specs.Table.{numbersIn, sortsIn, groupSorts}
 use Rattle.sheet.specs.Step.{told}
 use Rattle.sheet.specs.Scratch.{entry, kindAt, opAt, startAt, endAt, nameAt, Small}
 use Rattle.sheet.specs.Say.{spanAt, nspanAt}
@@ -63,8 +64,23 @@ pub record Spells (s S : List ℕ) (i : ℕ) (l : line.Line) : Type 0 where
   pub span : (rs : List grammar.Rule) → grammar.rowOf (l .kind) .rules ≡ grammar.span ∷ rs → spanAt s S i ≡ getD (l .spans) 0 0
   pub nspan : grammar.rowOf (l .kind) .rules ≡ grammar.span ∷ grammar.name ∷ grammar.span ∷ [] → nspanAt s S i ≡ getD (l .spans) 1 0
 
+-- a kind of the records that may stand where a sort is due
+abbrev pub Among : grammar.Sort → ℕ → Type 0
+Among s k = (grammar.first s ≤ k) × (k < grammar.first s + length (grammar.rows s))
+
+mutual
+  -- a tree where a sort is due: its record may stand there, and its parts are of the sorts that the record tells
+  pub data Formed : grammar.Sort → Node → Type 0 where
+    formed : {s : grammar.Sort} {i : ℕ} {l : line.Line} {ps : Nodes} → Among s (l .kind) → sortsIn (l .parts) ≡ groupSorts (grammar.rowOf (l .kind))
+        → FormedAll (sorts (l .parts)) ps → Formed s (node i l ps)
+
+  pub data FormedAll : List grammar.Sort → Nodes → Type 0 where
+    none-due : FormedAll [] nil
+    one-due : {s : grammar.Sort} {ss : List grammar.Sort} {t : Node} {ns : Nodes} → Formed s t → FormedAll ss ns → FormedAll (s ∷ ss) (more t ns)
+
 -- the entries S of the n lines of the sheet s hold its tree t
 pub record Holding (s S : List ℕ) (n : ℕ) (t : Node) : Type 0 where
+  pub formed : Formed grammar.Contract t
   pub held : Held S n 0 t
   pub all : endAt S 0 ≡ n
   pub spells : Every (Spells s S) t
