@@ -56,7 +56,7 @@ scan-formed (l ∷ ls) i at j (d ∷ ds) xs e =
     let t = read-sound (d .1) at (l ++ (10 ∷ [])) x (r .2) in
     let h = rw (due-sorts-due (suc (d .0)) (sorts (x .parts)) ds) at (scan-formed ls _ _ (suc j) _ _ (r .3)) in
     let q = rw (length-sorts (x .parts)) at (formed-split (sorts (x .parts)) h) in
-    rw (r .4) (one-due (formed (among (d .1) _ (x .kind) (t .fits) (t .known)) (t .sorts) (q .0)) (q .1))
+    rw (r .4) (one-due (formed (among (d .1) _ (x .kind) (t .fits) (t .known)) (t .parted) (q .0)) (q .1))
 
 -- What stands where a tree is well formed.
 pub formed-one : {s : Sort} {ss : List Sort} {t : Node} {ns : Nodes} → FormedAll (s ∷ ss) (more t ns) → Formed s t

@@ -2,7 +2,7 @@
 use mathlib.Core.Logic.{_≢_}
 use mathlib.Core.Path.{_≡_, refl, sym, ap, _∙_}
 use mathlib.Core.Bool.{Bool, true, false, cond}
-use mathlib.Core.List.{List, [], _∷_, _++_, append-nil}
+use mathlib.Core.List.{List, [], _∷_, _++_, append-assoc, append-nil}
 use mathlib.Core.Option.{Option, none as nothing, some}
 use Prim.Native.Nat.{ℕ, zero, suc, _+_, _-_, _≤_, _<_}
 use native.Mathlib.Nat.{add-zero}
@@ -20,6 +20,7 @@ use Rattle.text.proofs.Fields.{number-most}
 use Rattle.text.proofs.Pieces.{upto-front, piece-first}
 use Rattle.sheet.specs.Field.{fieldAt}
 use Rattle.sheet.specs.Grammar.{Sort, Rule, span, name, text, assignOp, unOp, binOp, count, flag, assignOps, unOps, binOps, none, rowOf, kindFor}
+use Rattle.sheet.specs.Held.{Parted}
 use Rattle.sheet.specs.Line.{Line, begun, when, onNumber, readField, andThen, readFields, good, bad, orTen, readAs, readPieces}
 use Rattle.sheet.specs.Say.{pieceAt}
 use Rattle.sheet.specs.Scratch.{Small}
@@ -129,6 +130,22 @@ spans-kept (binOp ∷ rs) a (f ∷ fs) l m v vs e p = on-test _ _ _ m _ e (λ q 
 spans-kept (count s ∷ rs) a (f ∷ fs) l m v vs e p = on-number _ _ _ m _ e (λ u q w. spans-kept rs _ fs _ m v vs w p)
 spans-kept (flag s ∷ rs) a (f ∷ fs) l m v vs e p = on-number _ _ _ m _ e (λ u q w. spans-kept rs _ fs _ m v vs w p)
 
+-- fields add parts behind those that are there
+parts-kept : (rs : List Rule) (a : ℕ) (fs : List (List ℕ)) (l m : Line) → readFields rs a fs l ≡ some m → (gs : List (ℕ × Sort)) × (m .parts ≡ l .parts ++ gs)
+unfolding readFields readField
+parts-kept [] a fs l m e = let q : l ≡ m = cc in rw q ([], sym (append-nil (m .parts)))
+parts-kept (r ∷ rs) a [] l m e = absurd (let z : _≡_ {A = ℕ} 0 1 = cc in omega arith)
+parts-kept (span ∷ rs) a (f ∷ fs) l m e = on-number _ _ _ m _ e (λ v q w. parts-kept rs _ fs _ m w)
+parts-kept (name ∷ rs) a (f ∷ fs) l m e = on-test _ _ _ m _ e (λ q w. parts-kept rs _ fs _ m w)
+parts-kept (text ∷ rs) a (f ∷ fs) l m e = on-test _ _ _ m _ e (λ q w. parts-kept rs _ fs _ m w)
+parts-kept (assignOp ∷ rs) a (f ∷ fs) l m e = on-test _ _ _ m _ e (λ q w. parts-kept rs _ fs _ m w)
+parts-kept (unOp ∷ rs) a (f ∷ fs) l m e = on-test _ _ _ m _ e (λ q w. parts-kept rs _ fs _ m w)
+parts-kept (binOp ∷ rs) a (f ∷ fs) l m e = on-test _ _ _ m _ e (λ q w. parts-kept rs _ fs _ m w)
+parts-kept (count s ∷ rs) a (f ∷ fs) l m e =
+    on-number _ _ _ m _ e (λ v q w. let r = parts-kept rs _ fs _ m w in ((v, s) ∷ r .0, r .1 ∙ append-assoc (l .parts) ((v, s) ∷ []) (r .0)))
+parts-kept (flag s ∷ rs) a (f ∷ fs) l m e =
+    on-number _ _ _ m _ e (λ v q w. let r = parts-kept rs _ fs _ m w in ((v, s) ∷ r .0, r .1 ∙ append-assoc (l .parts) ((v, s) ∷ []) (r .0)))
+
 module _ (at : ℕ) (y : List ℕ) where
   -- the SPAN v starts at a
   abbrev pub SpanAt : ℕ → ℕ → Type 0
@@ -230,7 +247,7 @@ pub record ReadAs (s : Sort) (a : ℕ) (y : List ℕ) (l : Line) : Type 0 where
   pub named : Stands a y (l .start) (l .name)
   pub spanned : (rs : List Rule) → rowOf (l .kind) .rules ≡ span ∷ rs → SpanAt a y (a + length (fieldAt y 0) + 1) (getD (l .spans) 0 0)
   pub nspanned : rowOf (l .kind) .rules ≡ span ∷ name ∷ span ∷ [] → SpanAt a y (l .start + length (l .name) + 1) (getD (l .spans) 1 0)
-  pub sorts : sortsIn (l .parts) ≡ groupSorts (rowOf (l .kind))
+  pub parted : Parted l
   pub groups : length (l .parts) ≤ 3
   pub counted : Counted (l .parts)
 
@@ -258,7 +275,7 @@ module _ (s : Sort) (a : ℕ) (y : List ℕ) (l : Line) where
         named = i .2;
         spanned = λ rs q. rw (← w-at) (span-first a y rs _ fs k l (t .1) (rw (rw (i .0 .0) at q) at (r .1)));
         nspanned = λ q. span-second a y _ fs k l (t .1) (rw (rw (i .0 .0) at q) at (r .1));
-        sorts = rw (i .0 .0) sorts;
+        parted = rw (i .0 .0) (record { sorts = sorts; always = parts-kept (rowOf k .rules) _ fs (begun k a) l (r .1) });
         groups = omega (arith, sorts-length (l .parts), simp length-append at (ap length sorts), sorts-length (rowOf k .always), few-parts k known);
         counted = i .3 .1;
       }

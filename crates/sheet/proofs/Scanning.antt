@@ -262,7 +262,7 @@ module _ (s S T ds os : List ℕ) (n at i : ℕ) (w : Whole s S) (g : Going s S 
         later : scanAll s ≡ afterAll (g .read) (after x rest)
         later =
             whole
-            ∙ rw (scan-good (suc i) at (n - 1) (sortOf σ) _ here _ x (omega (arith, g .counts .depth)) c, let m : suc (n - 1) ≡ n = omega (arith, some) in m, ← sorts-told U i x says (sound .known) (sound .sorts) (sound .groups))
+            ∙ rw (scan-good (suc i) at (n - 1) (sortOf σ) _ here _ x (omega (arith, g .counts .depth)) c, let m : suc (n - 1) ≡ n = omega (arith, some) in m, ← sorts-told U i x says (sound .known) (sound .parted .sorts) (sound .groups))
 
         took-none : (es ps : List ℕ) (m : ℕ) → Took ds os es ps n i parts m → parts ≡ 0
             → (opened U es ps m ≡ due n (sortsAt U i) ++ opened T (spent ds n) os n) × Open U es ps (suc i) m

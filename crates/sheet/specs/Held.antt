@@ -1,6 +1,6 @@
 -- What the loaded lines hold: each line its record, and all of them the sheet's tree.
 use Prim.Native.Nat.{ℕ, zero, suc, _+_, _<_, _≤_}
-use mathlib.Core.List.{List, [], _∷_}
+use mathlib.Core.List.{List, [], _∷_, _++_}
 use mathlib.Core.Path.{_≡_}
 use lib.ListN.{length, getD}
 use Rattle.sheet.specs.Grammar as grammar
@@ -68,11 +68,15 @@ pub record Spells (s S : List ℕ) (i : ℕ) (l : line.Line) : Type 0 where
 abbrev pub Among : grammar.Sort → ℕ → Type 0
 Among s k = (grammar.first s ≤ k) × (k < grammar.first s + length (grammar.rows s))
 
+-- the parts of a line: those that its record always has, and those that its fields tell
+pub record Parted (l : line.Line) : Type 0 where
+  pub sorts : sortsIn (l .parts) ≡ groupSorts (grammar.rowOf (l .kind))
+  pub always : (gs : List (ℕ × grammar.Sort)) × (l .parts ≡ grammar.rowOf (l .kind) .always ++ gs)
+
 mutual
   -- a tree where a sort is due: its record may stand there, and its parts are of the sorts that the record tells
   pub data Formed : grammar.Sort → Node → Type 0 where
-    formed : {s : grammar.Sort} {i : ℕ} {l : line.Line} {ps : Nodes} → Among s (l .kind) → sortsIn (l .parts) ≡ groupSorts (grammar.rowOf (l .kind))
-        → FormedAll (sorts (l .parts)) ps → Formed s (node i l ps)
+    formed : {s : grammar.Sort} {i : ℕ} {l : line.Line} {ps : Nodes} → Among s (l .kind) → Parted l → FormedAll (sorts (l .parts)) ps → Formed s (node i l ps)
 
   pub data FormedAll : List grammar.Sort → Nodes → Type 0 where
     none-due : FormedAll [] nil
