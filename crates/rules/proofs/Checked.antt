@@ -1,0 +1,306 @@
+-- The whole of `check` from a table of zeros, with kept types: what the rules say, and the marks of their askings. Assumes nothing.
+use mathlib.Core.Path.{_≡_, refl, sym, _∙_, ap}
+use mathlib.Core.List.{List, [], _∷_, _++_}
+use mathlib.Core.Bool.{Bool, true, false, cond}
+use mathlib.Core.Option.{Option, none, some}
+use mathlib.Core.Logic.{inl}
+use Prim.Native.Nat.{ℕ, zero, suc, _<_, _≤_, _+_}
+use native.Mathlib.Omega.{arith}
+use lib.Dec.{ltb}
+use lib.ListN.{length, getD, replicate, length-replicate}
+use borrow.Author.Tests.{lt-ltb, le-ltb}
+use Rattle.sheet.specs.Line.{Line}
+use Rattle.sheet.specs.Load.{Loaded, lines, refused as unread, load}
+use Rattle.sheet.specs.Tree.{build as trees}
+use Rattle.rules.specs.Text.{Name}
+use Rattle.rules.specs.Ast.{Expr, Param, Field, Event, Clause, Entry, Stmt, guard, bind, emit, assign, do', Item, state, event, invariant, genesis, entry, line, contractOf}
+use Rattle.rules.specs.Asking.{Ty, Int, Rule, ret, _>>=_, _>>_, Out, fresh, Res, ok, refused, forEach, ifSome}
+use Rattle.rules.specs.Kept.{kept, marks}
+use Rattle.rules.specs.Model.{Model, itemModel, joined, build}
+use Rattle.rules.specs.Typing.{Env, new, inGenesis, bound, stale, tyOf}
+use Rattle.rules.specs.Statements.{expectPredicate}
+use Rattle.rules.specs.KeyKinds.{present, clauseExprs, bodyExprs, entryExprs}
+use Rattle.rules.specs.Check.{paramTypes, checkEntry, checkField, checkDefault, checkGenesis, beforeEntries, check}
+use Rattle.rules.specs.Verdict.{modelOf, ruled, judge, verdict, keptJudge, keptVerdict}
+use Rattle.rules.proofs.Keeps.{zeros, keeps}
+use Rattle.rules.proofs.Coherence.{C, c-then, c-some, Fits}
+use Rattle.rules.proofs.Lines.{next, Numbered, ends, outAt, fits}
+use Rattle.rules.proofs.Silent.{CEach, s-each, s-for, s-storable, s-digest, s-guardian, s-event-param, s-entry-param, s-key-kinds}
+use Rattle.rules.proofs.Whole.{FitsEach, FitsBody, fits-append, w-predicate, w-entry, w-default, w-genesis}
+use Rattle.rules.proofs.Ordered.{Ordered, defaults, itemExprs, allExprs, ordered}
+
+-- An expression, with the surroundings in which its type is asked.
+abbrev Pair : Type 0
+Pair = Env × Expr
+
+abbrev exprs : List Pair → List Expr
+exprs [] = []
+exprs (p ∷ ps) = p .1 ∷ exprs ps
+
+abbrev withEnv : Env → List Expr → List Pair
+withEnv Γ [] = []
+withEnv Γ (e ∷ es) = (Γ, e) ∷ withEnv Γ es
+
+-- the surroundings after a `let` whose value came to r
+abbrev boundR : Env → Name → Res Ty → Env
+boundR Γ x (ok t) = bound Γ x t
+boundR Γ x (refused r) = Γ
+
+abbrev bodyPairs : Env → List Stmt → List Pair
+bodyPairs Γ [] = []
+bodyPairs Γ (guard e ∷ ss) = (Γ, e) ∷ bodyPairs Γ ss
+bodyPairs Γ (bind x v ∷ ss) = (Γ, v) ∷ bodyPairs (boundR Γ x (fresh (tyOf Γ v) .res)) ss
+bodyPairs Γ (emit x es ∷ ss) = withEnv Γ es ++ bodyPairs Γ ss
+bodyPairs Γ (assign s o t v ∷ ss) = (Γ, t) ∷ (Γ, v) ∷ bodyPairs Γ ss
+bodyPairs Γ (do' e ∷ ss) = (Γ, e) ∷ bodyPairs Γ ss
+
+abbrev entryEnv : Model → Entry → Env
+entryEnv M en = new M (paramTypes (en .params))
+
+abbrev itemPairs : Model → Item → List Pair
+itemPairs M (state fs) = withEnv (new M []) (defaults fs)
+itemPairs M (event e) = []
+itemPairs M (invariant e) = (new M [], e) ∷ []
+itemPairs M (genesis ss) = withEnv (inGenesis (new M [])) (bodyExprs ss)
+itemPairs M (entry en) = withEnv (entryEnv M en) (clauseExprs (en .clauses)) ++ bodyPairs (entryEnv M en) (en .body)
+
+abbrev allPairs : Model → List Item → List Pair
+allPairs M [] = []
+allPairs M (i ∷ is') = itemPairs M i ++ allPairs M is'
+
+-- ------------------------------------------------------------ the pairs' expressions are those of the sheet, in order
+
+exprs-append : (ps qs : List Pair) → exprs (ps ++ qs) ≡ exprs ps ++ exprs qs
+exprs-append [] qs = refl
+exprs-append (p ∷ ps) qs = ap (λ l. p .1 ∷ l) (exprs-append ps qs)
+
+exprs-with : (Γ : Env) (es : List Expr) → exprs (withEnv Γ es) ≡ es
+exprs-with Γ [] = refl
+exprs-with Γ (e ∷ es) = ap (λ l. e ∷ l) (exprs-with Γ es)
+
+exprs-body : (Γ : Env) (ss : List Stmt) → exprs (bodyPairs Γ ss) ≡ bodyExprs ss
+unfolding bodyExprs
+exprs-body Γ [] = refl
+exprs-body Γ (guard e ∷ ss) = ap (λ l. e ∷ l) (exprs-body Γ ss)
+exprs-body Γ (bind x v ∷ ss) = ap (λ l. v ∷ l) (exprs-body _ ss)
+exprs-body Γ (emit x es ∷ ss) = exprs-append (withEnv Γ es) _ ∙ rw (exprs-with Γ es, exprs-body Γ ss)
+exprs-body Γ (assign s o t v ∷ ss) = ap (λ l. t ∷ v ∷ l) (exprs-body Γ ss)
+exprs-body Γ (do' e ∷ ss) = ap (λ l. e ∷ l) (exprs-body Γ ss)
+
+exprs-item : (M : Model) (i : Item) → exprs (itemPairs M i) ≡ itemExprs i
+unfolding entryExprs
+exprs-item M (state fs) = exprs-with _ _
+exprs-item M (event e) = refl
+exprs-item M (invariant e) = refl
+exprs-item M (genesis ss) = exprs-with _ _
+exprs-item M (entry en) = exprs-append (withEnv (entryEnv M en) (clauseExprs (en .clauses))) _ ∙ rw (exprs-with (entryEnv M en) (clauseExprs (en .clauses)), exprs-body (entryEnv M en) (en .body))
+
+exprs-all : (M : Model) (is' : List Item) → exprs (allPairs M is') ≡ allExprs is'
+exprs-all M [] = refl
+exprs-all M (i ∷ is') = exprs-append (itemPairs M i) _ ∙ rw (exprs-item M i, exprs-all M is')
+
+-- ------------------------------------------------------------ no `let` is bound later than its own statement
+
+abbrev Plain : List Pair → Type 0
+Plain [] = Unit
+Plain (p ∷ ps) = (p .0 .later ≡ []) × Plain ps
+
+plain-append : (ps qs : List Pair) → Plain ps → Plain qs → Plain (ps ++ qs)
+plain-append [] qs h k = k
+plain-append (p ∷ ps) qs h k = (h .0, plain-append ps qs (h .1) k)
+
+plain-with : (Γ : Env) (es : List Expr) → Γ .later ≡ [] → Plain (withEnv Γ es)
+plain-with Γ [] h = tt
+plain-with Γ (e ∷ es) h = (h, plain-with Γ es h)
+
+plain-bound : (Γ : Env) (x : Name) (r : Res Ty) → Γ .later ≡ [] → boundR Γ x r .later ≡ []
+unfolding bound
+plain-bound Γ x (ok t) h = h
+plain-bound Γ x (refused r) h = h
+
+plain-body : (Γ : Env) (ss : List Stmt) → Γ .later ≡ [] → Plain (bodyPairs Γ ss)
+plain-body Γ [] h = tt
+plain-body Γ (guard e ∷ ss) h = (h, plain-body Γ ss h)
+plain-body Γ (bind x v ∷ ss) h = (h, plain-body _ ss (plain-bound Γ x (fresh (tyOf Γ v) .res) h))
+plain-body Γ (emit x es ∷ ss) h = plain-append (withEnv Γ es) _ (plain-with Γ es h) (plain-body Γ ss h)
+plain-body Γ (assign s o t v ∷ ss) h = (h, (h, plain-body Γ ss h))
+plain-body Γ (do' e ∷ ss) h = (h, plain-body Γ ss h)
+
+plain-item : (M : Model) (i : Item) → Plain (itemPairs M i)
+unfolding new inGenesis
+plain-item M (state fs) = plain-with (new M []) (defaults fs) refl
+plain-item M (event e) = tt
+plain-item M (invariant e) = (refl, tt)
+plain-item M (genesis ss) = plain-with (inGenesis (new M [])) (bodyExprs ss) refl
+plain-item M (entry en) =
+    plain-append (withEnv (entryEnv M en) (clauseExprs (en .clauses))) (bodyPairs (entryEnv M en) (en .body)) (plain-with (entryEnv M en) (clauseExprs (en .clauses)) refl)
+    (plain-body (entryEnv M en) (en .body) refl)
+
+plain-all : (M : Model) (is' : List Item) → Plain (allPairs M is')
+plain-all M [] = tt
+plain-all M (i ∷ is') = plain-append (itemPairs M i) _ (plain-item M i) (plain-all M is')
+
+-- ------------------------------------------------------------ what typing each line comes to
+
+abbrev outOf : List Pair → ℕ → Out Ty
+outOf [] x = fresh (ret Int)
+outOf (p ∷ ps) x = cond (ltb x (next (p .1))) (outAt (p .0) (p .1) x) (outOf ps x)
+
+ordered-most : (i j : ℕ) (es : List Expr) → Ordered i j es → i ≤ j
+ordered-most i j [] h = h
+ordered-most i j (e ∷ es) h = let a = ends e (h .1) in let b = ordered-most (next e) j es (h .2) in let c = h .0 in omega arith
+
+module _ (m : ℕ → Out Ty) (n : ℕ) where
+  abbrev EachFits : List Pair → Type 0
+  EachFits [] = Unit
+  EachFits (p ∷ ps) = Fits m n (p .0) (p .1) × EachFits ps
+
+  fits-pairs : (ps : List Pair) (i j : ℕ) → Ordered i j (exprs ps) → j ≤ n → Plain ps → ((x : ℕ) → i ≤ x → x < j → m x ≡ outOf ps x) → EachFits ps
+  unfolding stale
+  fits-pairs [] i j o b p f = tt
+  fits-pairs (p ∷ ps) i j o b q f =
+      let e = p .1 in
+      let a = ends e (o .1) in
+      let c = ordered-most (next e) j (exprs ps) (o .2) in
+      let d = o .0 in (
+        fits m n (p .0) (λ y. rw (q .0)) e (o .1) (omega arith)
+            (λ x u v. f x (omega arith) (omega arith) ∙ rw (lt-ltb x (next e) v)),
+        fits-pairs ps (next e) j (o .2) b (q .1) (λ x u v. f x (omega arith) v ∙ rw (le-ltb x (next e) u)),
+      )
+
+  each-append : (ps qs : List Pair) → EachFits (ps ++ qs) → EachFits ps × EachFits qs
+  each-append [] qs h = (tt, h)
+  each-append (p ∷ ps) qs h = let r = each-append ps qs (h .1) in ((h .0, r .0), r .1)
+
+  each-with : (Γ : Env) (es : List Expr) → EachFits (withEnv Γ es) → FitsEach m n Γ es
+  each-with Γ [] h = tt
+  each-with Γ (e ∷ es) h = (h .0, each-with Γ es (h .1))
+
+  each-body : (Γ : Env) (ss : List Stmt) → EachFits (bodyPairs Γ ss) → FitsBody m n Γ ss
+  each-body Γ [] h = tt
+  each-body Γ (guard e ∷ ss) h = (h .0, each-body Γ ss (h .1))
+  each-body Γ (bind x v ∷ ss) h = (h .0, λ t q. each-body (bound Γ x t) ss (rw q at (h .1)))
+  each-body Γ (emit x es ∷ ss) h = let r = each-append (withEnv Γ es) _ h in (each-with Γ es (r .0), each-body Γ ss (r .1))
+  each-body Γ (assign s o t v ∷ ss) h = (h .0, h .1 .0, each-body Γ ss (h .1 .1))
+  each-body Γ (do' e ∷ ss) h = (h .0, each-body Γ ss (h .1))
+
+  fits-both : (Γ : Env) (as' bs : List Expr) → FitsEach m n Γ as' → FitsEach m n Γ bs → FitsEach m n Γ (as' ++ bs)
+  fits-both Γ [] bs h k = k
+  fits-both Γ (a ∷ as') bs h k = (h .0, fits-both Γ as' bs (h .1) k)
+
+  ceach-append : {A : Type 0} (f : A → Rule Unit) (as' bs : List A) → CEach m n f as' → CEach m n f bs → CEach m n f (as' ++ bs)
+  ceach-append f [] bs h k = k
+  ceach-append f (a ∷ as') bs h k = (h .0, ceach-append f as' bs (h .1) k)
+
+  -- ------------------------------------------------------------ `check` is coherent where every expression fits
+
+  c-default : (M : Model) (f : Field) (o : Option Expr) → FitsEach m n (new M []) (present o) → C m n (ifSome o (checkDefault (new M []) f))
+  unfolding ifSome present
+  c-default M f none h = tt
+  c-default M f (some v) h = w-default m n M f v (h .0)
+
+  c-field : (M : Model) (f : Field) → FitsEach m n (new M []) (present (f .default)) → C m n (checkField (new M []) f)
+  unfolding checkField
+  c-field M f h = c-then m n _ _ (s-storable m n (f .ty)) (c-then m n _ _ (s-digest m n (f .name) (f .ty)) (c-default M f (f .default) h))
+
+  c-fields : (M : Model) (fs : List Field) → FitsEach m n (new M []) (defaults fs) → CEach m n (checkField (new M [])) fs
+  c-fields M [] h = tt
+  c-fields M (f ∷ fs) h = let r = fits-append m n (new M []) (present (f .default)) (defaults fs) h in (c-field M f (r .0), c-fields M fs (r .1))
+
+  c-genesis : (Γ : Env) (ss : List Stmt) → FitsEach m n Γ (bodyExprs ss) → CEach m n (checkGenesis Γ) ss
+  unfolding bodyExprs
+  c-genesis Γ [] h = tt
+  c-genesis Γ (guard e ∷ ss) h = (w-genesis m n Γ (guard e) (h .0, tt), c-genesis Γ ss (h .1))
+  c-genesis Γ (bind x v ∷ ss) h = (w-genesis m n Γ (bind x v) (h .0, tt), c-genesis Γ ss (h .1))
+  c-genesis Γ (emit x es ∷ ss) h =
+      let r = fits-append m n Γ es (bodyExprs ss) h in
+      (w-genesis m n Γ (emit x es) (fits-both Γ es [] (r .0) tt), c-genesis Γ ss (r .1))
+  c-genesis Γ (assign s o t v ∷ ss) h = (w-genesis m n Γ (assign s o t v) (h .0, (h .1 .0, tt)), c-genesis Γ ss (h .1 .1))
+  c-genesis Γ (do' e ∷ ss) h = (w-genesis m n Γ (do' e) (h .0, tt), c-genesis Γ ss (h .1))
+
+  c-item-entry : (M : Model) (en : Entry) → EachFits (itemPairs M (entry en)) → C m n (checkEntry M en)
+  c-item-entry M en h =
+      let r = each-append (withEnv (entryEnv M en) (clauseExprs (en .clauses))) (bodyPairs (entryEnv M en) (en .body)) h in
+      w-entry m n M en (each-with (entryEnv M en) (clauseExprs (en .clauses)) (r .0)) (each-body (entryEnv M en) (en .body) (r .1))
+
+  -- what `check` goes through, list by list
+  record Parts (M : Model) (is' : List Item) : Type 0 where
+    fields : CEach m n (checkField (new M [])) (build is' .fields)
+    invariants : CEach m n (expectPredicate (new M [])) (build is' .invariants)
+    entries : CEach m n (checkEntry M) (build is' .entries)
+    genesis : CEach m n (checkGenesis (inGenesis (new M []))) (build is' .genesis)
+
+  parts : (M : Model) (is' : List Item) → EachFits (allPairs M is') → Parts M is'
+  unfolding build joined itemModel
+  parts M [] h = record { fields = tt; invariants = tt; entries = tt; genesis = tt }
+  parts M (state fs ∷ is') h =
+      let r = each-append (withEnv (new M []) (defaults fs)) (allPairs M is') h in
+      let p = parts M is' (r .1) in
+      record {
+        fields = ceach-append (checkField (new M [])) fs (build is' .fields) (c-fields M fs (each-with (new M []) (defaults fs) (r .0))) (p .fields);
+        invariants = p .invariants;
+        entries = p .entries;
+        genesis = p .genesis;
+      }
+  parts M (event e ∷ is') h =
+      let p = parts M is' h in
+      record { fields = p .fields; invariants = p .invariants; entries = p .entries; genesis = p .genesis }
+  parts M (invariant e ∷ is') h =
+      let p = parts M is' (h .1) in
+      record { fields = p .fields; invariants = (w-predicate m n (new M []) e (h .0), p .invariants); entries = p .entries; genesis = p .genesis }
+  parts M (genesis ss ∷ is') h =
+      let Γ = inGenesis (new M []) in
+      let r = each-append (withEnv Γ (bodyExprs ss)) (allPairs M is') h in
+      let p = parts M is' (r .1) in
+      record {
+        fields = p .fields;
+        invariants = p .invariants;
+        entries = p .entries;
+        genesis = ceach-append (checkGenesis Γ) ss (build is' .genesis) (c-genesis Γ ss (each-with Γ (bodyExprs ss) (r .0))) (p .genesis);
+      }
+  parts M (entry en ∷ is') h =
+      let r = each-append (itemPairs M (entry en)) (allPairs M is') h in
+      let p = parts M is' (r .1) in
+      record { fields = p .fields; invariants = p .invariants; entries = (c-item-entry M en (r .0), p .entries); genesis = p .genesis }
+
+  c-check : (is' : List Item) → EachFits (allPairs (build is') is') → C m n (check (build is'))
+  unfolding check beforeEntries
+  c-check is' h =
+      let M = build is' in
+      let p = parts M is' h in
+      c-then m n _ _
+      (c-then m n _ _ (s-each m n _ _ (p .fields))
+      (c-then m n _ _ (s-for m n _ _ (λ e. s-for m n _ _ (s-event-param m n)))
+      (c-then m n _ _ (s-for m n _ _ (λ f. s-guardian m n (f .ty)))
+      (c-then m n _ _ (s-for m n _ _ (λ e. s-for m n _ _ (s-entry-param m n)))
+      (s-each m n _ _ (p .invariants))))))
+      (c-then m n _ _ (s-each m n _ _ (p .entries))
+      (c-then m n _ _ (s-key-kinds m n M) (s-each m n _ _ (p .genesis))))
+
+-- ------------------------------------------------------------ demand 3
+
+abbrev Kept≡Fresh : (n : ℕ) → Rule Unit → Type 0
+Kept≡Fresh n p = (kept p (replicate n 0) .res ≡ fresh p .res) × (kept p (replicate n 0) .table ≡ marks (replicate n 0) (fresh p .log))
+
+check-kept : (n : ℕ) (is' : List Item) → Ordered 0 n (allExprs is') → Kept≡Fresh n (check (build is'))
+check-kept n is' o =
+    let M = build is' in
+    let m : ℕ → Out Ty = outOf (allPairs M is') in
+    let f = fits-pairs m n (allPairs M is') 0 n (rw (exprs-all M is') o) (omega arith) (plain-all M is') (λ x u v. refl) in
+    let k = keeps m n (check M) (replicate n 0) (c-check m n is' f) (length-replicate n 0) (λ l. inl (zeros n l)) in
+    (k .res, k .table)
+
+-- On a sheet that is read, from a table of zeros: with kept types `check` comes to what it comes to with fresh ones, and the table is
+-- afterwards the marks of the rules' askings.
+pub sheet-kept : (s : List ℕ) (types scratch : ℕ) (ls : List Line) → load s types scratch ≡ lines ls → Kept≡Fresh (length ls) (check (modelOf ls))
+unfolding modelOf
+sheet-kept s types scratch ls h = check-kept (length ls) (contractOf (trees 0 ls)) (ordered s types scratch ls h)
+
+-- So the whole answer may be told from the kept types.
+pub verdict-kept : (s : List ℕ) (types scratch message : ℕ) → verdict s types scratch message ≡ keptVerdict s types scratch message
+unfolding verdict keptVerdict judge keptJudge ruled
+verdict-kept s types scratch message = go (load s types scratch) (sheet-kept s types scratch)
+  where
+    go : (o : Loaded) → ((ls : List Line) → o ≡ lines ls → Kept≡Fresh (length ls) (check (modelOf ls))) → judge message o ≡ keptJudge message o
+    go (unread n i) f = refl
+    go (lines ls) f = let k = f ls refl in rw (k .0, k .1)

@@ -1,0 +1,12 @@
+pub mod Cases
+pub mod Keeps
+pub mod Marks
+pub mod AnyTable
+pub mod Coherence
+pub mod Lines
+pub mod Silent
+pub mod Whole
+pub mod Parts
+pub mod Placed
+pub mod Ordered
+pub mod Checked

@@ -1,0 +1,153 @@
+-- Expressions whose lines are numbered as a sheet numbers them: a record's parts follow it directly.
+-- Then a map m as `Coherence` wants it is there, and the typing of an expression with kept types is what the rules say.
+use mathlib.Core.Path.{_≡_, refl, sym, _∙_, ap}
+use mathlib.Core.List.{List, [], _∷_}
+use mathlib.Core.Bool.{Bool, true, false, cond}
+use mathlib.Core.Logic.{_⊎_, inl, inr}
+use Prim.Native.Nat.{ℕ, _<_, _≤_, _+_, suc}
+use native.Mathlib.Omega.{arith}
+use lib.Dec.{eqb, ltb}
+use lib.ListN.{length, getD}
+use borrow.Author.Tests.{eq-eqb, ne-eqb, lt-ltb, le-ltb}
+use Rattle.rules.specs.Ast.{Expr, leaf, unary, binary, field, call, wrap, Exprs, nil, more, line}
+use Rattle.rules.specs.Asking.{Ty, Int, Rule, ret, Out, fresh}
+use Rattle.rules.specs.Typing.{Env, stale, typing, tyOf}
+use Rattle.rules.specs.Kept.{Table, kept, marks}
+use Rattle.rules.proofs.Keeps.{Coherent, Consistent, Keeps, keeps}
+use Rattle.rules.proofs.Coherence.{Fits, FitsAll, Here, c-tyOf}
+
+-- the first line after the expression
+abbrev mutual
+  pub next : Expr → ℕ
+  next (leaf l s k) = suc l
+  next (unary l s o e) = next e
+  next (binary l s o a b) = next b
+  next (field l s e x k) = next e
+  next (call l s c es) = nexts (next c) es
+  next (wrap l s w e) = next e
+
+  pub nexts : ℕ → Exprs → ℕ
+  nexts i nil = i
+  nexts i (more e es) = nexts (next e) es
+
+abbrev mutual
+  pub Numbered : Expr → Type 0
+  Numbered (leaf l s k) = Unit
+  Numbered (unary l s o e) = (line e ≡ suc l) × Numbered e
+  Numbered (binary l s o a b) = (line a ≡ suc l) × (line b ≡ next a) × Numbered a × Numbered b
+  Numbered (field l s e x k) = (line e ≡ suc l) × Numbered e
+  Numbered (call l s c es) = (line c ≡ suc l) × Numbered c × NumberedFrom (next c) es
+  Numbered (wrap l s w e) = (line e ≡ suc l) × Numbered e
+
+  pub NumberedFrom : ℕ → Exprs → Type 0
+  NumberedFrom i nil = Unit
+  NumberedFrom i (more e es) = (line e ≡ i) × Numbered e × NumberedFrom (next e) es
+
+mutual
+  unfolding line
+
+  pub ends : (e : Expr) → Numbered e → line e < next e
+  ends (leaf l s k) h = omega arith
+  ends (unary l s o e) h = omega (arith, ends e (h .1))
+  ends (binary l s o a b) h = omega (arith, ends a (h .2), ends b (h .3))
+  ends (field l s e x k) h = omega (arith, ends e (h .1))
+  ends (call l s c es) h = omega (arith, ends c (h .1), ends-all (next c) es (h .2))
+  ends (wrap l s w e) h = omega (arith, ends e (h .1))
+
+  pub ends-all : (i : ℕ) (es : Exprs) → NumberedFrom i es → i ≤ nexts i es
+  ends-all i nil h = omega arith
+  ends-all i (more e es) h = omega (arith, ends e (h .1), ends-all (next e) es (h .2))
+
+-- what typing line i of the expression comes to
+abbrev mutual
+  pub outAt : Env → Expr → ℕ → Out Ty
+  outAt Γ (leaf l s k) i = fresh (typing Γ (leaf l s k))
+  outAt Γ (unary l s o e) i = cond (eqb i l) (fresh (typing Γ (unary l s o e))) (outAt Γ e i)
+  outAt Γ (binary l s o a b) i = cond (eqb i l) (fresh (typing Γ (binary l s o a b))) (cond (ltb i (next a)) (outAt Γ a i) (outAt Γ b i))
+  outAt Γ (field l s e x k) i = fresh (typing Γ (field l s e x k))
+  outAt Γ (call l s c es) i = cond (eqb i l) (fresh (typing Γ (call l s c es))) (outsAt Γ es i)
+  outAt Γ (wrap l s w e) i = cond (eqb i l) (fresh (typing Γ (wrap l s w e))) (outAt Γ e i)
+
+  pub outsAt : Env → Exprs → ℕ → Out Ty
+  outsAt Γ nil i = fresh (ret Int)
+  outsAt Γ (more e es) i = cond (ltb i (next e)) (outAt Γ e i) (outsAt Γ es i)
+
+at-line : {A : Type 0} (l : ℕ) (x y : A) → cond (eqb l l) x y ≡ x
+at-line l x y = rw (eq-eqb l l refl)
+
+off-line : {A : Type 0} (i l : ℕ) (x y : A) → l < i → cond (eqb i l) x y ≡ y
+off-line i l x y h = rw (ne-eqb i l (λ e. omega arith))
+
+before : {A : Type 0} (i j : ℕ) (x y : A) → i < j → cond (ltb i j) x y ≡ x
+before i j x y h = rw (lt-ltb i j h)
+
+behind : {A : Type 0} (i j : ℕ) (x y : A) → j ≤ i → cond (ltb i j) x y ≡ y
+behind i j x y h = rw (le-ltb i j h)
+
+-- m says of each line from i up to j what f says
+abbrev pub Says : (ℕ → Out Ty) → (ℕ → Out Ty) → ℕ → ℕ → Type 0
+Says m f i j = (x : ℕ) → i ≤ x → x < j → m x ≡ f x
+
+module _ (m : ℕ → Out Ty) where
+  pub here : (l j : ℕ) (x : Out Ty) (g : ℕ → Out Ty) → l < j → Says m (λ i. cond (eqb i l) x (g i)) l j → x ≡ m l
+  here l j x g h f = sym (f l (omega arith) h ∙ at-line l x (g l))
+
+  pub within : (l j a b : ℕ) (x : Out Ty) (g : ℕ → Out Ty) → l < a → b ≤ j → Says m (λ i. cond (eqb i l) x (g i)) l j → Says m g a b
+  within l j a b x g p q f i u v = f i (omega arith) (omega arith) ∙ off-line i l x (g i) (omega arith)
+
+  pub first : (k a b : ℕ) (g h : ℕ → Out Ty) → k ≤ b → Says m (λ i. cond (ltb i k) (g i) (h i)) a b → Says m g a k
+  first k a b g h p f i u v = f i u (omega arith) ∙ before i k (g i) (h i) v
+
+  pub rest : (k a b c : ℕ) (g h : ℕ → Out Ty) → a ≤ k → k ≤ c → Says m (λ i. cond (ltb i k) (g i) (h i)) a b → Says m h c b
+  rest k a b c g h p q f i u v = f i (omega arith) v ∙ behind i k (g i) (h i) (omega arith)
+
+module _ (m : ℕ → Out Ty) (n : ℕ) (Γ : Env) (now : (e : Expr) → stale (Γ .later) e ≡ false) where
+  mutual
+    unfolding line
+
+    pub fits : (e : Expr) → Numbered e → next e ≤ n → Says m (outAt Γ e) (line e) (next e) → Fits m n Γ e
+    fits (leaf l s k) h b f = (sym (f l (omega arith) (omega arith)), omega arith, now _)
+    fits (unary l s o e) h b f =
+        let z = ends e (h .1) in
+        let j : l < next e = omega arith in
+        ((here m l (next e) _ (outAt Γ e) j f, omega arith, now _), fits e (h .1) b (within m l (next e) (line e) (next e) _ _ (omega arith) (omega arith) f))
+    fits (binary l s o a c) h b f =
+        let z = ends a (h .2) in
+        let y = ends c (h .3) in
+        let j : l < next c = omega arith in
+        let g : Says m (λ i. cond (ltb i (next a)) (outAt Γ a i) (outAt Γ c i)) (line a) (next c) =
+        within m l (next c) (line a) (next c) _ _ (omega arith) (omega arith) f
+        in (
+          (here m l (next c) _ _ j f, omega arith, now _),
+          fits a (h .2) (omega arith) (first m (next a) (line a) (next c) (outAt Γ a) (outAt Γ c) (omega arith) g),
+          fits c (h .3) b (rest m (next a) (line a) (next c) (line c) (outAt Γ a) (outAt Γ c) (omega arith) (omega arith) g),
+        )
+    fits (field l s e x k) h b f = let z = ends e (h .1) in (sym (f l (omega arith) (omega arith)), omega arith, now _)
+    fits (call l s c es) h b f =
+        let z = ends c (h .1) in
+        let y = ends-all (next c) es (h .2) in
+        let j : l < nexts (next c) es = omega arith in (
+          (here m l (nexts (next c) es) _ (outsAt Γ es) j f, omega arith, now _),
+          fits-all (next c) es (h .2) b (within m l (nexts (next c) es) (next c) (nexts (next c) es) _ _ (omega arith) (omega arith) f),
+        )
+    fits (wrap l s w e) h b f =
+        let z = ends e (h .1) in
+        let j : l < next e = omega arith in
+        ((here m l (next e) _ (outAt Γ e) j f, omega arith, now _), fits e (h .1) b (within m l (next e) (line e) (next e) _ _ (omega arith) (omega arith) f))
+
+    pub fits-all : (i : ℕ) (es : Exprs) → NumberedFrom i es → nexts i es ≤ n → Says m (outsAt Γ es) i (nexts i es) → FitsAll m n Γ es
+    fits-all i nil h b f = tt
+    fits-all i (more e es) h b f =
+        let z = ends e (h .1) in
+        let y = ends-all (next e) es (h .2) in
+        let g : Says m (λ x. cond (ltb x (next e)) (outAt Γ e x) (outsAt Γ es x)) (line e) (nexts (next e) es) = λ x u v. f x (omega arith) v in (
+          fits e (h .1) (omega arith) (first m (next e) (line e) (nexts (next e) es) (outAt Γ e) (outsAt Γ es) (omega arith) g),
+          fits-all (next e) es (h .2) b
+              (rest m (next e) (line e) (nexts (next e) es) (next e) (outAt Γ e) (outsAt Γ es) (omega arith) (omega arith) g),
+        )
+
+-- Demand 3, for one expression: typed with kept types on a consistent table, it comes to what the rules say, and the table
+-- has the marks of the rules' askings.
+pub typed-kept : (Γ : Env) → ((e : Expr) → stale (Γ .later) e ≡ false) → (e : Expr) (T : Table) → Numbered e → next e ≤ length T → Consistent (outAt Γ e) T → Keeps (outAt Γ e) (tyOf Γ e) T
+typed-kept Γ now e T h b w =
+    keeps (outAt Γ e) (length T) (tyOf Γ e) T (c-tyOf (outAt Γ e) (length T) Γ e (fits (outAt Γ e) (length T) Γ now e h b (λ x u v. refl))) refl w

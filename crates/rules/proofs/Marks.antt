@@ -1,0 +1,82 @@
+-- The marks that a rule's askings leave are document 01's codes of the lines. Assumes nothing.
+use mathlib.Core.Path.{_≡_, refl, sym, _∙_, ap}
+use mathlib.Core.Logic.{_≢_}
+use mathlib.Core.List.{List, [], _∷_, _++_}
+use mathlib.Core.Bool.{Bool, true, false, _||_, _&&_, cond}
+use Prim.Native.Nat.{ℕ, zero, suc, _<_}
+use native.Mathlib.Omega.{arith}
+use lib.Dec.{eqb}
+use lib.ListN.{length, getD, set, replicate, length-replicate, length-set}
+use lib.Seq.{getD-set-same, getD-set-other}
+use borrow.Author.Tests.{eqb-true, eqb-false, eq-eqb, ne-eqb}
+use Rattle.rules.specs.Asking.{Ty, Int, Boolean, Address, Asset, Word64, TName, Time, Str, Collection, Unknown, code, Res, ok, refused, Rule, ret, refuse, ask, Asking, Out, ended, fresh, refusedIn, firstCode, codeOf}
+use Rattle.rules.specs.Kept.{Table, putIf, mark, marks}
+use Rattle.rules.proofs.Keeps.{code-marks, length-marks, zeros}
+
+-- no asking has the code 0
+abbrev pub Coded : List Asking → Type 0
+Coded [] = Unit
+Coded (a ∷ rest) = (eqb (a .1) 0 ≡ false) × Coded rest
+
+coded-append : (a b : List Asking) → Coded a → Coded b → Coded (a ++ b)
+coded-append [] b h k = k
+coded-append (x ∷ a) b h k = (h .0, coded-append a b (h .1) k)
+
+coded-ended : {A : Type 0} (l : ℕ) (r : Res Ty) (a : List Asking) (f : Ty → Out A) → Coded a → ((t : Ty) → Coded (f t .log)) → Coded (ended l r a f .log)
+unfolding ended
+coded-ended l (ok t) a f h k = coded-append a _ h (code-marks t .0, k t)
+coded-ended l (refused r) a f h k = coded-append a _ h (refl, tt)
+
+pub coded : {A : Type 0} (p : Rule A) → Coded (fresh p .log)
+unfolding fresh
+coded (ret a) = tt
+coded (refuse r) = tt
+coded (ask g l p k) = coded-ended l (fresh p .res) (fresh p .log) (λ t. fresh (k t)) (coded p) (λ t. coded (k t))
+
+same-line : (b : Bool) (T : Table) (l c : ℕ) → l < length T → getD (putIf b T l c) l 0 ≡ cond b c (getD T l 0)
+unfolding putIf
+same-line true T l c h = getD-set-same T l c 0 h
+same-line false T l c h = refl
+
+other-line : (b : Bool) (T : Table) (i l c : ℕ) → l ≢ i → getD (putIf b T i c) l 0 ≡ getD T l 0
+unfolding putIf
+other-line true T i l c h = getD-set-other T i l c 0 h
+other-line false T i l c h = refl
+
+-- a line's code after these askings, where it was c before
+abbrev after : ℕ → ℕ → List Asking → ℕ
+after c l as' = cond (refusedIn l as') 11 (cond (eqb c 0) (firstCode l as') c)
+
+step : (z e r : Bool) (c d f : ℕ) → eqb d 0 ≡ z → eqb c 11 ≡ e → eqb c 0 ≡ false
+    → cond r 11 (cond (eqb (cond (z || e) c d) 0) f (cond (z || e) c d)) ≡ cond (e || r) 11 (cond z c d)
+step true true true c d f p q h = refl
+step true true false c d f p q h = rw h (eqb-true c 11 q)
+step true false true c d f p q h = refl
+step true false false c d f p q h = rw h
+step false true true c d f p q h = refl
+step false true false c d f p q h = rw h (eqb-true c 11 q)
+step false false true c d f p q h = refl
+step false false false c d f p q h = rw p
+
+one : (b : Bool) (T : Table) (a : Asking) (rest : List Asking) (l : ℕ) → eqb (a .0) l ≡ b → l < length T → eqb (a .1) 0 ≡ false
+    → after (getD (mark T a) l 0) l rest ≡ after (getD T l 0) l (a ∷ rest)
+unfolding mark refusedIn firstCode
+one true T (i, c) rest l e h k =
+    rw (e, eqb-true i l e, same-line (eqb (getD T l 0) 0 || eqb c 11) T l c h)
+    (step (eqb (getD T l 0) 0) (eqb c 11) (refusedIn l rest) c (getD T l 0) (firstCode l rest) refl refl k)
+one false T (i, c) rest l e h k = rw (e, other-line (eqb (getD T i 0) 0 || eqb c 11) T i l c (λ q. eqb-false i l e (sym q)))
+
+marked : (as' : List Asking) (T : Table) (l : ℕ) → l < length T → Coded as' → getD (marks T as') l 0 ≡ after (getD T l 0) l as'
+unfolding marks refusedIn firstCode
+marked [] T l h k = blank (getD T l 0)
+  where
+    blank : (c : ℕ) → c ≡ cond (eqb c 0) 0 c
+    blank zero = refl
+    blank (suc c) = rw (ne-eqb (suc c) 0 (λ q. omega arith))
+marked (a ∷ rest) T l h k =
+    marked rest (mark T a) l (rw (length-marks T (a ∷ [])) h) (k .1) ∙ one (eqb (a .0) l) T a rest l refl h (k .0)
+
+-- Afterwards a line of the table has its code.
+pub marks-code : {A : Type 0} (p : Rule A) (n l : ℕ) → l < n → getD (marks (replicate n 0) (fresh p .log)) l 0 ≡ codeOf l (fresh p .log)
+unfolding codeOf
+marks-code p n l h = marked (fresh p .log) (replicate n 0) l (rw (length-replicate {A = ℕ} n 0) h) (coded p) ∙ rw (zeros n l)

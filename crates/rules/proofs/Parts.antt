@@ -1,0 +1,43 @@
+-- What the grammar tells of a line's parts, by its kind. Assumes nothing.
+use mathlib.Core.Path.{_≡_, refl}
+use mathlib.Core.List.{List, [], _∷_, _++_}
+use Prim.Native.Nat.{ℕ, zero, suc, _+_, _-_, _<_, _≤_}
+use native.Mathlib.Omega.{arith}
+use Rattle.sheet.specs.Grammar.{Sort, rowOf}
+use Rattle.sheet.specs.Line.{Line}
+use Rattle.sheet.specs.Table.{sortsIn, toldSorts, groupSorts}
+use Rattle.sheet.specs.Held.{Parted}
+
+infixr 5 _also_
+-- P of each of the n numbers from i on
+pub data Each (P : ℕ → Type 0) : ℕ → ℕ → Type 0 where
+  stop : {i : ℕ} → Each P i zero
+  _also_ : {i n : ℕ} → P i → Each P (suc i) n → Each P i (suc n)
+
+pub pick : {P : ℕ → Type 0} {i n : ℕ} (k : ℕ) → Each P i n → i ≤ k → k < i + n → P k
+pick k stop a b = absurd (omega arith)
+pick {P} {i} k (h also hs) a b = go (k - i) refl (λ c. pick k hs c (omega arith))
+  where
+    go : (d : ℕ) → k - i ≡ d → (i < k → P k) → P k
+    go zero e f = rw (let q : k ≡ i = omega arith in q) h
+    go (suc d) e f = f (omega arith)
+
+-- P of groups of parts of these sorts, how many of each
+abbrev pub Groups : List Sort → (List (ℕ × Sort) → Type 0) → Type 0
+Groups [] P = P []
+Groups (s ∷ ss) P = (n : ℕ) × Groups ss (λ gs. P ((n, s) ∷ gs))
+
+groups : (gs : List (ℕ × Sort)) (P : List (ℕ × Sort) → Type 0) → P gs → Groups (sortsIn gs) P
+groups [] P h = h
+groups (g ∷ gs) P h = (g .0, groups gs (λ xs. P ((g .0, g .1) ∷ xs)) h)
+
+told-sorts : (as' gs : List (ℕ × Sort)) (ss : List Sort) → sortsIn (as' ++ gs) ≡ sortsIn as' ++ ss → sortsIn gs ≡ ss
+told-sorts [] gs ss e = e
+told-sorts (a ∷ as') gs ss e = told-sorts as' gs ss cc
+
+-- the parts of a line of kind k
+pub parts : (l : Line) (k : ℕ) → Parted l → l .kind ≡ k → Groups (toldSorts (rowOf k .rules)) (λ gs. l .parts ≡ rowOf k .always ++ gs)
+parts l k p e =
+    let g = p .always in
+    let q : sortsIn (rowOf k .always ++ g .0) ≡ groupSorts (rowOf k) = rw (← e, ← g .1) (p .sorts) in
+    rw (← told-sorts (rowOf k .always) (g .0) (toldSorts (rowOf k .rules)) q) (groups (g .0) (λ gs. l .parts ≡ rowOf k .always ++ gs) (rw (← e) (g .1)))

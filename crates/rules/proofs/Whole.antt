@@ -1,0 +1,148 @@
+-- The whole of `check`, with kept types: what the rules say, and the marks of the rules' askings. Assumes nothing.
+use mathlib.Core.Path.{_≡_, refl, sym, _∙_, ap}
+use mathlib.Core.List.{List, [], _∷_, _++_, map, zip}
+use mathlib.Core.Bool.{Bool, true, false, cond, _&&_}
+use mathlib.Core.Option.{Option, none, some}
+use Prim.Native.Nat.{ℕ, zero, suc, _<_, _≤_, _+_}
+use native.Mathlib.Omega.{arith}
+use lib.Dec.{eqb, ltb, leb}
+use lib.ListN.{length, getD, getElem?}
+use borrow.Author.Tests.{lt-ltb, le-ltb, le-leb, lt-leb}
+use Rattle.rules.specs.Text.{Name}
+use Rattle.rules.specs.Ast.{AssignOp, Expr, leaf, unary, binary, field, call, wrap, Exprs, nil, more, Param, Field, Clause, limits, denies, mints, after, Entry, Stmt, guard, bind, emit, assign, do', Item, state, event, invariant, genesis, entry, line, list}
+use Rattle.rules.specs.Asking.{Ty, Int, Rule, ret, _>>=_, _>>_, Out, fresh, Res, ok, refused, forEach, ifSome}
+use Rattle.rules.specs.Model.{Model}
+use Rattle.rules.specs.Typing.{Env, new, inGenesis, bound, Asked, asked, callOf, stale, typing, typings, askOf, tyOf}
+use Rattle.rules.specs.Statements.{checkEmitField, checkEmitFields, checkAssign, checkKeyedUse, checkStmtTypes, expectPredicate, refuseNameRecipient}
+use Rattle.rules.specs.KeyKinds.{present, clauseExprs, bodyExprs, entryExprs}
+use Rattle.rules.specs.Check.{clausePredicate, checkBody, paramTypes, checkEntry, madeUp, checkDefault, checkField, checkGenesis}
+use Rattle.rules.proofs.Coherence.{C, CA, CAs, rules, c-ret, c-bind, c-bind-at, c-then, c-some, c-expect, c-each, c-keyed, Fits, FitsAll, c-asked, c-typing, c-typings, c-tyOf}
+use Rattle.rules.proofs.Silent.{CEach, s-each, s-for, silent, s-storable, s-digest, s-assign, s-local, s-wrapping, s-clause-assets, s-assets, s-arithmetic}
+
+module _ (m : ℕ → Out Ty) (n : ℕ) where
+  abbrev pub FitsEach : Env → List Expr → Type 0
+  FitsEach Γ [] = Unit
+  FitsEach Γ (e ∷ es) = Fits m n Γ e × FitsEach Γ es
+
+  pub fits-append : (Γ : Env) (as' bs : List Expr) → FitsEach Γ (as' ++ bs) → FitsEach Γ as' × FitsEach Γ bs
+  fits-append Γ [] bs h = (tt, h)
+  fits-append Γ (e ∷ es) bs h = let q = fits-append Γ es bs (h .1) in ((h .0, q .0), q .1)
+
+  w-ask : (Γ : Env) (e : Expr) → Fits m n Γ e → CA m n (askOf Γ e)
+  unfolding askOf
+  w-ask Γ e h = c-asked m n Γ e h (c-typing m n Γ e h)
+
+  pub w-predicate : (Γ : Env) (e : Expr) → Fits m n Γ e → C m n (expectPredicate Γ e)
+  unfolding expectPredicate
+  w-predicate Γ e h = let k = c-tyOf m n Γ e h in search (rules, k)
+
+  w-assign : (Γ : Env) (o : AssignOp) (t v : Asked) → CA m n t → CA m n v → C m n (checkAssign Γ o t v)
+  unfolding checkAssign
+  w-assign Γ o t v h k = search (rules, s-assign)
+
+  w-use : (Γ : Env) (e : Expr) → Fits m n Γ e → C m n (checkKeyedUse Γ e)
+  unfolding checkKeyedUse callOf ifSome
+  w-use Γ (leaf l s k) h = tt
+  w-use Γ (unary l s o e) h = tt
+  w-use Γ (binary l s o a b) h = tt
+  w-use Γ (field l s e x k) h = tt
+  w-use Γ (call l s c es) h = c-keyed m n Γ c (typings Γ es) (c-typings m n Γ es (h .1))
+  w-use Γ (wrap l s w e) h = tt
+
+  w-stmt : (Γ : Env) (o : AssignOp) (s : ℕ) (t v : Expr) → Fits m n Γ t → Fits m n Γ v → C m n (checkStmtTypes Γ (assign s o t v))
+  unfolding checkStmtTypes
+  w-stmt Γ o s t v h k = w-assign Γ o _ _ (w-ask Γ t h) (w-ask Γ v k)
+
+  w-do : (Γ : Env) (e : Expr) → Fits m n Γ e → C m n (checkStmtTypes Γ (do' e))
+  unfolding checkStmtTypes
+  w-do Γ e h = c-bind m n (tyOf Γ e) _ (c-tyOf m n Γ e h) (λ _. w-use Γ e h)
+
+  -- the rule is asked only of what the option holds
+  w-some : {A : Type 0} (o : Option A) (f : A → Rule Unit) → ((a : A) → o ≡ some a → C m n (f a)) → C m n (ifSome o f)
+  unfolding ifSome
+  w-some none f k = tt
+  w-some (some a) f k = k a refl
+
+  fits-at : (Γ : Env) (es : Exprs) (k : ℕ) (a : Expr) → FitsAll m n Γ es → getElem? (list es) k ≡ some a → Fits m n Γ a
+  unfolding list
+  fits-at Γ nil k a h e = absurd (let z : _≡_ {A = ℕ} 0 1 = cc in omega arith)
+  fits-at Γ (more x es) zero a h e = let q : x ≡ a = cc in rw q at (h .0)
+  fits-at Γ (more x es) (suc k) a h e = fits-at Γ es k a (h .1) e
+
+  w-recipient : (Γ : Env) (e : Expr) → Fits m n Γ e → C m n (refuseNameRecipient Γ e)
+  unfolding refuseNameRecipient callOf ifSome
+  w-recipient Γ (leaf l s k) h = tt
+  w-recipient Γ (unary l s o e) h = tt
+  w-recipient Γ (binary l s o a b) h = tt
+  w-recipient Γ (field l s e x k) h = tt
+  w-recipient Γ (call l s c es) h =
+      s-for m n _ _ (λ k. w-some (getElem? (list es) k) _ (λ a q. c-bind m n (tyOf Γ a) _ (c-tyOf m n Γ a (fits-at Γ es k a (h .1) q)) (λ _. c-expect m n _ _ _ _)))
+  w-recipient Γ (wrap l s w e) h = tt
+
+  w-emit-field : (Γ : Env) (e : Expr) (p : Param) → Fits m n Γ e → C m n (checkEmitField Γ e p)
+  unfolding checkEmitField
+  w-emit-field Γ e p h = c-bind m n (tyOf Γ e) _ (c-tyOf m n Γ e h) (λ _. c-expect m n _ _ _ _)
+
+  w-zip : (Γ : Env) (es : List Expr) (ps : List Param) → FitsEach Γ es → CEach m n (λ p. checkEmitField Γ (p .0) (p .1)) (zip es ps)
+  unfolding zip
+  w-zip Γ [] ps h = tt
+  w-zip Γ (e ∷ es) [] h = tt
+  w-zip Γ (e ∷ es) (p ∷ ps) h = (w-emit-field Γ e p (h .0), w-zip Γ es ps (h .1))
+
+  w-emit : (Γ : Env) (x : Name) (es : List Expr) → FitsEach Γ es → C m n (checkEmitFields Γ x es)
+  unfolding checkEmitFields
+  w-emit Γ x es h = c-some m n _ _ (λ d. s-each m n _ _ (w-zip Γ es _ h))
+
+  w-args : (Γ : Env) (es : List Expr) → FitsEach Γ es → C m n (forEach es (λ a. tyOf Γ a >> ret tt))
+  unfolding forEach
+  w-args Γ [] h = tt
+  w-args Γ (e ∷ es) h = c-bind m n (tyOf Γ e >> ret tt) _ (c-then m n (tyOf Γ e) (ret tt) (c-tyOf m n Γ e (h .0)) tt) (λ _. w-args Γ es (h .1))
+
+  -- each expression of the statements fits, with the locals that are bound there
+  abbrev pub FitsBody : Env → List Stmt → Type 0
+  FitsBody Γ [] = Unit
+  FitsBody Γ (guard e ∷ ss) = Fits m n Γ e × FitsBody Γ ss
+  FitsBody Γ (bind x v ∷ ss) = Fits m n Γ v × ((t : Ty) → fresh (tyOf Γ v) .res ≡ ok t → FitsBody (bound Γ x t) ss)
+  FitsBody Γ (emit x es ∷ ss) = FitsEach Γ es × FitsBody Γ ss
+  FitsBody Γ (assign s o t v ∷ ss) = Fits m n Γ t × Fits m n Γ v × FitsBody Γ ss
+  FitsBody Γ (do' e ∷ ss) = Fits m n Γ e × FitsBody Γ ss
+
+  w-body : (Γ : Env) (ss : List Stmt) → FitsBody Γ ss → C m n (checkBody Γ ss)
+  unfolding checkBody
+  w-body Γ [] h = tt
+  w-body Γ (guard e ∷ ss) h = c-then m n _ _ (w-predicate Γ e (h .0)) (w-body Γ ss (h .1))
+  w-body Γ (bind x v ∷ ss) h =
+      c-bind-at m n (tyOf Γ v) _ (c-tyOf m n Γ v (h .0)) (λ t q. c-then m n _ _ (s-local m n v t) (w-body (bound Γ x t) ss (h .1 t q)))
+  w-body Γ (emit x es ∷ ss) h = c-then m n _ _ (w-args Γ es (h .0)) (c-then m n _ _ (w-emit Γ x es (h .0)) (w-body Γ ss (h .1)))
+  w-body Γ (assign s o t v ∷ ss) h = c-then m n _ _ (w-stmt Γ o s t v (h .0) (h .1)) (w-body Γ ss (h .2))
+  w-body Γ (do' e ∷ ss) h = c-then m n _ _ (w-do Γ e (h .0)) (c-then m n _ _ (w-recipient Γ e (h .0)) (w-body Γ ss (h .1)))
+
+  w-clauses : (Γ : Env) (cs : List Clause) → FitsEach Γ (clauseExprs cs) → CEach m n (clausePredicate Γ) cs
+  unfolding clausePredicate clauseExprs
+  w-clauses Γ [] h = tt
+  w-clauses Γ (limits e ∷ cs) h = (w-predicate Γ e (h .0), w-clauses Γ cs (h .1))
+  w-clauses Γ (denies e ∷ cs) h = (w-predicate Γ e (h .0), w-clauses Γ cs (h .1))
+  w-clauses Γ (mints ∷ cs) h = (tt, w-clauses Γ cs h)
+  w-clauses Γ (after t f ∷ cs) h = (tt, w-clauses Γ cs (fits-append Γ (present f) _ (fits-append Γ (present t) _ h .1) .1))
+
+  pub w-entry : (M : Model) (en : Entry) → FitsEach (new M (paramTypes (en .params))) (clauseExprs (en .clauses)) → FitsBody (new M (paramTypes (en .params))) (en .body)
+      → C m n (checkEntry M en)
+  unfolding checkEntry
+  w-entry M en h k =
+      c-then m n _ _ (s-wrapping m n M en)
+      (c-then m n _ _ (s-each m n _ _ (w-clauses _ (en .clauses) h))
+      (c-then m n _ _ (w-body _ (en .body) k)
+      (c-then m n _ _ (s-for m n _ _ (s-clause-assets m n))
+      (c-then m n _ _ (s-for m n _ _ (s-assets m n)) (s-arithmetic m n en _)))))
+
+  pub w-default : (M : Model) (f : Field) (v : Expr) → Fits m n (new M []) v → C m n (checkDefault (new M []) f v)
+  unfolding checkDefault madeUp
+  w-default M f v h = c-then m n _ _ (c-expect m n _ _ _ _) (w-assign _ _ _ _ tt (w-ask _ v h))
+
+  pub w-genesis : (Γ : Env) (s : Stmt) → FitsEach Γ (bodyExprs (s ∷ [])) → C m n (checkGenesis Γ s)
+  unfolding checkGenesis bodyExprs checkStmtTypes
+  w-genesis Γ (guard e) h = c-then m n _ _ tt (s-assets m n (guard e))
+  w-genesis Γ (bind x v) h = c-then m n _ _ tt (s-assets m n (bind x v))
+  w-genesis Γ (emit x es) h = c-then m n _ _ tt (s-assets m n (emit x es))
+  w-genesis Γ (assign s o t v) h = c-then m n _ _ (w-stmt Γ o s t v (h .0) (h .1 .0)) (s-assets m n (assign s o t v))
+  w-genesis Γ (do' e) h = c-then m n _ _ (w-do Γ e (h .0)) (s-assets m n (do' e))

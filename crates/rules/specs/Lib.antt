@@ -1,0 +1,15 @@
+pub mod Text
+pub mod Ast
+pub mod Asking
+pub mod Kept
+pub mod Declared
+pub mod Declarations
+pub mod Model
+pub mod Typing
+pub mod Statements
+pub mod Assets
+pub mod Arithmetic
+pub mod KeyKinds
+pub mod Check
+pub mod Verdict
+pub mod Computed
