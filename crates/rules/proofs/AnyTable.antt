@@ -1,15 +1,14 @@
 -- What one asking promises on any table, right or wrong: document 01's promise of the function that every rule asks through.
 -- Assumes nothing.
 use mathlib.Core.Path.{_≡_, refl, _∙_}
-use mathlib.Core.Bool.{Bool, true, false}
-use mathlib.Core.Option.{Option, none, some}
-use mathlib.Core.List.{List, [], _∷_}
-use Prim.Native.Nat.{ℕ, zero, suc, _+_, _≤_}
+use mathlib.Core.Bool.{true, false}
+use mathlib.Core.Option.{none, some}
+use Prim.Native.Nat.{ℕ, _≤_}
 use native.Mathlib.Omega.{arith}
 use lib.ListN.{getD, set}
 use Rattle.rules.specs.Ast.{Expr, line}
-use Rattle.rules.specs.Asking.{Ty, Int, Boolean, Address, Asset, Word64, TName, Time, Str, Collection, Unknown, code, codeR, Res, ok, refused, Rule, ret, ask}
-use Rattle.rules.specs.Kept.{Table, tyOfMark, Kept, stored, retyped, kept}
+use Rattle.rules.specs.Asking.{Ty, Int, Boolean, Address, Asset, Word64, TName, Time, Str, Collection, Unknown, code, codeR, Res, ok, refused, ret}
+use Rattle.rules.specs.Kept.{Table, tyOfMark, stored, retyped, kept}
 use Rattle.rules.specs.Typing.{Env, stale, asked, typing, askOf, tyOf}
 use Rattle.rules.proofs.Parts.{stop, _also_, pick}
 use Rattle.rules.proofs.Keeps.{kept-some, kept-again, kept-unmarked}

@@ -1,20 +1,20 @@
 -- The whole of `check` from a table of zeros, with kept types: what the rules say, and the marks of their askings. Assumes nothing.
-use mathlib.Core.Path.{_≡_, refl, sym, _∙_, ap}
+use mathlib.Core.Path.{_≡_, refl, _∙_, ap}
 use mathlib.Core.List.{List, [], _∷_, _++_}
-use mathlib.Core.Bool.{Bool, true, false, cond}
+use mathlib.Core.Bool.{cond}
 use mathlib.Core.Option.{Option, none, some}
 use mathlib.Core.Logic.{inl}
-use Prim.Native.Nat.{ℕ, zero, suc, _<_, _≤_, _+_}
+use Prim.Native.Nat.{ℕ, _<_, _≤_, _+_}
 use native.Mathlib.Omega.{arith}
 use lib.Dec.{ltb}
-use lib.ListN.{length, getD, replicate, length-replicate}
+use lib.ListN.{length, replicate, length-replicate}
 use borrow.Author.Tests.{lt-ltb, le-ltb}
 use Rattle.sheet.specs.Line.{Line}
 use Rattle.sheet.specs.Load.{Loaded, lines, refused as unread, load}
 use Rattle.sheet.specs.Tree.{build as trees}
 use Rattle.rules.specs.Text.{Name}
-use Rattle.rules.specs.Ast.{Expr, Param, Field, Event, Clause, Entry, Stmt, guard, bind, emit, assign, do', Item, state, event, invariant, genesis, entry, line, contractOf}
-use Rattle.rules.specs.Asking.{Ty, Int, Rule, ret, _>>=_, _>>_, Out, fresh, Res, ok, refused, forEach, ifSome}
+use Rattle.rules.specs.Ast.{Expr, Field, Entry, Stmt, guard, bind, emit, assign, do', Item, state, event, invariant, genesis, entry, contractOf}
+use Rattle.rules.specs.Asking.{Ty, Int, Rule, ret, _>>=_, _>>_, Out, fresh, Res, ok, refused, ifSome}
 use Rattle.rules.specs.Kept.{kept, marks}
 use Rattle.rules.specs.Model.{Model, itemModel, joined, build}
 use Rattle.rules.specs.Typing.{Env, new, inGenesis, bound, stale, tyOf}
@@ -23,8 +23,8 @@ use Rattle.rules.specs.KeyKinds.{present, clauseExprs, bodyExprs, entryE
 use Rattle.rules.specs.Check.{paramTypes, checkEntry, checkField, checkDefault, checkGenesis, beforeEntries, check}
 use Rattle.rules.specs.Verdict.{modelOf, ruled, judge, verdict, keptJudge, keptVerdict}
 use Rattle.rules.proofs.Keeps.{zeros, keeps}
-use Rattle.rules.proofs.Coherence.{C, c-then, c-some, Fits}
-use Rattle.rules.proofs.Lines.{next, Numbered, ends, outAt, fits}
+use Rattle.rules.proofs.Coherence.{C, c-then, Fits}
+use Rattle.rules.proofs.Lines.{next, ends, outAt, fits}
 use Rattle.rules.proofs.Silent.{CEach, s-each, s-for, s-storable, s-digest, s-guardian, s-event-param, s-entry-param, s-key-kinds}
 use Rattle.rules.proofs.Whole.{FitsEach, FitsBody, fits-append, w-predicate, w-entry, w-default, w-genesis}
 use Rattle.rules.proofs.Ordered.{Ordered, defaults, itemExprs, allExprs, ordered}

@@ -1,13 +1,13 @@
 -- Every asking of the typing rules is of a part of the expression that is typed.
-use mathlib.Core.Path.{_≡_, refl, sym, _∙_, ap}
+use mathlib.Core.Path.{_≡_, refl, _∙_, ap}
 use mathlib.Core.List.{List, [], _∷_}
 use mathlib.Core.Bool.{Bool, true, false}
 use mathlib.Core.Option.{Option, none, some}
-use Prim.Native.Nat.{ℕ, _<_, _≤_, _+_, suc}
+use Prim.Native.Nat.{ℕ, _<_}
 use Prim.Native.String.{String}
 use Rattle.rules.specs.Text.{Name, Piece}
-use Rattle.rules.specs.Ast.{UnaryOp, Not, Neg, BinOp, Or, And, Eq, Ne, Lt, Gt, Le, Ge, Add, Sub, Mul, Div, Rem, Shr, Type', Leaf, Expr, leaf, unary, binary, field, call, wrap, Exprs, nil, more, line}
-use Rattle.rules.specs.Asking.{Ty, Rule, ret, refuse, ask, _>>=_, _>>_, when, ifSome, expect, Out, fresh, Res, ok, refused}
+use Rattle.rules.specs.Ast.{UnaryOp, Not, Neg, BinOp, Or, And, Eq, Ne, Lt, Gt, Le, Ge, Add, Sub, Mul, Div, Rem, Shr, Expr, leaf, unary, binary, field, call, wrap, Exprs, nil, more, line}
+use Rattle.rules.specs.Asking.{Ty, Rule, ret, refuse, ask, _>>=_, _>>_, when, ifSome, expect, Out, fresh, ok}
 use Rattle.rules.specs.Typing.{Env, Asked, asked, expectAssetReceiver, expectKeyedOp, judgeKey, checkKeys, checkAmount, checkKeyedCall, askEach, typeCall, expectNumericOr, expectNumber, judgeUnary, logical, arithmetic, ordering, equality, judgeBinary, tyOfUnary, tyOfBinary, stale, typing, typings, askOf, tyOf}
 use Rattle.rules.proofs.Keeps.{Coherent, fresh-ok}
 

@@ -1,20 +1,18 @@
 -- Expressions whose lines are numbered as a sheet numbers them: a record's parts follow it directly.
 -- Then a map m as `Coherence` wants it is there, and the typing of an expression with kept types is what the rules say.
-use mathlib.Core.Path.{_≡_, refl, sym, _∙_, ap}
-use mathlib.Core.List.{List, [], _∷_}
-use mathlib.Core.Bool.{Bool, true, false, cond}
-use mathlib.Core.Logic.{_⊎_, inl, inr}
-use Prim.Native.Nat.{ℕ, _<_, _≤_, _+_, suc}
+use mathlib.Core.Path.{_≡_, refl, sym, _∙_}
+use mathlib.Core.Bool.{false, cond}
+use Prim.Native.Nat.{ℕ, _<_, _≤_, suc}
 use native.Mathlib.Omega.{arith}
 use lib.Dec.{eqb, ltb}
-use lib.ListN.{length, getD}
+use lib.ListN.{length}
 use borrow.Author.Tests.{eq-eqb, ne-eqb, lt-ltb, le-ltb}
 use Rattle.rules.specs.Ast.{Expr, leaf, unary, binary, field, call, wrap, Exprs, nil, more, line}
-use Rattle.rules.specs.Asking.{Ty, Int, Rule, ret, Out, fresh}
+use Rattle.rules.specs.Asking.{Ty, Int, ret, Out, fresh}
 use Rattle.rules.specs.Typing.{Env, stale, typing, tyOf}
-use Rattle.rules.specs.Kept.{Table, kept, marks}
-use Rattle.rules.proofs.Keeps.{Coherent, Consistent, Keeps, keeps}
-use Rattle.rules.proofs.Coherence.{Fits, FitsAll, Here, c-tyOf}
+use Rattle.rules.specs.Kept.{Table}
+use Rattle.rules.proofs.Keeps.{Consistent, Keeps, keeps}
+use Rattle.rules.proofs.Coherence.{Fits, FitsAll, c-tyOf}
 
 -- the first line after the expression
 abbrev mutual

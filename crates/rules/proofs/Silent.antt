@@ -1,11 +1,11 @@
 -- Rules that ask no type are coherent, whatever m says. Assumes nothing.
-use mathlib.Core.List.{List, [], _∷_, _++_}
+use mathlib.Core.List.{List, [], _∷_}
 use mathlib.Core.Bool.{Bool}
 use mathlib.Core.Option.{Option, none, some}
 use Prim.Native.Nat.{ℕ}
 use Rattle.rules.specs.Text.{Name, Piece}
 use Rattle.rules.specs.Ast.{Type', Arg, ofType, ofInt, mOfN, AssignOp, Expr, leaf, unary, binary, field, call, wrap, Exprs, nil, more, Param, Clause, limits, denies, mints, after, Entry, Stmt, guard, bind, emit, assign, do'}
-use Rattle.rules.specs.Asking.{Ty, Rule, ret, _>>=_, _>>_, ifSomeElse, forEach, Out}
+use Rattle.rules.specs.Asking.{Ty, Rule, _>>=_, _>>_, ifSomeElse, forEach, Out}
 use Rattle.rules.specs.Declarations.{guardianBound, storableArg, storableArgs, storableKeyed, known, storableAs, storable, eventFieldType, refuseWord64AsDigest}
 use Rattle.rules.specs.Model.{Model}
 use Rattle.rules.specs.Typing.{Env}
@@ -14,7 +14,7 @@ use Rattle.rules.specs.Assets.{noAssetCall, noAssetCalls, consumedAssetC
 use Rattle.rules.specs.Arithmetic.{checkSum, checkArithmetic}
 use Rattle.rules.specs.KeyKinds.{Use, checkUses, checkKeyKinds}
 use Rattle.rules.specs.Check.{checkLocal, clauseAssets, checkEventParam, checkEntryParam}
-use Rattle.rules.proofs.Coherence.{C, rules, c-ret, c-bind, c-then, c-when, c-some, c-expect}
+use Rattle.rules.proofs.Coherence.{C, rules, c-bind, c-then, c-expect}
 
 module _ (m : ℕ → Out Ty) (n : ℕ) where
   pub s-else : {A : Type 0} (o : Option A) (f : A → Rule Unit) (p : Rule Unit) → ((a : A) → C m n (f a)) → C m n p → C m n (ifSomeElse o f p)

@@ -1,23 +1,20 @@
 -- The whole of `check`, with kept types: what the rules say, and the marks of the rules' askings. Assumes nothing.
-use mathlib.Core.Path.{_≡_, refl, sym, _∙_, ap}
-use mathlib.Core.List.{List, [], _∷_, _++_, map, zip}
-use mathlib.Core.Bool.{Bool, true, false, cond, _&&_}
+use mathlib.Core.Path.{_≡_, refl}
+use mathlib.Core.List.{List, [], _∷_, _++_, zip}
 use mathlib.Core.Option.{Option, none, some}
-use Prim.Native.Nat.{ℕ, zero, suc, _<_, _≤_, _+_}
+use Prim.Native.Nat.{ℕ, zero, suc, _+_}
 use native.Mathlib.Omega.{arith}
-use lib.Dec.{eqb, ltb, leb}
-use lib.ListN.{length, getD, getElem?}
-use borrow.Author.Tests.{lt-ltb, le-ltb, le-leb, lt-leb}
+use lib.ListN.{getElem?}
 use Rattle.rules.specs.Text.{Name}
-use Rattle.rules.specs.Ast.{AssignOp, Expr, leaf, unary, binary, field, call, wrap, Exprs, nil, more, Param, Field, Clause, limits, denies, mints, after, Entry, Stmt, guard, bind, emit, assign, do', Item, state, event, invariant, genesis, entry, line, list}
-use Rattle.rules.specs.Asking.{Ty, Int, Rule, ret, _>>=_, _>>_, Out, fresh, Res, ok, refused, forEach, ifSome}
+use Rattle.rules.specs.Ast.{AssignOp, Expr, leaf, unary, binary, field, call, wrap, Exprs, nil, more, Param, Field, Clause, limits, denies, mints, after, Entry, Stmt, guard, bind, emit, assign, do', list}
+use Rattle.rules.specs.Asking.{Ty, Rule, ret, _>>=_, _>>_, Out, fresh, ok, forEach, ifSome}
 use Rattle.rules.specs.Model.{Model}
-use Rattle.rules.specs.Typing.{Env, new, inGenesis, bound, Asked, asked, callOf, stale, typing, typings, askOf, tyOf}
+use Rattle.rules.specs.Typing.{Env, new, bound, Asked, callOf, typings, askOf, tyOf}
 use Rattle.rules.specs.Statements.{checkEmitField, checkEmitFields, checkAssign, checkKeyedUse, checkStmtTypes, expectPredicate, refuseNameRecipient}
-use Rattle.rules.specs.KeyKinds.{present, clauseExprs, bodyExprs, entryExprs}
-use Rattle.rules.specs.Check.{clausePredicate, checkBody, paramTypes, checkEntry, madeUp, checkDefault, checkField, checkGenesis}
-use Rattle.rules.proofs.Coherence.{C, CA, CAs, rules, c-ret, c-bind, c-bind-at, c-then, c-some, c-expect, c-each, c-keyed, Fits, FitsAll, c-asked, c-typing, c-typings, c-tyOf}
-use Rattle.rules.proofs.Silent.{CEach, s-each, s-for, silent, s-storable, s-digest, s-assign, s-local, s-wrapping, s-clause-assets, s-assets, s-arithmetic}
+use Rattle.rules.specs.KeyKinds.{present, clauseExprs, bodyExprs}
+use Rattle.rules.specs.Check.{clausePredicate, checkBody, paramTypes, checkEntry, madeUp, checkDefault, checkGenesis}
+use Rattle.rules.proofs.Coherence.{C, CA, rules, c-bind, c-bind-at, c-then, c-some, c-expect, c-keyed, Fits, FitsAll, c-asked, c-typing, c-typings, c-tyOf}
+use Rattle.rules.proofs.Silent.{CEach, s-each, s-for, s-assign, s-local, s-wrapping, s-clause-assets, s-assets, s-arithmetic}
 
 module _ (m : ℕ → Out Ty) (n : ℕ) where
   abbrev pub FitsEach : Env → List Expr → Type 0

@@ -5,7 +5,7 @@ use mathlib.Core.Bool.{Bool, true, false, not, _&&_, _||_}
 use mathlib.Core.Option.{Option, none, some, Option·map}
 use lib.Dec.{eqb}
 use Rattle.text.specs.Text.{same}
-use Rattle.rules.specs.Text.{Name, is, among, get, Piece, lit, raw}
+use Rattle.rules.specs.Text.{Name, is, among, get, lit, raw}
 use Rattle.rules.specs.Ast.{BinOp, Or, And, Eq, Ne, Lt, Gt, Le, Ge, Add, Sub, Mul, Div, Rem, Shr, AssignOp, Set, AddTo, SubFrom, Expr, leaf, unary, binary, field, call, wrap, Exprs, nil, more, Param, Clause, limits, denies, mints, after, Entry, Stmt, guard, bind, emit, assign, do'}
 use Rattle.rules.specs.Asking.{Ty, Rule, ret, expect, ifSome, forEach}
 use Rattle.rules.specs.Declared.{intOf}

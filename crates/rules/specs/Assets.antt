@@ -4,8 +4,8 @@ use mathlib.Core.List.{List, [], _∷_, _++_, zip}
 use mathlib.Core.Bool.{Bool, true, false, cond, not, _&&_, _||_}
 use mathlib.Core.Option.{Option, none, some}
 use lib.ListN.{getElem?}
-use Rattle.rules.specs.Text.{Name, is, among, Piece, lit, raw}
-use Rattle.rules.specs.Ast.{Arg, ofType, ofInt, mOfN, Wrap, Checked, Wrapping, Expr, leaf, unary, binary, field, call, wrap, Exprs, nil, more, Param, Event, Field, Entry, Stmt, guard, bind, emit, assign, do', span, list, typeName, args}
+use Rattle.rules.specs.Text.{Name, is, Piece, lit, raw}
+use Rattle.rules.specs.Ast.{Arg, ofType, ofInt, mOfN, Checked, Wrapping, Expr, leaf, unary, binary, field, call, wrap, Exprs, nil, more, Entry, Stmt, guard, bind, emit, assign, do', span, list, typeName, args}
 use Rattle.rules.specs.Asking.{Rule, ret, _>>=_, _>>_, expect, when, ifSome, ifSomeElse, forEach}
 use Rattle.rules.specs.Declared.{narrowMax}
 use Rattle.rules.specs.Model.{Model, state', event'}

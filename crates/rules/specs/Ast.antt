@@ -1,7 +1,7 @@
 -- The tree of ast.rs, from the tree of a sheet's records. Each expression has its line, counted from 0, and its span.
 use Prim.Native.Nat.{ℕ, _+_, _-_}
 use mathlib.Core.List.{List, [], _∷_, map}
-use mathlib.Core.Option.{Option, none, some, Option·map}
+use mathlib.Core.Option.{Option, Option·map}
 use lib.ListN.{getD, take, drop, getElem?}
 use Rattle.sheet.specs.Grammar.{Contract}
 use Rattle.sheet.specs.Line.{Line}

@@ -1,10 +1,9 @@
 -- `check_entry` and `check`, without `check_underflow`.
 use Prim.Native.Nat.{ℕ}
-use mathlib.Core.List.{List, [], _∷_, _++_, map}
-use mathlib.Core.Bool.{Bool, true, false, not}
-use mathlib.Core.Option.{Option, none, some}
-use Rattle.rules.specs.Text.{Name, isOne, Piece, lit, raw}
-use Rattle.rules.specs.Ast.{AssignOp, Set, Leaf, id, Expr, leaf, Field, Param, Event, Clause, limits, denies, mints, after, Entry, Stmt, guard, bind, emit, assign, do', span, typeName, typeSpan}
+use mathlib.Core.List.{List, [], _∷_, map}
+use mathlib.Core.Bool.{true, false, not}
+use Rattle.rules.specs.Text.{Name, isOne, lit, raw}
+use Rattle.rules.specs.Ast.{Set, id, Expr, leaf, Field, Param, Clause, limits, denies, mints, after, Entry, Stmt, guard, bind, emit, assign, do', span, typeName, typeSpan}
 use Rattle.rules.specs.Asking.{Ty, Collection, Rule, ret, _>>=_, _>>_, expect, ifSome, forEach}
 use Rattle.rules.specs.Declared.{tyOfDecl, eqTy}
 use Rattle.rules.specs.Declarations.{guardianFits, guardianBound, storable, eventFieldType, refuseWord64AsDigest}

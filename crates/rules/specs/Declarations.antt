@@ -1,15 +1,15 @@
 -- Declarations: module 2.
-use Prim.Native.Nat.{ℕ, zero, suc, _+_}
+use Prim.Native.Nat.{ℕ, _+_}
 use Prim.Native.String.{String}
 use mathlib.Core.List.{List, [], _∷_, _++_}
 use mathlib.Core.Bool.{Bool, true, false, cond, not, _&&_, _||_}
 use mathlib.Core.Option.{Option, none, some}
 use lib.Dec.{eqb, leb}
-use lib.ListN.{length, getElem?}
+use lib.ListN.{length}
 use Rattle.text.specs.Text.{bytes}
-use Rattle.rules.specs.Text.{Name, is, isOne, pick, Piece, lit, raw, dec}
+use Rattle.rules.specs.Text.{Name, is, pick, Piece, lit, raw, dec}
 use Rattle.rules.specs.Ast.{Type', type, Arg, ofType, ofInt, mOfN, Args, anil, amore, typeName, typeSpan, args}
-use Rattle.rules.specs.Asking.{Ty, Int, Boolean, Address, Asset, Word64, TName, Time, Str, Collection, Unknown, Rule, ret, refuse, _>>=_, _>>_, expect, when, forEach}
+use Rattle.rules.specs.Asking.{Int, Boolean, Address, Asset, Word64, TName, Time, Str, Collection, Unknown, Rule, ret, _>>=_, _>>_, expect}
 use Rattle.rules.specs.Declared.{parseU64, tyOfDecl, eqTy, isTy}
 
 -- ------------------------------------------------------------ guardian_bound

@@ -1,10 +1,10 @@
 -- The same rules with the types kept in a table, on any table; and the marks that a list of askings makes.
-use Prim.Native.Nat.{ℕ, zero, suc, _+_}
+use Prim.Native.Nat.{ℕ, zero, suc}
 use mathlib.Core.List.{List, [], _∷_}
 use mathlib.Core.Bool.{Bool, true, false, _||_}
 use mathlib.Core.Option.{Option, none, some}
 use lib.Dec.{eqb}
-use lib.ListN.{getD, set, getElem?, replicate}
+use lib.ListN.{getD, set, getElem?}
 use Rattle.rules.specs.Asking.{Ty, Int, Boolean, Address, Asset, Word64, TName, Time, Str, Collection, Unknown, Res, ok, refused, Rule, ret, refuse, ask, Asking, codeR}
 
 abbrev pub Table : Type 0

@@ -1,11 +1,11 @@
 -- `check_key_kinds`: module 6.
 use Prim.Native.Nat.{ℕ}
 use mathlib.Core.List.{List, [], _∷_, _++_}
-use mathlib.Core.Bool.{Bool, true, false, not, _&&_, _||_, Bool·beq}
+use mathlib.Core.Bool.{Bool, true, false, not, _&&_, Bool·beq}
 use mathlib.Core.Option.{Option, none, some}
 use Rattle.text.specs.Text.{same}
-use Rattle.rules.specs.Text.{Name, is, isOne, among, Piece, lit, raw}
-use Rattle.rules.specs.Ast.{Expr, leaf, unary, binary, field, call, wrap, Exprs, nil, more, Param, Field, Clause, limits, denies, mints, after, Entry, Stmt, guard, bind, emit, assign, do', span, list, typeName}
+use Rattle.rules.specs.Text.{Name, is, isOne, among, lit, raw}
+use Rattle.rules.specs.Ast.{Expr, leaf, unary, binary, field, call, wrap, Exprs, nil, more, Param, Clause, limits, denies, mints, after, Entry, Stmt, guard, bind, emit, assign, do', span, typeName}
 use Rattle.rules.specs.Asking.{Rule, ret, _>>=_, _>>_, expect}
 use Rattle.rules.specs.Model.{Model, state'}
 use Rattle.rules.specs.Typing.{Dot, identOf, dotOf}

@@ -1,6 +1,6 @@
 -- `Model::build`: module 3. Of model.rs only what the rules read, and the contract's items parted by their kind.
 use mathlib.Core.List.{List, [], _∷_, _++_}
-use mathlib.Core.Bool.{Bool, true, false}
+use mathlib.Core.Bool.{Bool}
 use mathlib.Core.Option.{Option, none, some}
 use Rattle.rules.specs.Text.{Name, is, firstNamed, lastNamed}
 use Rattle.rules.specs.Ast.{Field, Param, Event, Entry, Expr, Stmt, Item, state, event, invariant, genesis, entry, typeName}

@@ -5,8 +5,8 @@ use mathlib.Core.Bool.{Bool, true, false, not, _&&_, _||_}
 use mathlib.Core.Option.{Option, none, some}
 use lib.Dec.{leb}
 use lib.ListN.{getElem?}
-use Rattle.rules.specs.Text.{Name, is, pick, Piece, lit, raw, dec}
-use Rattle.rules.specs.Ast.{AssignOp, Set, AddTo, SubFrom, Wrap, Checked, Wrapping, Expr, leaf, unary, binary, field, call, wrap, Param, Event, Field, Stmt, guard, bind, emit, assign, do', span, list, typeName}
+use Rattle.rules.specs.Text.{Name, is, pick, lit, raw, dec}
+use Rattle.rules.specs.Ast.{AssignOp, Set, AddTo, SubFrom, Wrap, Checked, Wrapping, Expr, leaf, unary, binary, field, call, wrap, Param, Stmt, guard, bind, emit, assign, do', span, list, typeName}
 use Rattle.rules.specs.Asking.{Ty, Boolean, Address, Asset, TName, Collection, Unknown, Rule, ret, _>>=_, _>>_, expect, ifSome, forEach}
 use Rattle.rules.specs.Declared.{parseU128, intOf, narrowMax, tyOfDecl, eqTy, isTy, describe, numeric, oneWord, compatible}
 use Rattle.rules.specs.Declarations.{typeText}

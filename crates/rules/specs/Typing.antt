@@ -1,13 +1,12 @@
 -- Typing: module 4. `ty_of` and its branches, `check_keyed_call`.
-use Prim.Native.Nat.{ℕ, zero, suc}
+use Prim.Native.Nat.{ℕ}
 use Prim.Native.String.{String}
 use mathlib.Core.List.{List, [], _∷_, _++_}
 use mathlib.Core.Bool.{Bool, true, false, not, _&&_, _||_}
 use mathlib.Core.Option.{Option, none, some}
-use lib.ListN.{getElem?}
-use Rattle.rules.specs.Text.{Name, is, isOne, pick, among, get, Piece, lit, raw}
-use Rattle.rules.specs.Ast.{UnaryOp, Not, Neg, BinOp, Or, And, Eq, Ne, Lt, Gt, Le, Ge, Add, Sub, Mul, Div, Rem, Shr, Type', Leaf, int, id, date, str, caller, native, inasset, now, Wrap, Expr, leaf, unary, binary, field, call, wrap, Exprs, nil, more, Field, span, line, typeName}
-use Rattle.rules.specs.Asking.{Ty, Int, Boolean, Address, Asset, Word64, TName, Time, Str, Collection, Unknown, Rule, ret, ask, _>>=_, _>>_, expect, when, ifSome, forEach}
+use Rattle.rules.specs.Text.{Name, is, isOne, pick, among, get, lit, raw}
+use Rattle.rules.specs.Ast.{UnaryOp, Not, Neg, BinOp, Or, And, Eq, Ne, Lt, Gt, Le, Ge, Add, Sub, Mul, Div, Rem, Shr, Type', Leaf, int, id, date, str, caller, native, inasset, now, Expr, leaf, unary, binary, field, call, wrap, Exprs, nil, more, Field, span, line, typeName}
+use Rattle.rules.specs.Asking.{Ty, Int, Boolean, Address, Asset, Word64, TName, Time, Str, Unknown, Rule, ret, ask, _>>=_, _>>_, expect, when, ifSome}
 use Rattle.rules.specs.Declared.{isZeroLiteral, tyOfDecl, declaredArg, eqTy, isTy, describe, numeric, compatible}
 use Rattle.rules.specs.Declarations.{typeText}
 use Rattle.rules.specs.Model.{Model, state'}

@@ -2,7 +2,7 @@
 use Prim.Native.Nat.{ℕ}
 use mathlib.Core.Path.{_≡_}
 use mathlib.Core.List.{List, [], _∷_, _++_, List·Memᴰ}
-use mathlib.Core.Bool.{Bool, true, false, cond}
+use mathlib.Core.Bool.{true, false, cond}
 use lib.Dec.{eqb, leb}
 use lib.ListN.{length, drop, replicate}
 use Rattle.sheet.specs.Line.{Line}
@@ -10,7 +10,7 @@ use Rattle.sheet.specs.Load.{Loaded, lines, refused as unread, load}
 use Rattle.sheet.specs.Tree.{build as trees}
 use Rattle.rules.specs.Text.{render}
 use Rattle.rules.specs.Ast.{contractOf}
-use Rattle.rules.specs.Asking.{Refusal, Res, ok, refused, Out, fresh}
+use Rattle.rules.specs.Asking.{Res, ok, refused, Out, fresh}
 use Rattle.rules.specs.Kept.{Table, kept, marks, count}
 use Rattle.rules.specs.Model.{Model, build}
 use Rattle.rules.specs.Check.{check, guardianPlaces}
