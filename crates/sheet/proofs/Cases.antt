@@ -23,7 +23,7 @@ verdict (refused n i) = (n, i, 0)
 
 -- what a sheet is read as, lent a type table and a scratch for n lines
 read : List ℕ → ℕ → ℕ × ℕ × ℕ
-unfolding same all upto ended place isName isDecimal valueFrom numberOf kindFor when onNumber andThen orTen readField readFields readAs fieldsOf readPieces readLine times sorts due judged scan firstTrue tests early loadFrom load
+unfolding same all upto ended place isName isDecimal valueFrom numberOf kindFor when onNumber andThen orTen readField readFields readAs fieldsOf readPieces readLine times sorts due judged scan firstTrue early loadFrom load
 read s n = verdict (load s n (8 * n))
 
 -- an invariant of n `checked` over an `id`

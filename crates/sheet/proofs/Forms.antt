@@ -1,19 +1,18 @@
 -- The trees of a sheet that is read are of the sorts that were due. Assumes nothing.
-use mathlib.Core.Path.{_≡_, refl, sym, ap, _∙_}
+use mathlib.Core.Path.{_≡_, refl, ap}
 use mathlib.Core.Bool.{Bool, true, false, cond}
 use mathlib.Core.List.{List, [], _∷_, _++_}
-use Prim.Native.Nat.{ℕ, zero, suc, _+_, _≤_, _<_}
+use Prim.Native.Nat.{ℕ, suc, _+_, _<_}
 use native.Mathlib.Omega.{arith}
 use lib.Dec.{ltb}
 use lib.ListN.{length}
 use borrow.Author.Tests.{ltb-true}
-use Rattle.text.specs.Text.{either, ended}
 use Rattle.text.specs.Word.{place}
-use Rattle.sheet.specs.Grammar.{Sort, rows, first, within, wordsOf, kindFor}
+use Rattle.sheet.specs.Grammar.{Sort, rows, first, wordsOf, kindFor}
 use Rattle.sheet.specs.Grammar as grammar
-use Rattle.sheet.specs.Line.{Line, good, readLine, fieldsOf}
-use Rattle.sheet.specs.Load.{Loaded, lines, sorts, due, scan}
-use Rattle.sheet.specs.Tree.{Node, node, Nodes, nil, more, total, takeNodes, dropNodes, grow, build}
+use Rattle.sheet.specs.Line.{Line, readLine, fieldsOf}
+use Rattle.sheet.specs.Load.{lines, sorts, due, scan}
+use Rattle.sheet.specs.Tree.{Node, Nodes, more, takeNodes, dropNodes, grow, build}
 use Rattle.sheet.specs.Held.{Among, Formed, formed, FormedAll, none-due, one-due}
 use Rattle.sheet.proofs.Due.{length-sorts}
 use Rattle.sheet.proofs.Holds.{judged-lines}

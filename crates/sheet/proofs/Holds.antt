@@ -1,14 +1,13 @@
 -- The loaded lines hold the sheet's tree. Assumes nothing.
 use mathlib.Core.Path.{_≡_, refl, sym, ap, _∙_}
 use mathlib.Core.Bool.{Bool, true, false}
-use mathlib.Core.List.{List, [], _∷_, _++_}
+use mathlib.Core.List.{List, [], _∷_}
 use Prim.Native.Nat.{ℕ, zero, suc, _+_, _*_, _/_, _<_, _≤_}
 use native.Mathlib.Omega.{arith}
-use lib.Dec.{ltb}
 use lib.ListN.{length, getD, length-append}
 use Rattle.sheet.specs.Grammar.{Sort}
-use Rattle.sheet.specs.Line.{Line, Read, good, bad, readLine}
-use Rattle.sheet.specs.Load.{Loaded, lines, refused, after, sorts, due, judged, scan}
+use Rattle.sheet.specs.Line.{Line, Read, good, bad}
+use Rattle.sheet.specs.Load.{Loaded, lines, refused, after, judged, scan}
 use Rattle.sheet.specs.Tree.{Node, node, Nodes, nil, more, total, takeNodes, dropNodes, grow, build}
 use Rattle.sheet.specs.Step.{told}
 use Rattle.sheet.specs.Table.{numbersIn}

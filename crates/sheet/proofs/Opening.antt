@@ -1,20 +1,20 @@
 -- Laws of what is due while lines are read: how a line that is read changes it. Assumes nothing.
 use mathlib.Core.Path.{_≡_, refl, sym, ap, _∙_}
-use mathlib.Core.Bool.{Bool, true, false, cond, _||_}
+use mathlib.Core.Bool.{Bool, true, false, cond}
 use mathlib.Core.List.{List, [], _∷_, _++_, append-nil}
-use Prim.Native.Nat.{ℕ, zero, suc, _+_, _*_, _-_, _≤_, _<_}
+use Prim.Native.Nat.{ℕ, zero, suc, _+_, _-_, _≤_, _<_}
 use native.Mathlib.Omega.{arith}
 use native.Mathlib.Nat.{sub-self}
 use native.Mathlib.Numerals.{add-one}
-use lib.Dec.{eqb, ltb, leb}
-use lib.ListN.{length, getD, set, drop, drop-of-length-le, length-set, length-append}
+use lib.Dec.{eqb, ltb}
+use lib.ListN.{length, getD, set, drop-of-length-le, length-set, length-append}
 use lib.Seq.{drop-cons, getD-set-same, getD-set-other}
-use borrow.Author.Tests.{eq-eqb, ne-eqb, lt-ltb, le-ltb, le-leb, lt-leb, eqb-true, eqb-false, ltb-true, ltb-false}
-use Rattle.sheet.specs.Grammar.{Sort, Contract, Expr}
+use borrow.Author.Tests.{lt-leb, eqb-true, eqb-false, ltb-true, ltb-false}
+use Rattle.sheet.specs.Grammar.{Expr}
 use Rattle.sheet.specs.Load.{times, due}
 use Rattle.sheet.specs.Table.{sortOf}
 use Rattle.sheet.specs.Scratch.{entry, kindAt, partsAt}
-use Rattle.sheet.specs.Open.{groupSort, groupAt, nextSort, sortsAt, leftAt, opened, settled, spent, Next, Owned, Open, dueAfter, ownerAfter, depthAfter}
+use Rattle.sheet.specs.Open.{groupSort, groupAt, nextSort, sortsAt, leftAt, opened, settled, spent, Owned, Open}
 use Rattle.sheet.specs.Scan.{sortDue}
 use Rattle.sheet.proofs.Due.{length-times}
 

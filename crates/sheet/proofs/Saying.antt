@@ -13,7 +13,7 @@ use Rattle.text.specs.declared.field.Number.{Number}
 use Rattle.text.specs.declared.field.Number.the-variants.{Is, Bad}
 use Rattle.text.proofs.Pieces.{upto-between}
 use Rattle.sheet.specs.Scratch.{entry}
-use Rattle.sheet.specs.Say.{cut, pieceAt, orZero, numberAt, wordAt, spanAt, nspanAt}
+use Rattle.sheet.specs.Say.{cut, pieceAt, numberAt, wordAt, spanAt, nspanAt}
 
 -- the n bytes of s from a on: none; all of them; as many as there are
 pub cut-past : (s : List ℕ) (a n : ℕ) → length s < a → [] ≡ cut s a n

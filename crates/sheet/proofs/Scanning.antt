@@ -1,8 +1,8 @@
 -- Laws of the scan: each way that a turn of its loop ends. Assumes nothing.
 use mathlib.Core.Path.{_≡_, refl, sym, ap, _∙_}
-use mathlib.Core.Bool.{Bool, true, false, cond, not, _||_}
+use mathlib.Core.Bool.{Bool, true, false, not, _||_}
 use mathlib.Core.List.{List, [], _∷_, _++_, append-nil}
-use Prim.Native.Nat.{ℕ, zero, suc, _+_, _*_, _/_, _-_, _≤_, _<_}
+use Prim.Native.Nat.{ℕ, suc, _+_, _/_, _-_, _≤_, _<_}
 use native.Mathlib.Omega.{arith}
 use native.Mathlib.Nat.{zero-add}
 use native.Mathlib.Numerals.{add-one}
@@ -15,12 +15,11 @@ use Rattle.text.proofs.Pieces.{upto-front, upto-most, upto-stop, piece-next}
 use Rattle.sheet.specs.Grammar.{Sort, Contract, Item, Field, Param, Ty, Arg, Clause, Stmt, Expr, rowOf}
 use Rattle.sheet.specs.Line.{Line, Read, good, bad, readPieces, readLine, fieldsOf}
 use Rattle.sheet.specs.Load.{Loaded, lines, refused, after, linesOf, times, sorts, due, judged, scan, unended}
-use Rattle.sheet.specs.Tree.{total}
-use Rattle.sheet.specs.Table.{sortOf, sortNumber, sortNumbers, sortTable, sortsIn, groupSorts, numbersIn, three}
+use Rattle.sheet.specs.Table.{sortOf, sortNumber, sortNumbers, sortsIn, groupSorts, numbersIn, three}
 use Rattle.sheet.specs.Step.{told, toldRead}
-use Rattle.sheet.specs.Scratch.{entry, kindAt, partsAt, putLine, written, Small}
+use Rattle.sheet.specs.Scratch.{entry, partsAt, putLine, written, Small}
 use Rattle.sheet.specs.Held.{Says}
-use Rattle.sheet.specs.Open.{Open, Top, Took, opened, leftAt, settled, spent, sortsAt, groupSort, dueAfter, ownerAfter, depthAfter}
+use Rattle.sheet.specs.Open.{Open, Top, Took, opened, leftAt, settled, spent, sortsAt, dueAfter, ownerAfter, depthAfter}
 use Rattle.sheet.specs.Scan.{sortDue, Whole, Going, Scans, linesFrom, scanAll, scanned, afterAll, tooDeep}
 use Rattle.sheet.specs.declared.line.Line.{Line as CodeLine}
 use Rattle.sheet.specs.declared.line.LineRead.{LineRead}

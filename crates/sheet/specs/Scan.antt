@@ -1,12 +1,12 @@
 -- What the scan of a sheet's lines asks and promises.
 use Prim.Native.Nat.{ℕ, suc, _+_, _*_, _/_, _-_, _≤_, _<_}
 use mathlib.Core.Path.{_≡_}
-use mathlib.Core.Bool.{Bool, true, false, cond}
+use mathlib.Core.Bool.{Bool, false, cond}
 use mathlib.Core.List.{List, [], _∷_}
 use lib.Dec.{leb}
 use lib.ListN.{length, getD, drop}
-use Rattle.text.specs.Text.{either, ended}
-use Rattle.sheet.specs.Grammar.{Sort, Contract}
+use Rattle.text.specs.Text.{ended}
+use Rattle.sheet.specs.Grammar.{Contract}
 use Rattle.sheet.specs.Line.{Line}
 use Rattle.sheet.specs.Load.{Loaded, lines, refused, after, linesOf, scan, unended}
 use Rattle.sheet.specs.Scratch.{putLine, written, Small}

@@ -1,5 +1,4 @@
 use borrow.Author.Needs.{needs}
-use native.Mathlib.Omega.{arith}
 use Rattle.sheet.proofs.Saying.{word-piece}
 use Rattle.sheet.proofs.lines.word.Statement.{statement}
 use Rattle.sheet.proofs.lines.word.Tie as tie

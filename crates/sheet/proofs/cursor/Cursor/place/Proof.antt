@@ -1,4 +1,3 @@
-use mathlib.Core.Path.{ap}
 use borrow.Author.Needs.{needs}
 use Rattle.sheet.proofs.Reading.{place-field}
 use Rattle.sheet.proofs.cursor.Cursor.place.Statement.{statement}

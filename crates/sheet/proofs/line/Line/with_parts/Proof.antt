@@ -1,5 +1,4 @@
 use borrow.Author.Tests.{ne-eqb}
-use borrow.Author.Needs.{needs}
 use Rattle.sheet.proofs.line.Line.with_parts.Statement.{statement}
 use Rattle.sheet.proofs.line.Line.with_parts.Tie as tie
 
