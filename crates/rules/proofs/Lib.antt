@@ -10,3 +10,5 @@ pub mod Parts
 pub mod Placed
 pub mod Ordered
 pub mod Checked
+pub mod Standing
+pub mod Exprs

@@ -150,10 +150,10 @@ rest (more e es) = es
 abbrev bare : Leaf → ℕ → Line → Exprs → Expr
 bare k i l es = leaf i (spanOf l) k
 
-abbrev unaryOps : List UnaryOp
+abbrev pub unaryOps : List UnaryOp
 unaryOps = Not ∷ Neg ∷ []
 
-abbrev binOps : List BinOp
+abbrev pub binOps : List BinOp
 binOps = Or ∷ And ∷ Eq ∷ Ne ∷ Lt ∷ Gt ∷ Le ∷ Ge ∷ Add ∷ Sub ∷ Mul ∷ Div ∷ Rem ∷ Shr ∷ []
 
 abbrev assignOps : List AssignOp
@@ -200,7 +200,7 @@ unfoldable pub nodes : Nodes → List Node
 nodes done = []
 nodes (then n ns) = n ∷ nodes ns
 
-abbrev blankNode : Node
+abbrev pub blankNode : Node
 blankNode = node 0 (record { kind = 0; at = 0; op = 0; spans = []; start = 0; name = []; parts = [] }) done
 
 abbrev at : List Node → ℕ → Node

@@ -29,10 +29,11 @@ guardianFits ty =
     not (is (typeName ty) "GuardianSet")
     || elim (membersOf (args ty)) [ none ↦ false | some n ↦ leb 1 n && leb n MAX_GUARDIAN_SET ]
 
+abbrev pub guardianText : List Piece
+guardianText = lit "a guardian set must declare between 1 and " ∷ dec MAX_GUARDIAN_SET ∷ lit " members" ∷ []
+
 unfoldable pub guardianBound : Type' → Rule Unit
-guardianBound ty =
-    expect (guardianFits ty) 20 (typeSpan ty)
-    (lit "a guardian set must declare between 1 and " ∷ dec MAX_GUARDIAN_SET ∷ lit " members" ∷ [])
+guardianBound ty = expect (guardianFits ty) 20 (typeSpan ty) guardianText
 
 -- ------------------------------------------------------------ type_text
 
@@ -60,14 +61,17 @@ innerFits keyed isKey inner =
       | false ↦ not (isTy (tyOfDecl inner) (Unknown ∷ Asset ∷ Str ∷ Collection ∷ [])) && eqb (length (args inner)) 0
     ]
 
+abbrev pub innerText : (ty inner : Type') → (isKey : Bool) → List Piece
+innerText ty inner isKey =
+    lit "`" ∷ (typeText inner ++ (lit "` cannot be a " ∷ raw (typeName ty) ∷ lit (cond isKey " key" " value") ∷ []))
+
+abbrev pub onlyTypesText : Type' → List Piece
+onlyTypesText ty = lit "a " ∷ raw (typeName ty) ∷ lit " takes only type arguments" ∷ []
+
 unfoldable pub storableArg : Type' → (isKey : Bool) → Arg → Rule Unit
-storableArg ty isKey (ofType inner) =
-    expect (innerFits (typeName ty) isKey inner) 15 (typeSpan inner)
-    (lit "`" ∷ (typeText inner ++ (lit "` cannot be a " ∷ raw (typeName ty) ∷ lit (cond isKey " key" " value") ∷ [])))
-storableArg ty isKey (ofInt n) =
-    expect false 14 (typeSpan ty) (lit "a " ∷ raw (typeName ty) ∷ lit " takes only type arguments" ∷ [])
-storableArg ty isKey mOfN =
-    expect false 14 (typeSpan ty) (lit "a " ∷ raw (typeName ty) ∷ lit " takes only type arguments" ∷ [])
+storableArg ty isKey (ofType inner) = expect (innerFits (typeName ty) isKey inner) 15 (typeSpan inner) (innerText ty inner isKey)
+storableArg ty isKey (ofInt n) = expect false 14 (typeSpan ty) (onlyTypesText ty)
+storableArg ty isKey mOfN = expect false 14 (typeSpan ty) (onlyTypesText ty)
 
 unfoldable pub storableArgs : Type' → (isKey : Bool) → List Arg → Rule Unit
 storableArgs ty isKey [] = ret tt
@@ -75,18 +79,25 @@ storableArgs ty isKey (a ∷ as') = do
   storableArg ty isKey a
   storableArgs ty false as'
 
+abbrev pub arityText : Type' → (arity : ℕ) → List Piece
+arityText ty arity = lit "a " ∷ raw (typeName ty) ∷ lit " takes " ∷ dec arity ∷ lit " type arguments" ∷ []
+
 unfoldable pub storableKeyed : Type' → (arity : ℕ) → Rule Unit
 storableKeyed ty arity = do
-  expect (eqb (length (args ty)) arity) 13 (typeSpan ty)
-      (lit "a " ∷ raw (typeName ty) ∷ lit " takes " ∷ dec arity ∷ lit " type arguments" ∷ [])
+  expect (eqb (length (args ty)) arity) 13 (typeSpan ty) (arityText ty arity)
   storableArgs ty true (args ty)
+
+abbrev pub unknownText : Type' → List Piece
+unknownText ty = lit "`" ∷ (typeText ty ++ (lit "` is not a known type" ∷ []))
+
+abbrev pub noArgumentsText : Type' → List Piece
+noArgumentsText ty = lit "`" ∷ raw (typeName ty) ∷ lit "` does not take type arguments" ∷ []
 
 -- the last arm of `storable`, and the whole of `event_field_type`
 unfoldable pub known : Type' → Rule Unit
 known ty = do
-  expect (not (eqTy (tyOfDecl ty) Unknown)) 16 (typeSpan ty) (lit "`" ∷ (typeText ty ++ (lit "` is not a known type" ∷ [])))
-  expect (not (isTy (tyOfDecl ty) (Int ∷ Boolean ∷ Time ∷ Address ∷ Word64 ∷ TName ∷ [])) || eqb (length (args ty)) 0) 17 (typeSpan ty)
-      (lit "`" ∷ raw (typeName ty) ∷ lit "` does not take type arguments" ∷ [])
+  expect (not (eqTy (tyOfDecl ty) Unknown)) 16 (typeSpan ty) (unknownText ty)
+  expect (not (isTy (tyOfDecl ty) (Int ∷ Boolean ∷ Time ∷ Address ∷ Word64 ∷ TName ∷ [])) || eqb (length (args ty)) 0) 17 (typeSpan ty) (noArgumentsText ty)
 
 -- how many arguments a Map or Registry takes
 unfoldable pub arityOf : Name → Option ℕ
@@ -96,10 +107,12 @@ unfoldable pub storableAs : Option ℕ → Type' → Rule Unit
 storableAs (some arity) ty = storableKeyed ty arity
 storableAs none ty = known ty
 
+abbrev pub nameText : List Piece
+nameText = lit "a name cannot be stored, a slot keeps only its first eight bytes; key a map or registry by the name instead" ∷ []
+
 unfoldable pub storable : Type' → Rule Unit
 storable ty = do
-  expect (not (is (typeName ty) "Q_Name")) 12 (typeSpan ty)
-      (lit "a name cannot be stored, a slot keeps only its first eight bytes; key a map or registry by the name instead" ∷ [])
+  expect (not (is (typeName ty) "Q_Name")) 12 (typeSpan ty) nameText
   storableAs (arityOf (typeName ty)) ty
 
 unfoldable pub eventFieldType : Type' → Rule Unit
@@ -128,7 +141,13 @@ unfoldable pub containsAny : Name → List String → Bool
 containsAny x [] = false
 containsAny x (w ∷ ws) = contains x (bytes w) || containsAny x ws
 
+abbrev pub digestText : Name → List Piece
+digestText name =
+    lit "`"
+    ∷ raw name
+    ∷ lit "` is a Q_Word64, a single 64 bit word that cannot hold a 256 bit digest; a value presented as a digest must be kept in a wider type"
+    ∷ []
+
 unfoldable pub refuseWord64AsDigest : Name → Type' → Rule Unit
 refuseWord64AsDigest name ty =
-    expect (not (is (typeName ty) "Q_Word64") || not (containsAny (lower name) DIGEST_NAME_TOKENS)) 18 (typeSpan ty)
-    (lit "`" ∷ raw name ∷ lit "` is a Q_Word64, a single 64 bit word that cannot hold a 256 bit digest; a value presented as a digest must be kept in a wider type" ∷ [])
+    expect (not (is (typeName ty) "Q_Word64") || not (containsAny (lower name) DIGEST_NAME_TOKENS)) 18 (typeSpan ty) (digestText name)

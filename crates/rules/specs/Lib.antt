@@ -12,4 +12,5 @@ pub mod Arithmetic
 pub mod KeyKinds
 pub mod Check
 pub mod Verdict
+pub mod Standing
 pub mod Computed

@@ -4,7 +4,7 @@ use Prim.Native.String.{String}
 use mathlib.Core.List.{List, [], _∷_, _++_}
 use mathlib.Core.Bool.{Bool, true, false, not, _&&_, _||_}
 use mathlib.Core.Option.{Option, none, some}
-use Rattle.rules.specs.Text.{Name, is, isOne, pick, among, get, lit, raw}
+use Rattle.rules.specs.Text.{Name, is, isOne, pick, among, get, Piece, lit, raw}
 use Rattle.rules.specs.Ast.{UnaryOp, Not, Neg, BinOp, Or, And, Eq, Ne, Lt, Gt, Le, Ge, Add, Sub, Mul, Div, Rem, Shr, Type', Leaf, int, id, date, str, caller, native, inasset, now, Expr, leaf, unary, binary, field, call, wrap, Exprs, nil, more, Field, span, line, typeName}
 use Rattle.rules.specs.Asking.{Ty, Int, Boolean, Address, Asset, Word64, TName, Time, Str, Unknown, Rule, ret, ask, _>>=_, _>>_, expect, when, ifSome}
 use Rattle.rules.specs.Declared.{isZeroLiteral, tyOfDecl, declaredArg, eqTy, isTy, describe, numeric, compatible}
@@ -123,14 +123,21 @@ isPool Γ base = elim (fieldOf Γ base) [ none ↦ false | some f ↦ is (typeNa
 
 -- ------------------------------------------------------------ keyed calls
 
+abbrev pub straightText : Name → List Piece
+straightText f =
+    lit "`" ∷ raw f ∷ lit "` takes a name only straight from a Q_Name parameter, whose characters and length the entry checks" ∷ []
+
+abbrev pub byNameText : Name → List Piece
+byNameText f = lit "`" ∷ raw f ∷ lit "` is keyed by Q_Name, so it takes a Q_Name parameter here" ∷ []
+
+abbrev pub holdsText : Name → (want got : Ty) → List Piece
+holdsText f want got = lit "`" ∷ raw f ∷ lit "` holds " ∷ lit (describe want) ∷ lit " here, not a " ∷ lit (describe got) ∷ lit " value" ∷ []
+
 unfoldable pub judgeKey : Env → Name → (isKey : Bool) → Expr → (want got : Ty) → Rule Unit
 judgeKey Γ f isKey arg want got = do
-  expect (not (eqTy got TName) || isNameParam Γ arg) 33 (span arg)
-      (lit "`" ∷ raw f ∷ lit "` takes a name only straight from a Q_Name parameter, whose characters and length the entry checks" ∷ [])
-  expect (not (eqTy want TName) || eqTy got TName) 34 (span arg)
-      (lit "`" ∷ raw f ∷ lit "` is keyed by Q_Name, so it takes a Q_Name parameter here" ∷ [])
-  expect ((isKey && eqTy got TName) || compatible want got) 35 (span arg)
-      (lit "`" ∷ raw f ∷ lit "` holds " ∷ lit (describe want) ∷ lit " here, not a " ∷ lit (describe got) ∷ lit " value" ∷ [])
+  expect (not (eqTy got TName) || isNameParam Γ arg) 33 (span arg) (straightText f)
+  expect (not (eqTy want TName) || eqTy got TName) 34 (span arg) (byNameText f)
+  expect ((isKey && eqTy got TName) || compatible want got) 35 (span arg) (holdsText f want got)
 
 unfoldable pub checkKeys : Env → Name → (isKey : Bool) → List Asked → List Ty → Rule Unit
 checkKeys Γ f isKey [] wants = ret tt
@@ -140,14 +147,16 @@ checkKeys Γ f isKey (a ∷ rest) (want ∷ wants) = do
   judgeKey Γ f isKey (a .expr) want got
   checkKeys Γ f false rest wants
 
+abbrev pub amountText : Name → List Piece
+amountText method = lit "`" ∷ raw method ∷ lit "` moves only a number or an asset amount" ∷ []
+
 -- the second argument of `credit` and `debit`
 unfoldable pub checkAmount : Name → List Asked → Rule Unit
 checkAmount method [] = ret tt
 checkAmount method (key ∷ []) = ret tt
 checkAmount method (key ∷ amount ∷ rest) = do
   got ← amount .ty
-  expect (isTy got (Int ∷ Asset ∷ Unknown ∷ [])) 32 (span (amount .expr))
-      (lit "`" ∷ raw method ∷ lit "` moves only a number or an asset amount" ∷ [])
+  expect (isTy got (Int ∷ Asset ∷ Unknown ∷ [])) 32 (span (amount .expr)) (amountText method)
 
 -- the types that a method's arguments must have
 unfoldable pub expected : Name → Type' → List Ty
@@ -175,18 +184,22 @@ keyedOpFits ty method =
           || (isOne method ("credit" ∷ "debit" ∷ []) && eqTy (declaredArg ty 1) Int)
     ]
 
+abbrev pub keyedOpText : (method : Name) → Field → List Piece
+keyedOpText method f = lit "`" ∷ raw method ∷ lit "` does not apply to `" ∷ raw (f .name) ∷ lit "`, a " ∷ typeText (f .ty)
+
 unfoldable pub expectKeyedOp : Env → (callee : Expr) → Rule Unit
 expectKeyedOp Γ callee =
     ifSome (dotOf callee) λ d.
     ifSome (keyedField Γ (d .base)) λ f.
-    expect (keyedOpFits (f .ty) (d .name)) 31 (d .nspan)
-    (lit "`" ∷ raw (d .name) ∷ lit "` does not apply to `" ∷ raw (f .name) ∷ lit "`, a " ∷ typeText (f .ty))
+    expect (keyedOpFits (f .ty) (d .name)) 31 (d .nspan) (keyedOpText (d .name) f)
+
+abbrev pub receiverText : (method : Name) → List Piece
+receiverText method = lit "`" ∷ raw method ∷ lit "` works only on a Q_Asset state field" ∷ []
 
 unfoldable pub expectAssetReceiver : Env → (callee : Expr) → Rule Unit
 expectAssetReceiver Γ callee =
     ifSome (dotOf callee) λ d.
-    expect (not (isOne (d .name) ("merge" ∷ "split" ∷ [])) || isPool Γ (d .base)) 30 (span (d .base))
-    (lit "`" ∷ raw (d .name) ∷ lit "` works only on a Q_Asset state field" ∷ [])
+    expect (not (isOne (d .name) ("merge" ∷ "split" ∷ [])) || isPool Γ (d .base)) 30 (span (d .base)) (receiverText (d .name))
 
 -- ------------------------------------------------------------ ty_of
 
@@ -253,38 +266,58 @@ expectNumericOr ty want n at message = expect (eqTy ty want || eqTy ty Unknown) 
 unfoldable pub expectNumber : Ty → (number : ℕ) → Expr → String → Rule Unit
 expectNumber ty n at message = expect (numeric ty) n (span at) (lit message ∷ [])
 
+abbrev pub notText : String
+notText = "`!` needs a boolean"
+
+abbrev pub negText : String
+negText = "`-` needs a number"
+
+abbrev pub logicalText : String
+logicalText = "a logical operand must be boolean"
+
+abbrev pub arithmeticText : String
+arithmeticText = "arithmetic needs a number"
+
+abbrev pub orderingText : String
+orderingText = "an ordering needs numbers"
+
+abbrev pub namesText : List Piece
+namesText =
+    lit "two names cannot be compared directly, the comparison would see only their first eight bytes; key a map by the name instead" ∷ []
+
+abbrev pub comparedText : (l r : Ty) → List Piece
+comparedText l r = lit "a " ∷ lit (describe l) ∷ lit " cannot be compared with a " ∷ lit (describe r) ∷ []
+
 unfoldable pub judgeUnary : UnaryOp → Expr → Ty → Rule Ty
 judgeUnary Not inner ty = do
-  expectNumericOr ty Boolean 36 inner "`!` needs a boolean"
+  expectNumericOr ty Boolean 36 inner notText
   ret Boolean
 judgeUnary Neg inner ty = do
-  expectNumericOr ty Int 37 inner "`-` needs a number"
+  expectNumericOr ty Int 37 inner negText
   ret Int
 
 unfoldable pub logical : (left right : Expr) → (l r : Ty) → Rule Ty
 logical left right l r = do
-  expectNumericOr l Boolean 38 left "a logical operand must be boolean"
-  expectNumericOr r Boolean 38 right "a logical operand must be boolean"
+  expectNumericOr l Boolean 38 left logicalText
+  expectNumericOr r Boolean 38 right logicalText
   ret Boolean
 
 unfoldable pub arithmetic : (left right : Expr) → (l r : Ty) → Rule Ty
 arithmetic left right l r = do
-  expectNumber l 39 left "arithmetic needs a number"
-  expectNumber r 39 right "arithmetic needs a number"
+  expectNumber l 39 left arithmeticText
+  expectNumber r 39 right arithmeticText
   ret Int
 
 unfoldable pub ordering : (left right : Expr) → (l r : Ty) → Rule Ty
 ordering left right l r = do
-  expectNumber l 40 left "an ordering needs numbers"
-  expectNumber r 40 right "an ordering needs numbers"
+  expectNumber l 40 left orderingText
+  expectNumber r 40 right orderingText
   ret Boolean
 
 unfoldable pub equality : (left right : Expr) → (l r : Ty) → Rule Ty
 equality left right l r = do
-  expect (not (eqTy l TName || eqTy r TName)) 41 (span left)
-      (lit "two names cannot be compared directly, the comparison would see only their first eight bytes; key a map by the name instead" ∷ [])
-  expect (compatible l r || (eqTy l Address && isZeroLiteral right) || (eqTy r Address && isZeroLiteral left)) 42 (span right)
-      (lit "a " ∷ lit (describe l) ∷ lit " cannot be compared with a " ∷ lit (describe r) ∷ [])
+  expect (not (eqTy l TName || eqTy r TName)) 41 (span left) namesText
+  expect (compatible l r || (eqTy l Address && isZeroLiteral right) || (eqTy r Address && isZeroLiteral left)) 42 (span right) (comparedText l r)
   ret Boolean
 
 unfoldable pub judgeBinary : BinOp → (left right : Expr) → (l r : Ty) → Rule Ty

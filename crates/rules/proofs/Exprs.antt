@@ -1,0 +1,127 @@
+-- The expression at a line, by the line's kind. Assumes nothing.
+use mathlib.Core.Path.{_≡_, refl, sym, ap, _∙_}
+use mathlib.Core.List.{List, [], _∷_, append-nil}
+use mathlib.Core.Bool.{Bool, true, false}
+use Prim.Native.Nat.{ℕ, zero, suc, _+_, _-_, _/_, _<_, _≤_}
+use package.native.Mathlib.Omega.{arith}
+use lib.Dec.{ltb}
+use lib.ListN.{length, getD}
+use borrow.Author.Tests.{ltb-true, ltb-false}
+use Rattle.sheet.specs.Grammar as grammar
+use Rattle.sheet.specs.Load.{times, sorts}
+use Rattle.sheet.specs.Tree.{node, takeNodes}
+use Rattle.sheet.specs.Scratch.{entry, kindAt, opAt, endAt, nameAt}
+use Rattle.sheet.specs.Say.{spanAt, nspanAt}
+use Rattle.sheet.proofs.Due.{length-times}
+use Rattle.rules.specs.Ast.{UnaryOp, Neg, unaryOps, BinOp, Shr, binOps, Leaf, int, id, date, str, caller, native, inasset, now, Wrap, Checked, Wrapping, Expr, leaf, unary, binary, field, call, wrap, Exprs, more, line, exprOf, exprsOf, spanOf}
+use Rattle.rules.specs.Standing.{treesFrom, nodeAt, exprAt, exprsAt, Loaded, Here, Row}
+use Rattle.rules.proofs.Parts.{stop, _also_, pick, parts}
+use Rattle.rules.proofs.Standing.{Stands, stands, exprs-next, parts-behind, row-behind, row-first, row-rest}
+
+-- the leaf of a line of kind k with this name
+abbrev pub leafAt : ℕ → List ℕ → Leaf
+leafAt k x = getD (int x ∷ id x ∷ date ∷ str ∷ caller ∷ native ∷ inasset ∷ now ∷ []) (k - 20) now
+
+module _ {s S : List ℕ} (d : Loaded s S) {i : ℕ} (h : Here S grammar.Expr i) where
+  t : Stands s S i
+  t = stands d i (h .within)
+
+  -- its parts, where they are k expressions
+  exprs-behind : (k : ℕ) → sorts (t .line .parts) ≡ times k grammar.Expr → (exprsOf (t .parts) ≡ exprsAt s k (suc i)) × Row S grammar.Expr k (suc i)
+  unfolding exprsAt
+  exprs-behind k e =
+      (ap exprsOf (parts-behind t ∙ rw (e, length-times) refl), row-behind k [] t (rw append-nil e))
+
+  -- ... the first of which is one, and the others m
+  parts-split : (m : ℕ) → sorts (t .line .parts) ≡ times (suc m) grammar.Expr
+      → (exprsOf (t .parts) ≡ more (exprAt s (suc i)) (exprsAt s m (endAt S (suc i)))) × Row S grammar.Expr (suc m) (suc i)
+  parts-split m e = let q = exprs-behind (suc m) e in (q .0 ∙ exprs-next d m (suc i) (row-first (q .1) .within), q .1)
+
+  kind-is : {k : ℕ} → kindAt S i ≡ k → t .line .kind ≡ k
+  kind-is e = sym (t .says .kind) ∙ e
+
+  -- its span, where its record starts with one
+  span-is : (k : ℕ) (rs : List grammar.Rule) → kindAt S i ≡ k → grammar.rowOf k .rules ≡ grammar.span ∷ rs → spanOf (t .line) ≡ spanAt s S i
+  span-is k rs e r = sym (t .spells .span rs (rw (kind-is e) r))
+
+  pub un-at : kindAt S i ≡ 28 → (exprAt s i ≡ unary i (spanAt s S i) (getD unaryOps (opAt S i) Neg) (exprAt s (suc i))) × Row S grammar.Expr 1 (suc i)
+  unfolding exprAt exprOf sorts times
+  un-at e =
+      let p = parts-split 0 (rw (parts (t .line) 28 (t .parted) (kind-is e)) refl) in
+      (rw (t .here, kind-is e, p .0, t .says .op, span-is 28 _ e refl) refl, p .1)
+
+  pub bin-at : kindAt S i ≡ 29
+      → (exprAt s i ≡ binary i (spanAt s S i) (getD binOps (opAt S i) Shr) (exprAt s (suc i)) (exprAt s (endAt S (suc i)))) × Row S grammar.Expr 2 (suc i)
+  unfolding exprAt exprOf sorts times
+  bin-at e =
+      let p = parts-split 1 (rw (parts (t .line) 29 (t .parted) (kind-is e)) refl) in
+      let q = exprs-next d 0 (endAt S (suc i)) (row-first (row-rest (p .1)) .within) in
+      (rw (t .here, kind-is e, p .0, q, t .says .op, span-is 29 _ e refl) refl, p .1)
+
+  pub dot-at : kindAt S i ≡ 30 → (exprAt s i ≡ field i (spanAt s S i) (exprAt s (suc i)) (nameAt s S i) (nspanAt s S i)) × Row S grammar.Expr 1 (suc i)
+  unfolding exprAt exprOf sorts times
+  dot-at e =
+      let p = parts-split 0 (rw (parts (t .line) 30 (t .parted) (kind-is e)) refl) in
+      (rw (t .here, kind-is e, p .0, t .spells .name, t .spells .nspan (rw (kind-is e) refl), span-is 30 _ e refl) refl, p .1)
+
+  pub call-at : kindAt S i ≡ 31
+      → (exprAt s i ≡ call i (spanAt s S i) (exprAt s (suc i)) (exprsAt s (entry S i 6) (endAt S (suc i)))) × Row S grammar.Expr (suc (entry S i 6)) (suc i)
+  unfolding exprAt exprOf sorts times
+  call-at e =
+      let g = parts (t .line) 31 (t .parted) (kind-is e) in
+      let m : entry S i 6 ≡ g .0 = rw (t .says .second, g .1) refl in
+      let p = parts-split (g .0) (rw (g .1, append-nil) refl) in
+      rw m (rw (t .here, kind-is e, p .0, span-is 31 _ e refl) refl, p .1)
+
+  abbrev WrapAt : ℕ → Type 0
+  WrapAt k =
+      kindAt S i ≡ k
+      → (exprAt s i ≡ wrap i (spanAt s S i) (getD (Checked ∷ Wrapping ∷ []) (k - 32) Wrapping) (exprAt s (suc i))) × Row S grammar.Expr 1 (suc i)
+
+  pub wrap-at : (k : ℕ) → 32 ≤ k → k < 34 → WrapAt k
+  unfolding exprAt exprOf sorts times
+  wrap-at k a b =
+      pick {P = WrapAt} {i = 32} {n = 2} k
+      ((λ e.
+      let p = parts-split 0 (rw (parts (t .line) 32 (t .parted) (kind-is e)) refl) in
+      (rw (t .here, kind-is e, p .0, span-is 32 _ e refl) refl, p .1))
+      also (λ e.
+      let p = parts-split 0 (rw (parts (t .line) 33 (t .parted) (kind-is e)) refl) in
+      (rw (t .here, kind-is e, p .0, span-is 33 _ e refl) refl, p .1))
+      also stop)
+      a b
+
+  abbrev LeafAt : ℕ → Type 0
+  LeafAt k = kindAt S i ≡ k → exprAt s i ≡ leaf i (spanAt s S i) (leafAt k (nameAt s S i))
+
+  pub leaf-at : (k : ℕ) → 20 ≤ k → k < 28 → LeafAt k
+  unfolding exprAt exprOf
+  leaf-at k a b =
+      pick {P = LeafAt} {i = 20} {n = 8} k
+      ((λ e. rw (t .here, kind-is e, t .spells .name, span-is 20 _ e refl) refl)
+      also (λ e. rw (t .here, kind-is e, t .spells .name, span-is 21 _ e refl) refl)
+      also (λ e. rw (t .here, kind-is e, span-is 22 _ e refl) refl)
+      also (λ e. rw (t .here, kind-is e, span-is 23 _ e refl) refl)
+      also (λ e. rw (t .here, kind-is e, span-is 24 _ e refl) refl)
+      also (λ e. rw (t .here, kind-is e, span-is 25 _ e refl) refl)
+      also (λ e. rw (t .here, kind-is e, span-is 26 _ e refl) refl)
+      also (λ e. rw (t .here, kind-is e, span-is 27 _ e refl) refl)
+      also stop)
+      a b
+
+  pub line-at : line (exprAt s i) ≡ i
+  unfolding line
+  line-at = go (ltb (kindAt S i) 28) refl
+    where
+      go : (b : Bool) → ltb (kindAt S i) 28 ≡ b → line (exprAt s i) ≡ i
+      go true q = rw (leaf-at (kindAt S i) (h .kind .0) (ltb-true (kindAt S i) 28 q) refl) refl
+      go false q =
+          pick {P = λ k. kindAt S i ≡ k → line (exprAt s i) ≡ i} {i = 28} {n = 6} (kindAt S i)
+          ((λ e. rw (un-at e .0) refl)
+          also (λ e. rw (bin-at e .0) refl)
+          also (λ e. rw (dot-at e .0) refl)
+          also (λ e. rw (call-at e .0) refl)
+          also (λ e. rw (wrap-at 32 (omega arith) (omega arith) e .0) refl)
+          also (λ e. rw (wrap-at 33 (omega arith) (omega arith) e .0) refl)
+          also stop)
+          (ltb-false (kindAt S i) 28 q) (h .kind .1) refl

@@ -1,0 +1,180 @@
+-- What is known of the lines of a sheet that is loaded. Assumes nothing.
+use mathlib.Core.Path.{_≡_, refl, sym, ap, _∙_}
+use mathlib.Core.List.{List, [], _∷_, _++_}
+use Prim.Native.Nat.{ℕ, zero, suc, _+_, _-_, _/_, _*_, _<_, _≤_}
+use native.Mathlib.Omega.{arith}
+use lib.ListN.{length}
+use Rattle.sheet.specs.Grammar.{Sort}
+use Rattle.sheet.specs.Line.{Line}
+use Rattle.sheet.specs.Load.{sorts, times}
+use Rattle.sheet.specs.Tree.{Node, node, Nodes, nil, more, takeNodes, build as trees}
+use Rattle.sheet.specs.Scratch.{kindAt, endAt}
+use Rattle.sheet.specs.Held.{Says, Held, held, HeldAll, no-tree, tree, Every, every, EveryOf, no-more, and-more, Spells, Among, Parted, Formed, formed, FormedAll, none-due, one-due, Holding}
+use Rattle.sheet.proofs.Holds.{all-le}
+use Rattle.rules.specs.Ast.{more as moreExprs, nodes, exprOf, exprsOf}
+use Rattle.rules.specs.Standing.{linesIn, before, without, treesFrom, nodeAt, nodesAt, exprAt, exprsAt, Loaded, Here, Row, stop, next}
+
+-- the trees from line i on: what their records are, where they stand and what they say
+record Trees (s S : List ℕ) (n i : ℕ) (ns : Nodes) : Type 0 where
+  due : List Sort
+  formed : FormedAll due ns
+  held : HeldAll S n i n ns
+  spells : EveryOf (Spells s S) ns
+
+-- ------------------------------------------------------------ trees before others
+
+formed-before : {ss rs : List Sort} {ps ns : Nodes} → FormedAll ss ps → FormedAll rs ns → FormedAll (ss ++ rs) (before ps ns)
+unfolding before
+formed-before none-due h = h
+formed-before (one-due f fs) h = one-due f (formed-before fs h)
+
+held-before : {S : List ℕ} {n i j k : ℕ} {ps ns : Nodes} → HeldAll S n i j ps → HeldAll S n j k ns → HeldAll S n i k (before ps ns)
+unfolding before
+held-before no-tree h = h
+held-before (tree t ts) h = tree t (held-before ts h)
+
+spells-before : {P : ℕ → Line → Type 0} {ps ns : Nodes} → EveryOf P ps → EveryOf P ns → EveryOf P (before ps ns)
+unfolding before
+spells-before no-more h = h
+spells-before (and-more e es) h = and-more e (spells-before es h)
+
+-- ------------------------------------------------------------ line by line
+
+-- with its first line taken away
+below : {s S : List ℕ} {n i : ℕ} {ss : List Sort} {ns : Nodes} → i < n → FormedAll ss ns → HeldAll S n i n ns → EveryOf (Spells s S) ns
+    → Trees s S n (suc i) (without 1 ns)
+unfolding without
+below h none-due no-tree no-more = absurd (omega arith)
+below h (one-due (formed a p fs) gs) (tree (held b y r) rs) (and-more (every e es) xs) =
+    record { due = _; formed = formed-before fs gs; held = held-before r rs; spells = spells-before es xs }
+
+without-one : (k : ℕ) (ns : Nodes) → without (suc k) ns ≡ without 1 (without k ns)
+unfolding without
+without-one zero ns = refl
+without-one (suc k) nil = refl
+without-one (suc k) (more (node i l ps) ns) = without-one k (before ps ns)
+
+without-none : (k : ℕ) → without k nil ≡ nil
+unfolding without
+without-none zero = refl
+without-none (suc k) = refl
+
+without-add : (a b : ℕ) (ns : Nodes) → without (a + b) ns ≡ without b (without a ns)
+unfolding without
+without-add zero b ns = rw (let e : 0 + b ≡ b = omega arith in e) refl
+without-add (suc a) b nil = without-none (suc a + b) ∙ sym (without-none b)
+without-add (suc a) b (more (node i l ps) ns) = rw (let e : suc a + b ≡ suc (a + b) = omega arith in e) (without-add a b (before ps ns))
+
+-- with all lines of the first trees taken away, the others are left
+mutual
+  unfolding without before
+
+  past : {S : List ℕ} {n i : ℕ} {t : Node} → Held S n i t → (ns : Nodes) → (i < endAt S i) × (without (endAt S i - i) (more t ns) ≡ ns)
+  past {S} {i = i} (held {ps = ps} h y r) ns =
+      let q = past-all r ns in
+      (q .0, rw (let e : endAt S i - i ≡ suc (endAt S i - suc i) = omega (arith, q .0) in e) (q .1))
+
+  past-all : {S : List ℕ} {n i j : ℕ} {ps : Nodes} → HeldAll S n i j ps → (ns : Nodes) → (i ≤ j) × (without (j - i) (before ps ns) ≡ ns)
+  past-all {i = i} no-tree ns = (omega arith, rw (let e : i - i ≡ 0 = omega arith in e) refl)
+  past-all {S} {i = i} {j} (tree {t = t} {ns = ts} h r) ns =
+      let p = past h (before ts ns) in
+      let q = past-all r ns in (
+        omega (arith, p .0, q .0),
+        rw (let e : j - i ≡ (endAt S i - i) + (j - endAt S i) = omega (arith, p .0, q .0) in e)
+            (without-add (endAt S i - i) (j - endAt S i) _ ∙ rw (p .1) (q .1)),
+      )
+
+-- ------------------------------------------------------------ a sheet that is loaded
+
+-- what is known of line i
+pub record Stands (s S : List ℕ) (i : ℕ) : Type 0 where
+  pub line : Line
+  pub parts : Nodes
+  pub here : nodeAt s i ≡ node i line parts
+  pub says : Says S i line
+  pub spells : Spells s S i line
+  pub parted : Parted line
+  pub formed : FormedAll (sorts (line .parts)) parts
+  pub held : HeldAll S (length S / 8) (suc i) (endAt S i) parts
+  pub behind : treesFrom s (suc i) ≡ before parts (treesFrom s (endAt S i))
+  pub next : treesFrom s i ≡ more (nodeAt s i) (treesFrom s (endAt S i))
+
+module _ {s S : List ℕ} (d : Loaded s S) where
+  abbrev n : ℕ
+  n = length S / 8
+
+  from-line : (i : ℕ) → i ≤ n → Trees s S n i (treesFrom s i)
+  unfolding treesFrom without
+  from-line zero h =
+      rw (d .one)
+      (record {
+        due = _;
+        formed = one-due (d .holding .formed) none-due;
+        held = tree {j = n} {ns = nil} (d .holding .held) (rw (d .holding .all) no-tree);
+        spells = and-more (d .holding .spells) no-more;
+      })
+  from-line (suc i) h =
+      let t = from-line i (omega arith) in
+      rw (without-one i (trees 0 (linesIn s))) (below h (t .formed) (t .held) (t .spells))
+
+  taken : (i j : ℕ) → i ≤ j → treesFrom s j ≡ without (j - i) (treesFrom s i)
+  unfolding treesFrom
+  taken i j h = rw (let e : j ≡ i + (j - i) = omega arith in e) (without-add i (j - i) _ ∙ rw (let f : i + (j - i) - i ≡ j - i = omega arith in f) refl)
+
+  first-of : (i : ℕ) (ns : Nodes) {ss : List Sort} → treesFrom s i ≡ ns → i < n → FormedAll ss ns → HeldAll S n i n ns → EveryOf (Spells s S) ns → Stands s S i
+  unfolding nodeAt without
+  first-of i nil q h none-due no-tree no-more = absurd (omega arith)
+  first-of i (more t ns) q h (one-due (formed {l = l} {ps = ps} a p fs) gs) (tree (held b y r) rs) (and-more (every e es) xs) =
+      let w = past-all r ns in
+      let behind : treesFrom s (suc i) ≡ before ps ns = taken i (suc i) (omega arith) ∙ rw (q, let f : suc i - i ≡ 1 = omega arith in f) refl in
+      let end : treesFrom s (endAt S i) ≡ ns = taken (suc i) (endAt S i) (w .0) ∙ rw behind (w .1) in
+      record {
+        line = l;
+        parts = ps;
+        here = rw q refl;
+        says = y;
+        spells = e;
+        parted = p;
+        formed = fs;
+        held = r;
+        behind = rw end behind;
+        next = rw (q, end) refl;
+      }
+
+  pub stands : (i : ℕ) → i < n → Stands s S i
+  stands i h = let t = from-line i (omega arith) in first-of i (treesFrom s i) refl h (t .formed) (t .held) (t .spells)
+
+  -- one record, and those behind it
+  pub nodes-next : (k i : ℕ) → i < n → nodesAt s (suc k) i ≡ nodeAt s i ∷ nodesAt s k (endAt S i)
+  unfolding nodesAt takeNodes nodes
+  nodes-next k i h = rw (stands i h .next) refl
+
+  pub exprs-next : (k i : ℕ) → i < n → exprsAt s (suc k) i ≡ moreExprs (exprAt s i) (exprsAt s k (endAt S i))
+  unfolding exprsAt exprAt takeNodes exprsOf
+  exprs-next k i h = rw (stands i h .next) refl
+
+-- a line's parts are the records behind it
+taken-parts : {ss : List Sort} {ps : Nodes} → FormedAll ss ps → (ns : Nodes) → takeNodes (length ss) (before ps ns) ≡ ps
+unfolding takeNodes before
+taken-parts none-due ns = refl
+taken-parts (one-due {t = t} f fs) ns = ap (more t) (taken-parts fs ns)
+
+pub parts-behind : {s S : List ℕ} {i : ℕ} (t : Stands s S i) → t .parts ≡ takeNodes (length (sorts (t .line .parts))) (treesFrom s (suc i))
+parts-behind t = rw (t .behind) (sym (taken-parts (t .formed) _))
+
+-- the first k parts of a line, which are of the sort σ, stand one behind another
+row-of : {S : List ℕ} {n j : ℕ} {σ : Sort} (k : ℕ) (rs : List Sort) {i : ℕ} {ps : Nodes} → n ≡ length S / 8 → FormedAll (times k σ ++ rs) ps → HeldAll S n i j ps → Row S σ k i
+unfolding times
+row-of zero os e f h = stop
+row-of (suc k) os e (one-due (formed a p fs) gs) (tree {i = i} (held b y r) rs) =
+    next {i = i} (record { within = rw (← e) b; kind = rw (y .kind) a; after = all-le r }) (row-of k os e gs rs)
+
+-- with the line after them
+pub row-behind : {s S : List ℕ} {i : ℕ} {σ : Sort} (k : ℕ) (rs : List Sort) (t : Stands s S i) → sorts (t .line .parts) ≡ times k σ ++ rs → Row S σ k (suc i)
+row-behind k rs t e = row-of k rs refl (rw e at (t .formed)) (t .held)
+
+pub row-first : {S : List ℕ} {σ : Sort} {k i : ℕ} → Row S σ (suc k) i → Here S σ i
+row-first (next h r) = h
+
+pub row-rest : {S : List ℕ} {σ : Sort} {k i : ℕ} → Row S σ (suc k) i → Row S σ k (endAt S i)
+row-rest (next h r) = r

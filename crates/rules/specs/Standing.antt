@@ -1,0 +1,90 @@
+-- What stands at a line of a sheet: the tree of its record, told from the sheet's bytes alone.
+use Prim.Native.Nat.{ℕ, zero, suc, _/_, _<_}
+use mathlib.Core.List.{List, []}
+use mathlib.Core.Path.{_≡_}
+use lib.ListN.{length}
+use Rattle.sheet.specs.Grammar.{Sort}
+use Rattle.sheet.specs.Held.{Among, Holding}
+use Rattle.sheet.specs.Line.{Line}
+use Rattle.sheet.specs.Load.{Loaded as Read, lines, refused}
+use Rattle.sheet.specs.Scan.{scanAll}
+use Rattle.sheet.specs.Scratch.{kindAt, endAt}
+use Rattle.sheet.specs.Tree.{Node, node, Nodes, nil, more, takeNodes, build as trees}
+use Rattle.rules.specs.Ast.{Type', Arg, Expr, Exprs, Field, Param, blankNode, nodes, argOf, typeOf, exprOf, exprsOf, fieldOf, paramOf}
+use Rattle.rules.specs.Model.{Model}
+use Rattle.rules.specs.Verdict.{modelOf}
+
+-- the lines of a sheet, none where it is refused
+unfoldable pub readLines : Read → List Line
+readLines (lines ls) = ls
+readLines (refused n i) = []
+
+unfoldable pub linesIn : List ℕ → List Line
+linesIn s = readLines (scanAll s)
+
+unfoldable pub modelIn : List ℕ → Model
+modelIn s = modelOf (linesIn s)
+
+-- trees before others
+unfoldable pub before : Nodes → Nodes → Nodes
+before nil ns = ns
+before (more t ts) ns = more t (before ts ns)
+
+-- the trees that are left when k lines are taken away, each from the first tree
+unfoldable pub without : ℕ → Nodes → Nodes
+without zero ns = ns
+without (suc k) nil = nil
+without (suc k) (more (node i l ps) ns) = without k (before ps ns)
+
+-- the trees from line i on
+unfoldable pub treesFrom : List ℕ → ℕ → Nodes
+treesFrom s i = without i (trees 0 (linesIn s))
+
+abbrev firstOf : Nodes → Node
+firstOf nil = blankNode
+firstOf (more t ts) = t
+
+-- the record at line i with its parts
+unfoldable pub nodeAt : List ℕ → ℕ → Node
+nodeAt s i = firstOf (treesFrom s i)
+
+-- k records, one behind another, the first at line i
+unfoldable pub nodesAt : List ℕ → ℕ → ℕ → List Node
+nodesAt s k i = nodes (takeNodes k (treesFrom s i))
+
+unfoldable pub exprAt : List ℕ → ℕ → Expr
+exprAt s i = exprOf (nodeAt s i)
+
+unfoldable pub exprsAt : List ℕ → ℕ → ℕ → Exprs
+exprsAt s k i = exprsOf (takeNodes k (treesFrom s i))
+
+unfoldable pub typeAt : List ℕ → ℕ → Type'
+typeAt s i = typeOf (nodeAt s i)
+
+unfoldable pub argAt : List ℕ → ℕ → Arg
+argAt s i = argOf (nodeAt s i)
+
+unfoldable pub fieldAt : List ℕ → ℕ → Field
+fieldAt s i = fieldOf (nodeAt s i)
+
+unfoldable pub paramAt : List ℕ → ℕ → Param
+paramAt s i = paramOf (nodeAt s i)
+
+-- ------------------------------------------------------------ lines that are loaded
+
+-- the entries S are those of the sheet s, which is read
+pub record Loaded (s S : List ℕ) : Type 0 where
+  pub root : Node
+  pub one : trees 0 (linesIn s) ≡ more root nil
+  pub holding : Holding s S (length S / 8) root
+
+-- at line i stands a record that may stand where the sort σ is due
+pub record Here (S : List ℕ) (σ : Sort) (i : ℕ) : Type 0 where
+  pub within : i < length S / 8
+  pub kind : Among σ (kindAt S i)
+  pub after : i < endAt S i
+
+-- k such records, one behind another, the first at line i
+pub data Row (S : List ℕ) (σ : Sort) : ℕ → ℕ → Type 0 where
+  stop : {i : ℕ} → Row S σ zero i
+  next : {k i : ℕ} → Here S σ i → Row S σ k (endAt S i) → Row S σ (suc k) i
