@@ -9,7 +9,7 @@ use Rattle.rules.specs.Ast.{UnaryOp, Not, Neg, BinOp, Or, And, Eq, Ne, L
 use Rattle.rules.specs.Asking.{Ty, Int, Boolean, Address, Asset, Word64, TName, Time, Str, Unknown, Rule, ret, ask, _>>=_, _>>_, expect, when, ifSome}
 use Rattle.rules.specs.Declared.{isZeroLiteral, tyOfDecl, declaredArg, eqTy, isTy, describe, numeric, compatible}
 use Rattle.rules.specs.Declarations.{typeText}
-use Rattle.rules.specs.Model.{Model, state'}
+use Rattle.rules.specs.Model.{Model, fieldNamed}
 
 pub record Env : Type 0 where
   pub model : Model
@@ -102,7 +102,7 @@ fieldOf Γ e =
     elim (identOf e) [
       | none ↦ none
       | some x ↦
-          elim (get x (Γ .params)) [ some t ↦ none | none ↦ state' (Γ .model) x ]
+          elim (get x (Γ .params)) [ some t ↦ none | none ↦ fieldNamed (Γ .model) x ]
     ]
 
 unfoldable pub keyedField : Env → Expr → Option Field
@@ -193,7 +193,7 @@ tyOfIdent Γ x =
           elim (get x (Γ .locals)) [
             | some t ↦ t
             | none ↦
-                elim (state' (Γ .model) x) [
+                elim (fieldNamed (Γ .model) x) [
                   | some f ↦ tyOfDecl (f .ty)
                   | none ↦
                       elim (is x "deployer") [ true ↦ Address | false ↦ Unknown ]
