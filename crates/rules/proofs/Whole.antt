@@ -9,7 +9,7 @@ use Rattle.rules.specs.Text.{Name}
 use Rattle.rules.specs.Ast.{AssignOp, Expr, leaf, unary, binary, field, call, wrap, Exprs, nil, more, Param, Field, Clause, limits, denies, mints, after, Entry, Stmt, guard, bind, emit, assign, do', list}
 use Rattle.rules.specs.Asking.{Ty, Rule, ret, _>>_, Out, fresh, ok, forEach, ifSome}
 use Rattle.rules.specs.Model.{Model}
-use Rattle.rules.specs.Typing.{Env, new, bound, Asked, callOf, typings, askOf, tyOf}
+use Rattle.rules.specs.Typing.{Env, new, bound, Asked, Call, callOf, typings, askOf, tyOf}
 use Rattle.rules.specs.Statements.{checkEmitField, checkEmitFields, checkAssign, checkKeyedUse, checkStmtTypes, expectPredicate, refuseNameRecipient}
 use Rattle.rules.specs.KeyKinds.{present, clauseExprs, bodyExprs}
 use Rattle.rules.specs.Check.{clausePredicate, checkBody, paramTypes, checkEntry, madeUp, checkDefault, checkGenesis}
@@ -34,14 +34,19 @@ module _ (m : ℕ → Out Ty) (n : ℕ) where
   unfolding checkAssign
   w-assign Γ o t v h k = search (rules, s-assign)
 
+  -- a rule of a call, whose arguments fit
+  w-call : (Γ : Env) (e : Expr) (f : Call → Rule Unit) → Fits m n Γ e → ((c : Call) → FitsAll m n Γ (c .args) → C m n (f c)) → C m n (ifSome (callOf e) f)
+  unfolding callOf ifSome
+  w-call Γ (leaf l s k) f h g = tt
+  w-call Γ (unary l s o e) f h g = tt
+  w-call Γ (binary l s o a b) f h g = tt
+  w-call Γ (field l s e x k) f h g = tt
+  w-call Γ (call l s c es) f h g = g _ (h .1)
+  w-call Γ (wrap l s w e) f h g = tt
+
   w-use : (Γ : Env) (e : Expr) → Fits m n Γ e → C m n (checkKeyedUse Γ e)
-  unfolding checkKeyedUse callOf ifSome
-  w-use Γ (leaf l s k) h = tt
-  w-use Γ (unary l s o e) h = tt
-  w-use Γ (binary l s o a b) h = tt
-  w-use Γ (field l s e x k) h = tt
-  w-use Γ (call l s c es) h = c-keyed m n Γ c (typings Γ es) (c-typings m n Γ es (h .1))
-  w-use Γ (wrap l s w e) h = tt
+  unfolding checkKeyedUse
+  w-use Γ e h = w-call Γ e _ h (λ c k. c-keyed m n Γ (c .callee) (typings Γ (c .args)) (c-typings m n Γ (c .args) k))
 
   w-stmt : (Γ : Env) (o : AssignOp) (s : ℕ) (t v : Expr) → Fits m n Γ t → Fits m n Γ v → C m n (checkStmtTypes Γ (assign s o t v))
   unfolding checkStmtTypes
@@ -64,14 +69,12 @@ module _ (m : ℕ → Out Ty) (n : ℕ) where
   fits-at Γ (more x es) (suc k) a h e = fits-at Γ es k a (h .1) e
 
   w-recipient : (Γ : Env) (e : Expr) → Fits m n Γ e → C m n (refuseNameRecipient Γ e)
-  unfolding refuseNameRecipient callOf ifSome
-  w-recipient Γ (leaf l s k) h = tt
-  w-recipient Γ (unary l s o e) h = tt
-  w-recipient Γ (binary l s o a b) h = tt
-  w-recipient Γ (field l s e x k) h = tt
-  w-recipient Γ (call l s c es) h =
-      s-for m n _ _ (λ k. w-some (getElem? (list es) k) _ (λ a q. c-bind m n (tyOf Γ a) _ (c-tyOf m n Γ a (fits-at Γ es k a (h .1) q)) (λ _. c-expect m n _ _ _ _)))
-  w-recipient Γ (wrap l s w e) h = tt
+  unfolding refuseNameRecipient
+  w-recipient Γ e h =
+      w-call Γ e _ h
+      (λ c k.
+      s-for m n _ _
+      (λ i. w-some (getElem? (list (c .args)) i) _ (λ a q. c-bind m n (tyOf Γ a) _ (c-tyOf m n Γ a (fits-at Γ (c .args) i a k q)) (λ _. c-expect m n _ _ _ _))))
 
   w-emit-field : (Γ : Env) (e : Expr) (p : Param) → Fits m n Γ e → C m n (checkEmitField Γ e p)
   unfolding checkEmitField
