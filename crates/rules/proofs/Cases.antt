@@ -1,13 +1,13 @@
--- Document 01's cases P1 to P10, Block_HASH and the worked example, by computation from the bytes of each sheet.
--- Assumes nothing.
+-- Document 01's cases P1 to P10, Block_HASH, the open place of refusal 20 and the worked example, by computation from the
+-- bytes of each sheet. Assumes nothing.
 use Prim.Native.Nat.{ℕ, _*_}
 use Prim.Native.String.{String}
 use mathlib.Core.Path.{_≡_, refl}
 use mathlib.Core.List.{List, [], _∷_, _++_}
 use lib.ListN.{length}
 use Rattle.text.specs.Text.{bytes}
-use Rattle.sheet.specs.Load.{times}
-use Rattle.rules.specs.Verdict.{Answer}
+use Rattle.sheet.specs.Load.{times, load}
+use Rattle.rules.specs.Verdict.{Answer, places}
 use Rattle.rules.specs.Computed.{computed}
 
 abbrev Sheet : Type 0
@@ -125,6 +125,22 @@ stated (c ∷ cs) = (c .1, c .2) ∷ stated cs
 proved : given cases ≡ stated cases
 unfolding answer times default guardians owner emits pool mapped grows checked word cases given stated
 proved = refl
+
+-- a state of four guardian sets: g of 0 members, h of 257, g again of 257, k of 256
+several : Sheet
+several =
+    "contract,1" ∷ "state,4" ∷ "field,1,g,0" ∷ "type,2,GuardianSet,1" ∷ "num,0" ∷ "field,3,h,0" ∷ "type,4,GuardianSet,1" ∷ "num,257"
+    ∷ "field,5,g,0" ∷ "type,6,GuardianSet,1" ∷ "num,257" ∷ "field,7,k,0" ∷ "type,8,GuardianSet,1" ∷ "num,256" ∷ []
+
+-- the places that are allowed
+allowed : Sheet → List ℕ
+unfolding computed sheet
+allowed ls = places (load (sheet ls) (length ls) (8 * length ls)) (answer ls .number) (answer ls .place)
+
+-- refusal 20 may name any bad field that is the last of its name; the rules name the first
+open-place : (verdict several ≡ (20, 4)) × (allowed several ≡ 4 ∷ 6 ∷ [])
+unfolding answer several allowed
+open-place = (refl, refl)
 
 -- P1's count
 P1-count : answer ("contract,0" ∷ []) .count ≡ 0

@@ -4,7 +4,7 @@ use mathlib.Core.List.{List, [], _∷_, _++_}
 use mathlib.Core.Bool.{cond}
 use mathlib.Core.Option.{Option, none, some}
 use mathlib.Core.Logic.{inl}
-use Prim.Native.Nat.{ℕ, _<_, _≤_, _+_}
+use Prim.Native.Nat.{ℕ, _<_, _≤_}
 use native.Mathlib.Omega.{arith}
 use lib.Dec.{ltb}
 use lib.ListN.{length, replicate, length-replicate}
@@ -14,7 +14,7 @@ use Rattle.sheet.specs.Load.{Loaded, lines, refused as unread, load}
 use Rattle.sheet.specs.Tree.{build as trees}
 use Rattle.rules.specs.Text.{Name}
 use Rattle.rules.specs.Ast.{Expr, Field, Entry, Stmt, guard, bind, emit, assign, do', Item, state, event, invariant, genesis, entry, contractOf}
-use Rattle.rules.specs.Asking.{Ty, Int, Rule, ret, _>>=_, _>>_, Out, fresh, Res, ok, refused, ifSome}
+use Rattle.rules.specs.Asking.{Ty, Int, Rule, ret, Out, fresh, Res, ok, refused, ifSome}
 use Rattle.rules.specs.Kept.{kept, marks}
 use Rattle.rules.specs.Model.{Model, itemModel, joined, build}
 use Rattle.rules.specs.Typing.{Env, new, inGenesis, bound, stale, tyOf}
@@ -22,11 +22,12 @@ use Rattle.rules.specs.Statements.{expectPredicate}
 use Rattle.rules.specs.KeyKinds.{present, clauseExprs, bodyExprs, entryExprs}
 use Rattle.rules.specs.Check.{paramTypes, checkEntry, checkField, checkDefault, checkGenesis, beforeEntries, check}
 use Rattle.rules.specs.Verdict.{modelOf, ruled, judge, verdict, keptJudge, keptVerdict}
+use Rattle.rules.proofs.All.{All, all-append, all-split}
 use Rattle.rules.proofs.Keeps.{zeros, keeps}
 use Rattle.rules.proofs.Coherence.{C, c-then, Fits}
 use Rattle.rules.proofs.Lines.{next, ends, outAt, fits}
 use Rattle.rules.proofs.Silent.{CEach, s-each, s-for, s-storable, s-digest, s-guardian, s-event-param, s-entry-param, s-key-kinds}
-use Rattle.rules.proofs.Whole.{FitsEach, FitsBody, fits-append, w-predicate, w-entry, w-default, w-genesis}
+use Rattle.rules.proofs.Whole.{FitsEach, FitsBody, w-predicate, w-entry, w-default, w-genesis}
 use Rattle.rules.proofs.Ordered.{Ordered, defaults, itemExprs, allExprs, ordered}
 
 -- An expression, with the surroundings in which its type is asked.
@@ -101,15 +102,10 @@ exprs-all M (i ∷ is') = exprs-append (itemPairs M i) _ ∙ rw (exprs-item M i,
 
 -- ------------------------------------------------------------ no `let` is bound later than its own statement
 
-abbrev Plain : List Pair → Type 0
-Plain [] = Unit
-Plain (p ∷ ps) = (p .0 .later ≡ []) × Plain ps
+abbrev Plain : Pair → Type 0
+Plain p = p .0 .later ≡ []
 
-plain-append : (ps qs : List Pair) → Plain ps → Plain qs → Plain (ps ++ qs)
-plain-append [] qs h k = k
-plain-append (p ∷ ps) qs h k = (h .0, plain-append ps qs (h .1) k)
-
-plain-with : (Γ : Env) (es : List Expr) → Γ .later ≡ [] → Plain (withEnv Γ es)
+plain-with : (Γ : Env) (es : List Expr) → Γ .later ≡ [] → All Plain (withEnv Γ es)
 plain-with Γ [] h = tt
 plain-with Γ (e ∷ es) h = (h, plain-with Γ es h)
 
@@ -118,27 +114,27 @@ unfolding bound
 plain-bound Γ x (ok t) h = h
 plain-bound Γ x (refused r) h = h
 
-plain-body : (Γ : Env) (ss : List Stmt) → Γ .later ≡ [] → Plain (bodyPairs Γ ss)
+plain-body : (Γ : Env) (ss : List Stmt) → Γ .later ≡ [] → All Plain (bodyPairs Γ ss)
 plain-body Γ [] h = tt
 plain-body Γ (guard e ∷ ss) h = (h, plain-body Γ ss h)
 plain-body Γ (bind x v ∷ ss) h = (h, plain-body _ ss (plain-bound Γ x (fresh (tyOf Γ v) .res) h))
-plain-body Γ (emit x es ∷ ss) h = plain-append (withEnv Γ es) _ (plain-with Γ es h) (plain-body Γ ss h)
+plain-body Γ (emit x es ∷ ss) h = all-append Plain (withEnv Γ es) _ (plain-with Γ es h) (plain-body Γ ss h)
 plain-body Γ (assign s o t v ∷ ss) h = (h, (h, plain-body Γ ss h))
 plain-body Γ (do' e ∷ ss) h = (h, plain-body Γ ss h)
 
-plain-item : (M : Model) (i : Item) → Plain (itemPairs M i)
+plain-item : (M : Model) (i : Item) → All Plain (itemPairs M i)
 unfolding new inGenesis
 plain-item M (state fs) = plain-with (new M []) (defaults fs) refl
 plain-item M (event e) = tt
 plain-item M (invariant e) = (refl, tt)
 plain-item M (genesis ss) = plain-with (inGenesis (new M [])) (bodyExprs ss) refl
 plain-item M (entry en) =
-    plain-append (withEnv (entryEnv M en) (clauseExprs (en .clauses))) (bodyPairs (entryEnv M en) (en .body)) (plain-with (entryEnv M en) (clauseExprs (en .clauses)) refl)
+    all-append Plain (withEnv (entryEnv M en) (clauseExprs (en .clauses))) (bodyPairs (entryEnv M en) (en .body)) (plain-with (entryEnv M en) (clauseExprs (en .clauses)) refl)
     (plain-body (entryEnv M en) (en .body) refl)
 
-plain-all : (M : Model) (is' : List Item) → Plain (allPairs M is')
+plain-all : (M : Model) (is' : List Item) → All Plain (allPairs M is')
 plain-all M [] = tt
-plain-all M (i ∷ is') = plain-append (itemPairs M i) _ (plain-item M i) (plain-all M is')
+plain-all M (i ∷ is') = all-append Plain (itemPairs M i) _ (plain-item M i) (plain-all M is')
 
 -- ------------------------------------------------------------ what typing each line comes to
 
@@ -151,11 +147,10 @@ ordered-most i j [] h = h
 ordered-most i j (e ∷ es) h = let a = ends e (h .1) in let b = ordered-most (next e) j es (h .2) in let c = h .0 in omega arith
 
 module _ (m : ℕ → Out Ty) (n : ℕ) where
-  abbrev EachFits : List Pair → Type 0
-  EachFits [] = Unit
-  EachFits (p ∷ ps) = Fits m n (p .0) (p .1) × EachFits ps
+  abbrev FitsIn : Pair → Type 0
+  FitsIn p = Fits m n (p .0) (p .1)
 
-  fits-pairs : (ps : List Pair) (i j : ℕ) → Ordered i j (exprs ps) → j ≤ n → Plain ps → ((x : ℕ) → i ≤ x → x < j → m x ≡ outOf ps x) → EachFits ps
+  fits-pairs : (ps : List Pair) (i j : ℕ) → Ordered i j (exprs ps) → j ≤ n → All Plain ps → ((x : ℕ) → i ≤ x → x < j → m x ≡ outOf ps x) → All FitsIn ps
   unfolding stale
   fits-pairs [] i j o b p f = tt
   fits-pairs (p ∷ ps) i j o b q f =
@@ -168,29 +163,17 @@ module _ (m : ℕ → Out Ty) (n : ℕ) where
         fits-pairs ps (next e) j (o .2) b (q .1) (λ x u v. f x (omega arith) v ∙ rw (le-ltb x (next e) u)),
       )
 
-  each-append : (ps qs : List Pair) → EachFits (ps ++ qs) → EachFits ps × EachFits qs
-  each-append [] qs h = (tt, h)
-  each-append (p ∷ ps) qs h = let r = each-append ps qs (h .1) in ((h .0, r .0), r .1)
-
-  each-with : (Γ : Env) (es : List Expr) → EachFits (withEnv Γ es) → FitsEach m n Γ es
+  each-with : (Γ : Env) (es : List Expr) → All FitsIn (withEnv Γ es) → FitsEach m n Γ es
   each-with Γ [] h = tt
   each-with Γ (e ∷ es) h = (h .0, each-with Γ es (h .1))
 
-  each-body : (Γ : Env) (ss : List Stmt) → EachFits (bodyPairs Γ ss) → FitsBody m n Γ ss
+  each-body : (Γ : Env) (ss : List Stmt) → All FitsIn (bodyPairs Γ ss) → FitsBody m n Γ ss
   each-body Γ [] h = tt
   each-body Γ (guard e ∷ ss) h = (h .0, each-body Γ ss (h .1))
   each-body Γ (bind x v ∷ ss) h = (h .0, λ t q. each-body (bound Γ x t) ss (rw q at (h .1)))
-  each-body Γ (emit x es ∷ ss) h = let r = each-append (withEnv Γ es) _ h in (each-with Γ es (r .0), each-body Γ ss (r .1))
+  each-body Γ (emit x es ∷ ss) h = let r = all-split FitsIn (withEnv Γ es) _ h in (each-with Γ es (r .0), each-body Γ ss (r .1))
   each-body Γ (assign s o t v ∷ ss) h = (h .0, h .1 .0, each-body Γ ss (h .1 .1))
   each-body Γ (do' e ∷ ss) h = (h .0, each-body Γ ss (h .1))
-
-  fits-both : (Γ : Env) (as' bs : List Expr) → FitsEach m n Γ as' → FitsEach m n Γ bs → FitsEach m n Γ (as' ++ bs)
-  fits-both Γ [] bs h k = k
-  fits-both Γ (a ∷ as') bs h k = (h .0, fits-both Γ as' bs (h .1) k)
-
-  ceach-append : {A : Type 0} (f : A → Rule Unit) (as' bs : List A) → CEach m n f as' → CEach m n f bs → CEach m n f (as' ++ bs)
-  ceach-append f [] bs h k = k
-  ceach-append f (a ∷ as') bs h k = (h .0, ceach-append f as' bs (h .1) k)
 
   -- ------------------------------------------------------------ `check` is coherent where every expression fits
 
@@ -205,7 +188,7 @@ module _ (m : ℕ → Out Ty) (n : ℕ) where
 
   c-fields : (M : Model) (fs : List Field) → FitsEach m n (new M []) (defaults fs) → CEach m n (checkField (new M [])) fs
   c-fields M [] h = tt
-  c-fields M (f ∷ fs) h = let r = fits-append m n (new M []) (present (f .default)) (defaults fs) h in (c-field M f (r .0), c-fields M fs (r .1))
+  c-fields M (f ∷ fs) h = let r = all-split (Fits m n (new M [])) (present (f .default)) (defaults fs) h in (c-field M f (r .0), c-fields M fs (r .1))
 
   c-genesis : (Γ : Env) (ss : List Stmt) → FitsEach m n Γ (bodyExprs ss) → CEach m n (checkGenesis Γ) ss
   unfolding bodyExprs
@@ -213,14 +196,14 @@ module _ (m : ℕ → Out Ty) (n : ℕ) where
   c-genesis Γ (guard e ∷ ss) h = (w-genesis m n Γ (guard e) (h .0, tt), c-genesis Γ ss (h .1))
   c-genesis Γ (bind x v ∷ ss) h = (w-genesis m n Γ (bind x v) (h .0, tt), c-genesis Γ ss (h .1))
   c-genesis Γ (emit x es ∷ ss) h =
-      let r = fits-append m n Γ es (bodyExprs ss) h in
-      (w-genesis m n Γ (emit x es) (fits-both Γ es [] (r .0) tt), c-genesis Γ ss (r .1))
+      let r = all-split (Fits m n Γ) es (bodyExprs ss) h in
+      (w-genesis m n Γ (emit x es) (all-append (Fits m n Γ) es [] (r .0) tt), c-genesis Γ ss (r .1))
   c-genesis Γ (assign s o t v ∷ ss) h = (w-genesis m n Γ (assign s o t v) (h .0, (h .1 .0, tt)), c-genesis Γ ss (h .1 .1))
   c-genesis Γ (do' e ∷ ss) h = (w-genesis m n Γ (do' e) (h .0, tt), c-genesis Γ ss (h .1))
 
-  c-item-entry : (M : Model) (en : Entry) → EachFits (itemPairs M (entry en)) → C m n (checkEntry M en)
+  c-item-entry : (M : Model) (en : Entry) → All FitsIn (itemPairs M (entry en)) → C m n (checkEntry M en)
   c-item-entry M en h =
-      let r = each-append (withEnv (entryEnv M en) (clauseExprs (en .clauses))) (bodyPairs (entryEnv M en) (en .body)) h in
+      let r = all-split FitsIn (withEnv (entryEnv M en) (clauseExprs (en .clauses))) (bodyPairs (entryEnv M en) (en .body)) h in
       w-entry m n M en (each-with (entryEnv M en) (clauseExprs (en .clauses)) (r .0)) (each-body (entryEnv M en) (en .body) (r .1))
 
   -- what `check` goes through, list by list
@@ -230,14 +213,14 @@ module _ (m : ℕ → Out Ty) (n : ℕ) where
     entries : CEach m n (checkEntry M) (build is' .entries)
     genesis : CEach m n (checkGenesis (inGenesis (new M []))) (build is' .genesis)
 
-  parts : (M : Model) (is' : List Item) → EachFits (allPairs M is') → Parts M is'
+  parts : (M : Model) (is' : List Item) → All FitsIn (allPairs M is') → Parts M is'
   unfolding build joined itemModel
   parts M [] h = record { fields = tt; invariants = tt; entries = tt; genesis = tt }
   parts M (state fs ∷ is') h =
-      let r = each-append (withEnv (new M []) (defaults fs)) (allPairs M is') h in
+      let r = all-split FitsIn (withEnv (new M []) (defaults fs)) (allPairs M is') h in
       let p = parts M is' (r .1) in
       record {
-        fields = ceach-append (checkField (new M [])) fs (build is' .fields) (c-fields M fs (each-with (new M []) (defaults fs) (r .0))) (p .fields);
+        fields = all-append (λ f. C m n (checkField (new M []) f)) fs (build is' .fields) (c-fields M fs (each-with (new M []) (defaults fs) (r .0))) (p .fields);
         invariants = p .invariants;
         entries = p .entries;
         genesis = p .genesis;
@@ -250,20 +233,20 @@ module _ (m : ℕ → Out Ty) (n : ℕ) where
       record { fields = p .fields; invariants = (w-predicate m n (new M []) e (h .0), p .invariants); entries = p .entries; genesis = p .genesis }
   parts M (genesis ss ∷ is') h =
       let Γ = inGenesis (new M []) in
-      let r = each-append (withEnv Γ (bodyExprs ss)) (allPairs M is') h in
+      let r = all-split FitsIn (withEnv Γ (bodyExprs ss)) (allPairs M is') h in
       let p = parts M is' (r .1) in
       record {
         fields = p .fields;
         invariants = p .invariants;
         entries = p .entries;
-        genesis = ceach-append (checkGenesis Γ) ss (build is' .genesis) (c-genesis Γ ss (each-with Γ (bodyExprs ss) (r .0))) (p .genesis);
+        genesis = all-append (λ s. C m n (checkGenesis Γ s)) ss (build is' .genesis) (c-genesis Γ ss (each-with Γ (bodyExprs ss) (r .0))) (p .genesis);
       }
   parts M (entry en ∷ is') h =
-      let r = each-append (itemPairs M (entry en)) (allPairs M is') h in
+      let r = all-split FitsIn (itemPairs M (entry en)) (allPairs M is') h in
       let p = parts M is' (r .1) in
       record { fields = p .fields; invariants = p .invariants; entries = (c-item-entry M en (r .0), p .entries); genesis = p .genesis }
 
-  c-check : (is' : List Item) → EachFits (allPairs (build is') is') → C m n (check (build is'))
+  c-check : (is' : List Item) → All FitsIn (allPairs (build is') is') → C m n (check (build is'))
   unfolding check beforeEntries
   c-check is' h =
       let M = build is' in

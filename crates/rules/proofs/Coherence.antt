@@ -9,6 +9,7 @@ use Rattle.rules.specs.Text.{Name, Piece}
 use Rattle.rules.specs.Ast.{UnaryOp, Not, Neg, BinOp, Or, And, Eq, Ne, Lt, Gt, Le, Ge, Add, Sub, Mul, Div, Rem, Shr, Expr, leaf, unary, binary, field, call, wrap, Exprs, nil, more, line}
 use Rattle.rules.specs.Asking.{Ty, Rule, ret, refuse, ask, _>>=_, _>>_, when, ifSome, expect, Out, fresh, ok}
 use Rattle.rules.specs.Typing.{Env, Asked, asked, expectAssetReceiver, expectKeyedOp, judgeKey, checkKeys, checkAmount, checkKeyedCall, askEach, typeCall, expectNumericOr, expectNumber, judgeUnary, logical, arithmetic, ordering, equality, judgeBinary, tyOfUnary, tyOfBinary, stale, typing, typings, askOf, tyOf}
+use Rattle.rules.proofs.All.{All}
 use Rattle.rules.proofs.Keeps.{Coherent, fresh-ok}
 
 module _ (m : ℕ → Out Ty) (n : ℕ) where
@@ -58,10 +59,6 @@ module _ (m : ℕ → Out Ty) (n : ℕ) where
   abbrev pub CA : Asked → Type 0
   CA a = C (a .ty)
 
-  abbrev pub CAs : List Asked → Type 0
-  CAs [] = Unit
-  CAs (a ∷ rest) = CA a × CAs rest
-
   pub c-receiver : (Γ : Env) (c : Expr) → C (expectAssetReceiver Γ c)
   unfolding expectAssetReceiver
   c-receiver Γ c = search rules
@@ -74,28 +71,28 @@ module _ (m : ℕ → Out Ty) (n : ℕ) where
   unfolding judgeKey
   c-key Γ f first e want got = search rules
 
-  pub c-keys : (Γ : Env) (f : Name) (first : Bool) (as' : List Asked) (ws : List Ty) → CAs as' → C (checkKeys Γ f first as' ws)
+  pub c-keys : (Γ : Env) (f : Name) (first : Bool) (as' : List Asked) (ws : List Ty) → All CA as' → C (checkKeys Γ f first as' ws)
   unfolding checkKeys
   c-keys Γ f first [] ws h = tt
   c-keys Γ f first (a ∷ rest) [] h = tt
   c-keys Γ f first (a ∷ rest) (w ∷ ws) h = let ih = c-keys Γ f false rest ws (h .1) in search (rules, c-key, h .0)
 
-  pub c-amount : (x : Name) (as' : List Asked) → CAs as' → C (checkAmount x as')
+  pub c-amount : (x : Name) (as' : List Asked) → All CA as' → C (checkAmount x as')
   unfolding checkAmount
   c-amount x [] h = tt
   c-amount x (a ∷ []) h = tt
   c-amount x (a ∷ b ∷ rest) h = search (rules, h .1 .0)
 
-  pub c-keyed : (Γ : Env) (c : Expr) (as' : List Asked) → CAs as' → C (checkKeyedCall Γ c as')
+  pub c-keyed : (Γ : Env) (c : Expr) (as' : List Asked) → All CA as' → C (checkKeyedCall Γ c as')
   unfolding checkKeyedCall
   c-keyed Γ c as' h = search (rules, c-amount, c-keys)
 
-  pub c-each : (as' : List Asked) → CAs as' → C (askEach as')
+  pub c-each : (as' : List Asked) → All CA as' → C (askEach as')
   unfolding askEach
   c-each [] h = tt
   c-each (a ∷ rest) h = let ih = c-each rest (h .1) in search (rules, h .0)
 
-  pub c-call : (Γ : Env) (c : Expr) (as' : List Asked) → CAs as' → C (typeCall Γ c as')
+  pub c-call : (Γ : Env) (c : Expr) (as' : List Asked) → All CA as' → C (typeCall Γ c as')
   unfolding typeCall
   c-call Γ c as' h = search (rules, c-receiver, c-op, c-each, c-keyed) depth 10
 
@@ -194,7 +191,7 @@ module _ (m : ℕ → Out Ty) (n : ℕ) where
     c-typing Γ (call l s c es) h = c-call Γ c _ (c-typings Γ es (h .1))
     c-typing Γ (wrap l s w e) h = c-asked Γ e (h .1) (c-typing Γ e (h .1))
 
-    pub c-typings : (Γ : Env) (es : Exprs) → FitsAll Γ es → CAs (typings Γ es)
+    pub c-typings : (Γ : Env) (es : Exprs) → FitsAll Γ es → All CA (typings Γ es)
     c-typings Γ nil h = tt
     c-typings Γ (more e es) h = (c-asked Γ e (h .0) (c-typing Γ e (h .0)), c-typings Γ es (h .1))
 

@@ -12,6 +12,7 @@ use lib.Seq.{getD-set-same, getD-set-other, set-getD}
 use borrow.Author.Tests.{eqb-true, eqb-false, eq-eqb}
 use Rattle.rules.specs.Asking.{Ty, Int, Boolean, Address, Asset, Word64, TName, Time, Str, Collection, Unknown, code, Res, ok, refused, Rule, ret, refuse, ask, Asking, codeR, Out, ended, fresh, Refusal}
 use Rattle.rules.specs.Kept.{Table, tyOfMark, Kept, stored, retyped, kept, putIf, mark, marks}
+use Rattle.rules.proofs.All.{All, all-append, all-map}
 
 -- ------------------------------------------------------------ marks
 
@@ -60,14 +61,13 @@ marks-stay T [] l e = e
 marks-stay T (a ∷ rest) l e =
     marks-stay (mark T a) rest l (put-stays (eqb (getD T (a .0) 0) 0 || eqb (a .1) 11) T (a .0) (a .1) l refl e)
 
--- every asking of the list has left its mark, and none was a refusal
-abbrev pub Settled : Table → List Asking → Type 0
-Settled T [] = Unit
-Settled T (a ∷ rest) = Marked T (a .0) × (eqb (a .1) 11 ≡ false) × (Settled T rest)
+-- the asking has left its mark, and was no refusal
+abbrev pub Settled : Table → Asking → Type 0
+Settled T a = Marked T (a .0) × (eqb (a .1) 11 ≡ false)
 
-mark-settled : (T : Table) (l c : ℕ) → Marked T l → eqb c 11 ≡ false → mark T (l, c) ≡ T
+mark-settled : (T : Table) (a : Asking) → Settled T a → mark T a ≡ T
 unfolding mark putIf
-mark-settled T l c h e = rw (h, e)
+mark-settled T a h = rw (h .0, h .1)
 
 mark-new : (T : Table) (l c : ℕ) → eqb (getD T l 0) 0 ≡ true → mark T (l, c) ≡ set T l c
 unfolding mark putIf
@@ -81,23 +81,18 @@ mark-refused T l = go (eqb (getD T l 0) 0)
     go true = refl
     go false = refl
 
-settled-marks : (T : Table) (a : List Asking) → Settled T a → marks T a ≡ T
+settled-marks : (T : Table) (a : List Asking) → All (Settled T) a → marks T a ≡ T
 unfolding marks
 settled-marks T [] h = refl
 settled-marks T (a ∷ rest) h =
-    ap (λ (S : Table). marks S rest) (mark-settled T (a .0) (a .1) (h .0) (h .1)) ∙ settled-marks T rest (h .2)
+    ap (λ (S : Table). marks S rest) (mark-settled T a (h .0)) ∙ settled-marks T rest (h .1)
 
 -- T1 has every mark that T has
 abbrev Above : Table → Table → Type 0
 Above T T1 = (l : ℕ) → Marked T l → Marked T1 l
 
-settled-above : (T T1 : Table) (a : List Asking) → Above T T1 → Settled T a → Settled T1 a
-settled-above T T1 [] u h = tt
-settled-above T T1 (a ∷ rest) u h = (u (a .0) (h .0), h .1, settled-above T T1 rest u (h .2))
-
-settled-append : (T : Table) (a b : List Asking) → Settled T a → Settled T b → Settled T (a ++ b)
-settled-append T [] b h k = k
-settled-append T (x ∷ a) b h k = (h .0, h .1, settled-append T a b (h .2) k)
+settled-above : (T T1 : Table) (as' : List Asking) → Above T T1 → All (Settled T) as' → All (Settled T1) as'
+settled-above T T1 as' u h = all-map (Settled T) (Settled T1) (λ a k. (u (a .0) (k .0), k .1)) as' h
 
 code-tells : (t : Ty) → tyOfMark (code t) ≡ some t
 unfolding tyOfMark code
@@ -167,7 +162,7 @@ pub record Right (m : ℕ → Out Ty) (T : Table) (l : ℕ) : Type 0 where
   pub type : Ty
   pub typed : m l .res ≡ ok type
   pub holds : getD T l 0 ≡ code type
-  pub parts : Settled T (m l .log)
+  pub parts : All (Settled T) (m l .log)
 
 abbrev pub Consistent : (ℕ → Out Ty) → Table → Type 0
 Consistent m T = (l : ℕ) → (getD T l 0 ≡ 0) ⊎ Right m T l
@@ -176,7 +171,7 @@ Consistent m T = (l : ℕ) → (getD T l 0 ≡ 0) ⊎ Right m T l
 pub record Agrees (m : ℕ → Out Ty) (T : Table) {A : Type 0} (x : Kept A) (o : Out A) : Type 0 where
   pub res : x .res ≡ o .res
   pub table : x .table ≡ marks T (o .log)
-  pub after : (a : A) → o .res ≡ ok a → Consistent m (x .table) × Settled (x .table) (o .log)
+  pub after : (a : A) → o .res ≡ ok a → Consistent m (x .table) × All (Settled (x .table)) (o .log)
 
 abbrev pub Keeps : (ℕ → Out Ty) → {A : Type 0} → Rule A → Table → Type 0
 Keeps m p T = Agrees m T (kept p T) (fresh p)
@@ -198,7 +193,7 @@ unfolding marks
 answered m g l p k T gf c q ih =
     let t : Ty = q .type in
     let marked : Marked T l = holds-marked T l t (q .holds) in
-    let parts : Settled T (fresh p .log) = rw c (q .parts) in
+    let parts : All (Settled T) (fresh p .log) = rw c (q .parts) in
     let U : Table = kept (k t) T .table in
     let up : Above T U = λ i h. rw (ih .table) (marks-stay T (fresh (k t) .log) i h) in
     rw (kept-some g l p k T t gf (ap tyOfMark (q .holds) ∙ code-tells t), fresh-ok g l p k t (ap (λ (o : Out Ty). o .res) c ∙ q .typed))
@@ -209,12 +204,12 @@ answered m g l p k T gf c q ih =
           ∙ sym
           (marks-append T (fresh p .log) ((l, code t) ∷ fresh (k t) .log)
           ∙ ap (λ (S : Table). marks S ((l, code t) ∷ fresh (k t) .log)) (settled-marks T (fresh p .log) parts)
-          ∙ ap (λ (S : Table). marks S (fresh (k t) .log)) (mark-settled T l (code t) marked (code-marks t .1)));
+          ∙ ap (λ (S : Table). marks S (fresh (k t) .log)) (mark-settled T (l, code t) (marked, code-marks t .1)));
       after = λ a e. (
         ih .after a e .0,
-        settled-append U (fresh p .log) ((l, code t) ∷ fresh (k t) .log)
+        all-append (Settled U) (fresh p .log) ((l, code t) ∷ fresh (k t) .log)
             (settled-above T U (fresh p .log) up parts)
-            (up l marked, code-marks t .1, ih .after a e .1),
+            ((up l marked, code-marks t .1), ih .after a e .1),
       );
     })
 
@@ -224,9 +219,9 @@ mark-typed m T l t e (inl z) = mark-new T l (code t) (eq-eqb (getD T l 0) 0 z)
 mark-typed m T l t e (inr q) =
     let same : q .type ≡ t = cc (q .typed, e) in
     let holds : getD T l 0 ≡ code t = q .holds ∙ ap code same in
-    mark-settled T l (code t) (holds-marked T l t holds) (code-marks t .1) ∙ sym (rw holds at (set-getD T l 0))
+    mark-settled T (l, code t) (holds-marked T l t holds, code-marks t .1) ∙ sym (rw holds at (set-getD T l 0))
 
-consistent-set : (m : ℕ → Out Ty) (T : Table) (l : ℕ) (t : Ty) → l < length T → m l .res ≡ ok t → Settled T (m l .log) → Consistent m T → Consistent m (set T l (code t))
+consistent-set : (m : ℕ → Out Ty) (T : Table) (l : ℕ) (t : Ty) → l < length T → m l .res ≡ ok t → All (Settled T) (m l .log) → Consistent m T → Consistent m (set T l (code t))
 consistent-set m T l t h e s w = λ i. pick i (eqb i l) refl (w i)
   where
     U : Table
@@ -272,7 +267,7 @@ typed m g l p k T c h z ih next (ok t) e =
     let lv : length S0 ≡ length T = ap length (ih .table) ∙ length-marks T (fresh p .log) in
     let mt : m l .res ≡ ok t = sym (ap (λ (o : Out Ty). o .res) c) ∙ e in
     let wv : Consistent m S0 = ih .after t e .0 in
-    let sv : Settled S0 (fresh p .log) = ih .after t e .1 in
+    let sv : All (Settled S0) (fresh p .log) = ih .after t e .1 in
     let wu : Consistent m U = consistent-set m S0 l t (rw lv h) mt (rw (← c) sv) wv in
     let go : Keeps m (k t) U = next t U e (length-set S0 l (code t) ∙ lv) wu in
     let marked : Marked U l = rw (getD-set-same S0 l (code t) 0 (rw lv h)) (code-marks t .0) in
@@ -290,9 +285,9 @@ typed m g l p k T c h z ih next (ok t) e =
           ∙ ap (λ (S : Table). marks S (fresh (k t) .log)) (mark-typed m S0 l t mt (wv l)));
       after = λ a q. (
         go .after a q .0,
-        settled-append W (fresh p .log) ((l, code t) ∷ fresh (k t) .log)
+        all-append (Settled W) (fresh p .log) ((l, code t) ∷ fresh (k t) .log)
             (settled-above S0 W (fresh p .log) (λ i x. up i (uv i x)) sv)
-            (up l marked, code-marks t .1, go .after a q .1),
+            ((up l marked, code-marks t .1), go .after a q .1),
       );
     })
 

@@ -1,4 +1,5 @@
 pub mod Cases
+pub mod All
 pub mod Keeps
 pub mod Marks
 pub mod AnyTable

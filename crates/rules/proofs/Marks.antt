@@ -1,7 +1,7 @@
 -- The marks that a rule's askings leave are document 01's codes of the lines. Assumes nothing.
 use mathlib.Core.Path.{_≡_, refl, sym, _∙_}
 use mathlib.Core.Logic.{_≢_}
-use mathlib.Core.List.{List, [], _∷_, _++_}
+use mathlib.Core.List.{List, [], _∷_}
 use mathlib.Core.Bool.{Bool, true, false, _||_, cond}
 use Prim.Native.Nat.{ℕ, zero, suc, _<_}
 use native.Mathlib.Omega.{arith}
@@ -11,23 +11,19 @@ use lib.Seq.{getD-set-same, getD-set-other}
 use borrow.Author.Tests.{eqb-true, eqb-false, ne-eqb}
 use Rattle.rules.specs.Asking.{Ty, Res, ok, refused, Rule, ret, refuse, ask, Asking, Out, ended, fresh, refusedIn, firstCode, codeOf}
 use Rattle.rules.specs.Kept.{Table, putIf, mark, marks}
+use Rattle.rules.proofs.All.{All, all-append}
 use Rattle.rules.proofs.Keeps.{code-marks, length-marks, zeros}
 
--- no asking has the code 0
-abbrev pub Coded : List Asking → Type 0
-Coded [] = Unit
-Coded (a ∷ rest) = (eqb (a .1) 0 ≡ false) × Coded rest
+-- the asking's code is not 0
+abbrev pub Coded : Asking → Type 0
+Coded a = eqb (a .1) 0 ≡ false
 
-coded-append : (a b : List Asking) → Coded a → Coded b → Coded (a ++ b)
-coded-append [] b h k = k
-coded-append (x ∷ a) b h k = (h .0, coded-append a b (h .1) k)
-
-coded-ended : {A : Type 0} (l : ℕ) (r : Res Ty) (a : List Asking) (f : Ty → Out A) → Coded a → ((t : Ty) → Coded (f t .log)) → Coded (ended l r a f .log)
+coded-ended : {A : Type 0} (l : ℕ) (r : Res Ty) (a : List Asking) (f : Ty → Out A) → All Coded a → ((t : Ty) → All Coded (f t .log)) → All Coded (ended l r a f .log)
 unfolding ended
-coded-ended l (ok t) a f h k = coded-append a _ h (code-marks t .0, k t)
-coded-ended l (refused r) a f h k = coded-append a _ h (refl, tt)
+coded-ended l (ok t) a f h k = all-append Coded a _ h (code-marks t .0, k t)
+coded-ended l (refused r) a f h k = all-append Coded a _ h (refl, tt)
 
-pub coded : {A : Type 0} (p : Rule A) → Coded (fresh p .log)
+pub coded : {A : Type 0} (p : Rule A) → All Coded (fresh p .log)
 unfolding fresh
 coded (ret a) = tt
 coded (refuse r) = tt
@@ -66,7 +62,7 @@ one true T (i, c) rest l e h k =
     (step (eqb (getD T l 0) 0) (eqb c 11) (refusedIn l rest) c (getD T l 0) (firstCode l rest) refl refl k)
 one false T (i, c) rest l e h k = rw (e, other-line (eqb (getD T i 0) 0 || eqb c 11) T i l c (λ q. eqb-false i l e (sym q)))
 
-marked : (as' : List Asking) (T : Table) (l : ℕ) → l < length T → Coded as' → getD (marks T as') l 0 ≡ after (getD T l 0) l as'
+marked : (as' : List Asking) (T : Table) (l : ℕ) → l < length T → All Coded as' → getD (marks T as') l 0 ≡ after (getD T l 0) l as'
 unfolding marks refusedIn firstCode
 marked [] T l h k = blank (getD T l 0)
   where

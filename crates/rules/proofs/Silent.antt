@@ -5,7 +5,7 @@ use mathlib.Core.Option.{Option, none, some}
 use Prim.Native.Nat.{ℕ}
 use Rattle.rules.specs.Text.{Name, Piece}
 use Rattle.rules.specs.Ast.{Type', Arg, ofType, ofInt, mOfN, AssignOp, Expr, leaf, unary, binary, field, call, wrap, Exprs, nil, more, Param, Clause, limits, denies, mints, after, Entry, Stmt, guard, bind, emit, assign, do'}
-use Rattle.rules.specs.Asking.{Ty, Rule, _>>=_, _>>_, ifSomeElse, forEach, Out}
+use Rattle.rules.specs.Asking.{Ty, Rule, ifSomeElse, forEach, Out}
 use Rattle.rules.specs.Declarations.{guardianBound, storableArg, storableArgs, storableKeyed, known, storableAs, storable, eventFieldType, refuseWord64AsDigest}
 use Rattle.rules.specs.Model.{Model}
 use Rattle.rules.specs.Typing.{Env}
@@ -14,6 +14,7 @@ use Rattle.rules.specs.Assets.{noAssetCall, noAssetCalls, consumedAssetC
 use Rattle.rules.specs.Arithmetic.{checkSum, checkArithmetic}
 use Rattle.rules.specs.KeyKinds.{Use, checkUses, checkKeyKinds}
 use Rattle.rules.specs.Check.{checkLocal, clauseAssets, checkEventParam, checkEntryParam}
+use Rattle.rules.proofs.All.{All}
 use Rattle.rules.proofs.Coherence.{C, rules, c-bind, c-then, c-expect}
 
 module _ (m : ℕ → Out Ty) (n : ℕ) where
@@ -24,8 +25,7 @@ module _ (m : ℕ → Out Ty) (n : ℕ) where
 
   -- f is coherent for each of a list
   abbrev pub CEach : {A : Type 0} → (A → Rule Unit) → List A → Type 0
-  CEach f [] = Unit
-  CEach f (a ∷ as') = C m n (f a) × CEach f as'
+  CEach f = All (λ a. C m n (f a))
 
   pub s-each : {A : Type 0} (as' : List A) (f : A → Rule Unit) → CEach f as' → C m n (forEach as' f)
   unfolding forEach

@@ -1,29 +1,26 @@
--- The whole of `check`, with kept types: what the rules say, and the marks of the rules' askings. Assumes nothing.
+-- The parts of `check` that ask types are coherent where the expressions that they ask fit. Assumes nothing.
 use mathlib.Core.Path.{_≡_, refl}
-use mathlib.Core.List.{List, [], _∷_, _++_, zip}
+use mathlib.Core.List.{List, [], _∷_, zip}
 use mathlib.Core.Option.{Option, none, some}
-use Prim.Native.Nat.{ℕ, zero, suc, _+_}
+use Prim.Native.Nat.{ℕ, zero, suc}
 use native.Mathlib.Omega.{arith}
 use lib.ListN.{getElem?}
 use Rattle.rules.specs.Text.{Name}
 use Rattle.rules.specs.Ast.{AssignOp, Expr, leaf, unary, binary, field, call, wrap, Exprs, nil, more, Param, Field, Clause, limits, denies, mints, after, Entry, Stmt, guard, bind, emit, assign, do', list}
-use Rattle.rules.specs.Asking.{Ty, Rule, ret, _>>=_, _>>_, Out, fresh, ok, forEach, ifSome}
+use Rattle.rules.specs.Asking.{Ty, Rule, ret, _>>_, Out, fresh, ok, forEach, ifSome}
 use Rattle.rules.specs.Model.{Model}
-use Rattle.rules.specs.Typing.{Env, new, bound, Asked, callOf, typings, askOf, tyOf}
+use Rattle.rules.specs.Typing.{Env, new, bound, Asked, Call, callOf, typings, askOf, tyOf}
 use Rattle.rules.specs.Statements.{checkEmitField, checkEmitFields, checkAssign, checkKeyedUse, checkStmtTypes, expectPredicate, refuseNameRecipient}
 use Rattle.rules.specs.KeyKinds.{present, clauseExprs, bodyExprs}
 use Rattle.rules.specs.Check.{clausePredicate, checkBody, paramTypes, checkEntry, madeUp, checkDefault, checkGenesis}
+use Rattle.rules.proofs.All.{All, all-split, all-map}
 use Rattle.rules.proofs.Coherence.{C, CA, rules, c-bind, c-bind-at, c-then, c-some, c-expect, c-keyed, Fits, FitsAll, c-asked, c-typing, c-typings, c-tyOf}
 use Rattle.rules.proofs.Silent.{CEach, s-each, s-for, s-assign, s-local, s-wrapping, s-clause-assets, s-assets, s-arithmetic}
 
 module _ (m : ℕ → Out Ty) (n : ℕ) where
+  -- each expression of the list fits
   abbrev pub FitsEach : Env → List Expr → Type 0
-  FitsEach Γ [] = Unit
-  FitsEach Γ (e ∷ es) = Fits m n Γ e × FitsEach Γ es
-
-  pub fits-append : (Γ : Env) (as' bs : List Expr) → FitsEach Γ (as' ++ bs) → FitsEach Γ as' × FitsEach Γ bs
-  fits-append Γ [] bs h = (tt, h)
-  fits-append Γ (e ∷ es) bs h = let q = fits-append Γ es bs (h .1) in ((h .0, q .0), q .1)
+  FitsEach Γ = All (Fits m n Γ)
 
   w-ask : (Γ : Env) (e : Expr) → Fits m n Γ e → CA m n (askOf Γ e)
   unfolding askOf
@@ -37,14 +34,19 @@ module _ (m : ℕ → Out Ty) (n : ℕ) where
   unfolding checkAssign
   w-assign Γ o t v h k = search (rules, s-assign)
 
+  -- a rule of a call, whose arguments fit
+  w-call : (Γ : Env) (e : Expr) (f : Call → Rule Unit) → Fits m n Γ e → ((c : Call) → FitsAll m n Γ (c .args) → C m n (f c)) → C m n (ifSome (callOf e) f)
+  unfolding callOf ifSome
+  w-call Γ (leaf l s k) f h g = tt
+  w-call Γ (unary l s o e) f h g = tt
+  w-call Γ (binary l s o a b) f h g = tt
+  w-call Γ (field l s e x k) f h g = tt
+  w-call Γ (call l s c es) f h g = g _ (h .1)
+  w-call Γ (wrap l s w e) f h g = tt
+
   w-use : (Γ : Env) (e : Expr) → Fits m n Γ e → C m n (checkKeyedUse Γ e)
-  unfolding checkKeyedUse callOf ifSome
-  w-use Γ (leaf l s k) h = tt
-  w-use Γ (unary l s o e) h = tt
-  w-use Γ (binary l s o a b) h = tt
-  w-use Γ (field l s e x k) h = tt
-  w-use Γ (call l s c es) h = c-keyed m n Γ c (typings Γ es) (c-typings m n Γ es (h .1))
-  w-use Γ (wrap l s w e) h = tt
+  unfolding checkKeyedUse
+  w-use Γ e h = w-call Γ e _ h (λ c k. c-keyed m n Γ (c .callee) (typings Γ (c .args)) (c-typings m n Γ (c .args) k))
 
   w-stmt : (Γ : Env) (o : AssignOp) (s : ℕ) (t v : Expr) → Fits m n Γ t → Fits m n Γ v → C m n (checkStmtTypes Γ (assign s o t v))
   unfolding checkStmtTypes
@@ -67,14 +69,12 @@ module _ (m : ℕ → Out Ty) (n : ℕ) where
   fits-at Γ (more x es) (suc k) a h e = fits-at Γ es k a (h .1) e
 
   w-recipient : (Γ : Env) (e : Expr) → Fits m n Γ e → C m n (refuseNameRecipient Γ e)
-  unfolding refuseNameRecipient callOf ifSome
-  w-recipient Γ (leaf l s k) h = tt
-  w-recipient Γ (unary l s o e) h = tt
-  w-recipient Γ (binary l s o a b) h = tt
-  w-recipient Γ (field l s e x k) h = tt
-  w-recipient Γ (call l s c es) h =
-      s-for m n _ _ (λ k. w-some (getElem? (list es) k) _ (λ a q. c-bind m n (tyOf Γ a) _ (c-tyOf m n Γ a (fits-at Γ es k a (h .1) q)) (λ _. c-expect m n _ _ _ _)))
-  w-recipient Γ (wrap l s w e) h = tt
+  unfolding refuseNameRecipient
+  w-recipient Γ e h =
+      w-call Γ e _ h
+      (λ c k.
+      s-for m n _ _
+      (λ i. w-some (getElem? (list (c .args)) i) _ (λ a q. c-bind m n (tyOf Γ a) _ (c-tyOf m n Γ a (fits-at Γ (c .args) i a k q)) (λ _. c-expect m n _ _ _ _))))
 
   w-emit-field : (Γ : Env) (e : Expr) (p : Param) → Fits m n Γ e → C m n (checkEmitField Γ e p)
   unfolding checkEmitField
@@ -91,9 +91,7 @@ module _ (m : ℕ → Out Ty) (n : ℕ) where
   w-emit Γ x es h = c-some m n _ _ (λ d. s-each m n _ _ (w-zip Γ es _ h))
 
   w-args : (Γ : Env) (es : List Expr) → FitsEach Γ es → C m n (forEach es (λ a. tyOf Γ a >> ret tt))
-  unfolding forEach
-  w-args Γ [] h = tt
-  w-args Γ (e ∷ es) h = c-bind m n (tyOf Γ e >> ret tt) _ (c-then m n (tyOf Γ e) (ret tt) (c-tyOf m n Γ e (h .0)) tt) (λ _. w-args Γ es (h .1))
+  w-args Γ es h = s-each m n es _ (all-map (Fits m n Γ) _ (λ e k. c-then m n (tyOf Γ e) (ret tt) (c-tyOf m n Γ e k) tt) es h)
 
   -- each expression of the statements fits, with the locals that are bound there
   abbrev pub FitsBody : Env → List Stmt → Type 0
@@ -120,7 +118,7 @@ module _ (m : ℕ → Out Ty) (n : ℕ) where
   w-clauses Γ (limits e ∷ cs) h = (w-predicate Γ e (h .0), w-clauses Γ cs (h .1))
   w-clauses Γ (denies e ∷ cs) h = (w-predicate Γ e (h .0), w-clauses Γ cs (h .1))
   w-clauses Γ (mints ∷ cs) h = (tt, w-clauses Γ cs h)
-  w-clauses Γ (after t f ∷ cs) h = (tt, w-clauses Γ cs (fits-append Γ (present f) _ (fits-append Γ (present t) _ h .1) .1))
+  w-clauses Γ (after t f ∷ cs) h = (tt, w-clauses Γ cs (all-split (Fits m n Γ) (present f) _ (all-split (Fits m n Γ) (present t) _ h .1) .1))
 
   pub w-entry : (M : Model) (en : Entry) → FitsEach (new M (paramTypes (en .params))) (clauseExprs (en .clauses)) → FitsBody (new M (paramTypes (en .params))) (en .body)
       → C m n (checkEntry M en)

@@ -8,7 +8,7 @@ use Rattle.rules.specs.Text.{Name, is, Piece, lit, raw}
 use Rattle.rules.specs.Ast.{Arg, ofType, ofInt, mOfN, Checked, Wrapping, Expr, leaf, unary, binary, field, call, wrap, Exprs, nil, more, Entry, Stmt, guard, bind, emit, assign, do', span, list, typeName, args}
 use Rattle.rules.specs.Asking.{Rule, ret, _>>=_, _>>_, expect, when, ifSome, ifSomeElse, forEach}
 use Rattle.rules.specs.Declared.{narrowMax}
-use Rattle.rules.specs.Model.{Model, state', event'}
+use Rattle.rules.specs.Model.{Model, fieldNamed, eventNamed}
 use Rattle.rules.specs.Typing.{identOf, identIs, dotOf, callOf, isSome, leafHas}
 use Rattle.rules.specs.Statements.{narrowField}
 
@@ -78,7 +78,7 @@ narrowArg (some mOfN) = none
 
 -- of whatever state field has the name: the second argument of its type
 unfoldable pub narrowValues : Model → Name → Option ℕ
-narrowValues m x = elim (state' m x) [ none ↦ none | some f ↦ narrowArg (getElem? (args (f .ty)) 1) ]
+narrowValues m x = elim (fieldNamed m x) [ none ↦ none | some f ↦ narrowArg (getElem? (args (f .ty)) 1) ]
 
 unfoldable pub narrowSet : Model → (wrapped : List Name) → Expr → Rule Unit
 narrowSet m wrapped e =
@@ -93,7 +93,7 @@ unfoldable pub narrowStmt : Model → (wrapped : List Name) → Stmt → Rule Un
 narrowStmt m wrapped (guard e) = ret tt
 narrowStmt m wrapped (bind x value) = ret tt
 narrowStmt m wrapped (emit x es) =
-    ifSome (event' m x) λ e.
+    ifSome (eventNamed m x) λ e.
     forEach (zip es (e .params)) λ p.
     reaches wrapped (narrowMax (typeName (p .1 .ty))) (p .0) (lit "event field of `" ∷ raw x ∷ lit "`" ∷ [])
 narrowStmt m wrapped (assign s op target value) =

@@ -1,7 +1,7 @@
 -- The tree of ast.rs, from the tree of a sheet's records. Each expression has its line, counted from 0, and its span.
 use Prim.Native.Nat.{ℕ, _+_, _-_}
 use mathlib.Core.List.{List, [], _∷_, map}
-use mathlib.Core.Option.{Option, Option·map}
+use mathlib.Core.Option.{Option, none, some, Option·map}
 use lib.ListN.{getD, take, drop, getElem?}
 use Rattle.sheet.specs.Grammar.{Contract}
 use Rattle.sheet.specs.Line.{Line}
@@ -109,6 +109,15 @@ line (binary l s o a b) = l
 line (field l s e n m) = l
 line (call l s c es) = l
 line (wrap l s w e) = l
+
+-- the leaf of an expression with no parts
+unfoldable pub leafOf : Expr → Option Leaf
+leafOf (leaf l s k) = some k
+leafOf (unary l s o e) = none
+leafOf (binary l s o a b) = none
+leafOf (field l s e n m) = none
+leafOf (call l s c es) = none
+leafOf (wrap l s w e) = none
 
 unfoldable pub list : Exprs → List Expr
 list nil = []

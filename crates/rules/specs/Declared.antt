@@ -8,7 +8,7 @@ use lib.Dec.{eqb, leb}
 use lib.ListN.{getElem?}
 use Rattle.text.specs.Field.{valueFrom}
 use Rattle.rules.specs.Text.{Name, isOne, pick}
-use Rattle.rules.specs.Ast.{Type', Arg, ofType, ofInt, mOfN, Leaf, int, id, date, str, caller, native, inasset, now, Expr, leaf, unary, binary, field, call, wrap, typeName, args}
+use Rattle.rules.specs.Ast.{Type', Arg, ofType, ofInt, mOfN, Leaf, int, id, date, str, caller, native, inasset, now, Expr, leafOf, typeName, args}
 use Rattle.rules.specs.Asking.{Ty, Int, Boolean, Address, Asset, Word64, TName, Time, Str, Collection, Unknown, code}
 
 -- ------------------------------------------------------------ numbers
@@ -45,12 +45,7 @@ literal now = none
 
 -- `Expr::Int(n)`
 unfoldable pub intOf : Expr → Option Name
-intOf (leaf l s k) = literal k
-intOf (unary l s o e) = none
-intOf (binary l s o a b) = none
-intOf (field l s e n m) = none
-intOf (call l s c es) = none
-intOf (wrap l s w e) = none
+intOf e = elim (leafOf e) [ none ↦ none | some k ↦ literal k ]
 
 unfoldable pub isZeroLiteral : Expr → Bool
 isZeroLiteral e = elim (intOf e) [ none ↦ false | some n ↦ zeros n ]

@@ -7,7 +7,7 @@ use Rattle.text.specs.Text.{same}
 use Rattle.rules.specs.Text.{Name, is, isOne, among, lit, raw}
 use Rattle.rules.specs.Ast.{Expr, leaf, unary, binary, field, call, wrap, Exprs, nil, more, Param, Clause, limits, denies, mints, after, Entry, Stmt, guard, bind, emit, assign, do', span, typeName}
 use Rattle.rules.specs.Asking.{Rule, ret, _>>=_, _>>_, expect}
-use Rattle.rules.specs.Model.{Model, state'}
+use Rattle.rules.specs.Model.{Model, fieldNamed}
 use Rattle.rules.specs.Typing.{Dot, identOf, dotOf}
 use Rattle.rules.specs.Arithmetic.{any}
 
@@ -82,7 +82,7 @@ nameParams (p ∷ ps) = elim (is (typeName (p .ty)) "Q_Name") [ true ↦ p .name
 
 -- neither a parameter nor a local hides it here
 unfoldable pub isKeyed : Model → Name → Bool
-isKeyed m x = elim (state' m x) [ none ↦ false | some f ↦ isOne (typeName (f .ty)) ("Map" ∷ "Registry" ∷ []) ]
+isKeyed m x = elim (fieldNamed m x) [ none ↦ false | some f ↦ isOne (typeName (f .ty)) ("Map" ∷ "Registry" ∷ []) ]
 
 unfoldable pub isNameKey : (names : List Name) → Expr → Bool
 isNameKey names key = elim (identOf key) [ none ↦ false | some x ↦ among x names ]

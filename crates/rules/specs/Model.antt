@@ -35,8 +35,8 @@ build [] = record { fields = []; events = []; entries = []; invariants = []; gen
 build (i ∷ is') = joined (itemModel i) (build is')
 
 -- `model.state.get(name)`: the last field of the name
-unfoldable pub state' : Model → Name → Option Field
-state' m x = lastNamed (λ f. f .name) x (m .fields)
+unfoldable pub fieldNamed : Model → Name → Option Field
+fieldNamed m x = lastNamed (λ f. f .name) x (m .fields)
 
 -- `model.state.values()`, in sheet order
 unfoldable pub values : List Field → List Field
@@ -44,8 +44,8 @@ values [] = []
 values (f ∷ fs) = elim (lastNamed (λ g. g .name) (f .name) fs) [ some g ↦ values fs | none ↦ f ∷ values fs ]
 
 -- an event is the first of its name
-unfoldable pub event' : Model → Name → Option Event
-event' m x = firstNamed (λ e. e .name) x (m .events)
+unfoldable pub eventNamed : Model → Name → Option Event
+eventNamed m x = firstNamed (λ e. e .name) x (m .events)
 
 unfoldable pub isAssetParam : Param → Bool
 isAssetParam p = is (typeName (p .ty)) "Q_Asset"

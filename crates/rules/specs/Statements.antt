@@ -10,7 +10,7 @@ use Rattle.rules.specs.Ast.{AssignOp, Set, AddTo, SubFrom, Wrap, Checked
 use Rattle.rules.specs.Asking.{Ty, Boolean, Address, Asset, TName, Collection, Unknown, Rule, ret, _>>=_, _>>_, expect, ifSome, forEach}
 use Rattle.rules.specs.Declared.{parseU128, intOf, narrowMax, tyOfDecl, eqTy, isTy, describe, numeric, oneWord, compatible}
 use Rattle.rules.specs.Declarations.{typeText}
-use Rattle.rules.specs.Model.{Model, state', event'}
+use Rattle.rules.specs.Model.{Model, fieldNamed, eventNamed}
 use Rattle.rules.specs.Typing.{Env, Asked, identOf, identIs, dotOf, callOf, isSome, isNameParam, checkKeyedCall, typings, askOf, tyOf}
 
 -- ------------------------------------------------------------ check_emit_fields
@@ -31,14 +31,14 @@ checkEmitField Γ arg f = do
 
 unfoldable pub checkEmitFields : Env → Name → List Expr → Rule Unit
 checkEmitFields Γ name args =
-    ifSome (event' (Γ .model) name) λ declared.
+    ifSome (eventNamed (Γ .model) name) λ declared.
     forEach (zip args (declared .params)) λ p. checkEmitField Γ (p .0) (p .1)
 
 -- ------------------------------------------------------------ check_stmt_types
 
 -- the largest number of the narrow field of this name, whatever hides the name
 unfoldable pub narrowField : Model → Name → Option ℕ
-narrowField m x = elim (state' m x) [ none ↦ none | some f ↦ narrowMax (typeName (f .ty)) ]
+narrowField m x = elim (fieldNamed m x) [ none ↦ none | some f ↦ narrowMax (typeName (f .ty)) ]
 
 unfoldable pub isSet : AssignOp → Bool
 isSet Set = true
@@ -46,7 +46,7 @@ isSet AddTo = false
 isSet SubFrom = false
 
 unfoldable pub isAddressField : Model → Name → Bool
-isAddressField m x = elim (state' m x) [ none ↦ false | some f ↦ is (typeName (f .ty)) "Q_Address" ]
+isAddressField m x = elim (fieldNamed m x) [ none ↦ false | some f ↦ is (typeName (f .ty)) "Q_Address" ]
 
 unfoldable pub nameIntoAddress : Env → AssignOp → Name → Expr → (slot given : Ty) → Rule Unit
 nameIntoAddress Γ op x value slot given =

@@ -5,11 +5,11 @@ use mathlib.Core.List.{List, [], _∷_, _++_}
 use mathlib.Core.Bool.{Bool, true, false, not, _&&_, _||_}
 use mathlib.Core.Option.{Option, none, some}
 use Rattle.rules.specs.Text.{Name, is, isOne, pick, among, get, Piece, lit, raw}
-use Rattle.rules.specs.Ast.{UnaryOp, Not, Neg, BinOp, Or, And, Eq, Ne, Lt, Gt, Le, Ge, Add, Sub, Mul, Div, Rem, Shr, Type', Leaf, int, id, date, str, caller, native, inasset, now, Expr, leaf, unary, binary, field, call, wrap, Exprs, nil, more, Field, span, line, typeName}
+use Rattle.rules.specs.Ast.{UnaryOp, Not, Neg, BinOp, Or, And, Eq, Ne, Lt, Gt, Le, Ge, Add, Sub, Mul, Div, Rem, Shr, Type', Leaf, int, id, date, str, caller, native, inasset, now, Expr, leaf, unary, binary, field, call, wrap, Exprs, nil, more, Field, span, line, leafOf, typeName}
 use Rattle.rules.specs.Asking.{Ty, Int, Boolean, Address, Asset, Word64, TName, Time, Str, Unknown, Rule, ret, ask, _>>=_, _>>_, expect, when, ifSome}
 use Rattle.rules.specs.Declared.{isZeroLiteral, tyOfDecl, declaredArg, eqTy, isTy, describe, numeric, compatible}
 use Rattle.rules.specs.Declarations.{typeText}
-use Rattle.rules.specs.Model.{Model, state'}
+use Rattle.rules.specs.Model.{Model, fieldNamed}
 
 pub record Env : Type 0 where
   pub model : Model
@@ -44,12 +44,7 @@ identLeaf now = none
 
 -- `Expr::Ident(id)`
 unfoldable pub identOf : Expr → Option Name
-identOf (leaf l s k) = identLeaf k
-identOf (unary l s o e) = none
-identOf (binary l s o a b) = none
-identOf (field l s e n m) = none
-identOf (call l s c es) = none
-identOf (wrap l s w e) = none
+identOf e = elim (leafOf e) [ none ↦ none | some k ↦ identLeaf k ]
 
 pub record Dot : Type 0 where
   pub base : Expr
@@ -107,7 +102,7 @@ fieldOf Γ e =
     elim (identOf e) [
       | none ↦ none
       | some x ↦
-          elim (get x (Γ .params)) [ some t ↦ none | none ↦ state' (Γ .model) x ]
+          elim (get x (Γ .params)) [ some t ↦ none | none ↦ fieldNamed (Γ .model) x ]
     ]
 
 unfoldable pub keyedField : Env → Expr → Option Field
@@ -211,7 +206,7 @@ tyOfIdent Γ x =
           elim (get x (Γ .locals)) [
             | some t ↦ t
             | none ↦
-                elim (state' (Γ .model) x) [
+                elim (fieldNamed (Γ .model) x) [
                   | some f ↦ tyOfDecl (f .ty)
                   | none ↦
                       elim (is x "deployer") [ true ↦ Address | false ↦ Unknown ]

@@ -30,6 +30,10 @@ module _ (p : ℕ → Bool) where
       go true h = omega arith
       go false h = omega arith
 
+  -- the pieces of b ∷ bs, where t says whether b ends one
+  abbrev ended-at : List ℕ → ℕ → List ℕ → Bool → List (List ℕ)
+  ended-at w b bs t = elim t [ true ↦ w ∷ ended p [] bs | false ↦ ended p (w ++ (b ∷ [])) bs ]
+
   -- the first piece, and the others
   pub ended-next : (w l : List ℕ) → length (upto p l) < length l
       → ended p w l ≡ (w ++ upto p l) ∷ ended p [] (drop (suc (length (upto p l))) l)
@@ -40,7 +44,7 @@ module _ (p : ℕ → Bool) where
       go : (t : Bool) → length (cond t [] (b ∷ upto p bs)) < suc (length bs)
           → (length (upto p bs) < length bs
           → ended p (w ++ (b ∷ [])) bs ≡ ((w ++ (b ∷ [])) ++ upto p bs) ∷ ended p [] (drop (suc (length (upto p bs))) bs))
-          → cond t (w ∷ ended p [] bs) (ended p (w ++ (b ∷ [])) bs)
+          → ended-at w b bs t
           ≡ (w ++ cond t [] (b ∷ upto p bs)) ∷ ended p [] (drop (suc (length (cond t [] (b ∷ upto p bs)))) (b ∷ bs))
       go true q f = rw (append-nil w)
       go false q f = f (omega arith) ∙ rw (append-assoc w (b ∷ []) (upto p bs))
@@ -52,7 +56,7 @@ module _ (p : ℕ → Bool) where
   ended-none w (b ∷ bs) h = go (p b) h (ended-none (w ++ (b ∷ [])) bs)
     where
       go : (t : Bool) → suc (length bs) ≤ length (cond t [] (b ∷ upto p bs)) → (length bs ≤ length (upto p bs) → ended p (w ++ (b ∷ [])) bs ≡ [])
-          → cond t (w ∷ ended p [] bs) (ended p (w ++ (b ∷ [])) bs) ≡ []
+          → ended-at w b bs t ≡ []
       go true q f = absurd (omega arith)
       go false q f = f (omega arith)
 
@@ -63,7 +67,7 @@ module _ (p : ℕ → Bool) where
   ended-any w (b ∷ bs) = go (p b) (ended-any (w ++ (b ∷ [])) bs) (ended-any (b ∷ []) bs)
     where
       go : (t : Bool) → length (ended p (w ++ (b ∷ [])) bs) ≡ length (ended p [] bs) → length (ended p (b ∷ []) bs) ≡ length (ended p [] bs)
-          → length (cond t (w ∷ ended p [] bs) (ended p (w ++ (b ∷ [])) bs)) ≡ length (cond t ([] ∷ ended p [] bs) (ended p ([] ++ (b ∷ [])) bs))
+          → length (ended-at w b bs t) ≡ length (ended-at [] b bs t)
       go true h k = refl
       go false h k = h ∙ sym k
 
@@ -132,11 +136,11 @@ module _ (p : ℕ → Bool) (s : List ℕ) (i n : ℕ) (e : n ≡ i + length (up
 module _ (p : ℕ → Bool) (s : List ℕ) (i k n : ℕ) (e : n ≡ k + length (ended p [] (drop i s))) where
   pub count-one : p (getD s i 0) ≡ true → i < length s → n ≡ k + 1 + length (ended p [] (drop (i + 1) s))
   unfolding ended
-  count-one t h = e ∙ rw (add-one i, drop-cons s i 0 h, t) (omega arith)
+  count-one t h = e ∙ rw (add-one i, drop-cons s i 0 h, ended, t) (omega arith)
 
   pub count-more : p (getD s i 0) ≡ false → i < length s → n ≡ k + length (ended p [] (drop (i + 1) s))
   unfolding ended
-  count-more t h = e ∙ rw (add-one i, drop-cons s i 0 h, t) (ap (λ m. k + m) (ended-any p (getD s i 0 ∷ []) (drop (suc i) s)))
+  count-more t h = e ∙ rw (add-one i, drop-cons s i 0 h, ended, t) (ap (λ m. k + m) (ended-any p (getD s i 0 ∷ []) (drop (suc i) s)))
 
   pub count-over : length s ≤ i → k ≡ n
   unfolding ended

@@ -35,4 +35,4 @@ upto p (b ∷ bs) = cond (p b) [] (b ∷ upto p bs)
 -- the pieces of a text, each ended by a byte that passes the test; w is the start of the first one
 unfoldable pub ended : (ℕ → Bool) → List ℕ → List ℕ → List (List ℕ)
 ended p w [] = []
-ended p w (b ∷ bs) = cond (p b) (w ∷ ended p [] bs) (ended p (w ++ (b ∷ [])) bs)
+ended p w (b ∷ bs) = elim (p b) [ true ↦ w ∷ ended p [] bs | false ↦ ended p (w ++ (b ∷ [])) bs ]
