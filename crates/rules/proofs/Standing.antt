@@ -3,12 +3,13 @@ use mathlib.Core.Path.{_≡_, refl, sym, ap, _∙_}
 use mathlib.Core.List.{List, [], _∷_, _++_}
 use Prim.Native.Nat.{ℕ, zero, suc, _+_, _-_, _/_, _*_, _<_, _≤_}
 use native.Mathlib.Omega.{arith}
-use lib.ListN.{length}
+use mathlib.Core.Option.{some}
+use lib.ListN.{length, getElem?}
 use Rattle.sheet.specs.Grammar.{Sort}
 use Rattle.sheet.specs.Line.{Line}
 use Rattle.sheet.specs.Load.{sorts, times}
 use Rattle.sheet.specs.Tree.{Node, node, Nodes, nil, more, takeNodes, build as trees}
-use Rattle.sheet.specs.Scratch.{kindAt, endAt}
+use Rattle.sheet.specs.Scratch.{kindAt, endAt, skip}
 use Rattle.sheet.specs.Held.{Says, Held, held, HeldAll, no-tree, tree, Every, every, EveryOf, no-more, and-more, Spells, Among, Parted, Formed, formed, FormedAll, none-due, one-due, Holding}
 use Rattle.sheet.proofs.Holds.{all-le}
 use Rattle.rules.specs.Ast.{more as moreExprs, nodes, exprOf, exprsOf}
@@ -178,3 +179,21 @@ row-first (next h r) = h
 
 pub row-rest : {S : List ℕ} {σ : Sort} {k i : ℕ} → Row S σ (suc k) i → Row S σ k (endAt S i)
 row-rest (next h r) = r
+
+-- the k-th of the records of a row
+pub row-nth : {S : List ℕ} {σ : Sort} {m i : ℕ} (k : ℕ) → k < m → Row S σ m i → Here S σ (skip S k i)
+unfolding skip
+row-nth zero h (next x r) = x
+row-nth (suc k) h (next x r) = row-nth k (omega arith) r
+row-nth k h stop = absurd (omega arith)
+
+pub node-nth : {s S : List ℕ} {σ : Sort} {m i : ℕ} (k : ℕ) → Loaded s S → k < m → Row S σ m i → getElem? (nodesAt s m i) k ≡ some (nodeAt s (skip S k i))
+unfolding skip
+node-nth {m = suc m} {i} zero d h (next x r) = rw (nodes-next d m i (x .within)) refl
+node-nth {m = suc m} {i} (suc k) d h (next x r) = rw (nodes-next d m i (x .within)) (node-nth k d (omega arith) r)
+node-nth k d h stop = absurd (omega arith)
+
+pub nodes-length : {s S : List ℕ} {σ : Sort} {m i : ℕ} → Loaded s S → Row S σ m i → length (nodesAt s m i) ≡ m
+unfolding nodesAt takeNodes nodes
+nodes-length d stop = refl
+nodes-length {m = suc m} {i} d (next x r) = rw (nodes-next d m i (x .within)) (ap suc (nodes-length d r))

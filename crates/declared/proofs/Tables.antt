@@ -1,0 +1,56 @@
+-- Tests and tables of words. Assumes nothing.
+use mathlib.Core.Path.{_≡_, refl, sym, ap, _∙_}
+use mathlib.Core.List.{List, [], _∷_, _++_, map}
+use mathlib.Core.Bool.{Bool, true, false, cond, _||_}
+use Prim.Native.Nat.{ℕ, zero, suc, _+_, _≤_}
+use Prim.Native.String.{String}
+use native.Mathlib.Omega.{arith}
+use lib.ListN.{length, getD}
+use Rattle.text.specs.Text.{bytes, same}
+use Rattle.text.specs.Word.{place}
+use Rattle.rules.specs.Text.{Name, is, isOne, pick}
+
+pub or-false : (a : Bool) → (a || false) ≡ a
+or-false true = refl
+or-false false = refl
+
+-- what a table has for a name is what stands at the name's place among its words
+abbrev pub wordsIn : {A : Type 0} → List (String × A) → List (List ℕ)
+wordsIn [] = []
+wordsIn (e ∷ es) = bytes (e .0) ∷ wordsIn es
+
+abbrev pub valuesIn : {A : Type 0} → List (String × A) → List A
+valuesIn [] = []
+valuesIn (e ∷ es) = e .1 ∷ valuesIn es
+
+pub place-most : (x : Name) (ws : List (List ℕ)) → place x ws ≤ length ws
+unfolding place
+place-most x [] = omega arith
+place-most x (w ∷ ws) = go (same x w) (place-most x ws)
+  where
+    go : (b : Bool) → place x ws ≤ length ws → cond b 0 (1 + place x ws) ≤ suc (length ws)
+    go true h = omega arith
+    go false h = omega arith
+
+pub pick-place : {A : Type 0} (x : Name) (es : List (String × A)) (d : A) → pick x es d ≡ getD (valuesIn es) (place x (wordsIn es)) d
+unfolding pick place is
+pick-place x [] d = refl
+pick-place x (e ∷ es) d = go (same x (bytes (e .0))) (pick-place x es d)
+  where
+    go : (b : Bool) → pick x es d ≡ getD (valuesIn es) (place x (wordsIn es)) d
+        → elim b [ true ↦ e .1 | false ↦ pick x es d ] ≡ getD (valuesIn (e ∷ es)) (cond b 0 (1 + place x (wordsIn es))) d
+    go true h = refl
+    go false h = rw (let e : 1 + place x (wordsIn es) ≡ suc (place x (wordsIn es)) = omega arith in e) h
+
+-- words that all have one value, before a table
+pub one-of : {A : Type 0} (x : Name) (ws : List String) (a : A) (es : List (String × A)) (d : A)
+    → _≡_ {A = A} (elim (isOne x ws) [ true ↦ a | false ↦ pick x es d ]) (pick x (map (λ w. (w, a)) ws ++ es) d)
+unfolding isOne pick
+one-of x [] a es d = refl
+one-of {A} x (w ∷ ws) a es d = go (is x w) (one-of x ws a es d)
+  where
+    go : (b : Bool) → _≡_ {A = A} (elim (isOne x ws) [ true ↦ a | false ↦ pick x es d ]) (pick x (map (λ v. (v, a)) ws ++ es) d)
+        → _≡_ {A = A} (elim (elim b as (λ _. Bool) [ true ↦ true | false ↦ isOne x ws ]) [ true ↦ a | false ↦ pick x es d ])
+        (elim b [ true ↦ a | false ↦ pick x (map (λ v. (v, a)) ws ++ es) d ])
+    go true h = refl
+    go false h = h

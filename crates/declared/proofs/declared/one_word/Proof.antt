@@ -1,0 +1,13 @@
+use mathlib.Core.Path.{refl}
+use Rattle.rules.specs.Asking.{code}
+use Rattle.rules.specs.Declared.{oneWord, isTy, eqTy}
+use Rattle.declared.proofs.Tables.{or-false}
+use Rattle.declared.proofs.declared.one_word.Statement.{statement}
+use Rattle.declared.proofs.declared.one_word.Tie as tie
+
+returns : tie.Need-returns
+unfolding oneWord isTy eqTy code
+returns c = record { tests = λ t e. rw (e, or-false) refl }
+
+pub one-word-spec : {M : Type 1} → statement M
+one-word-spec = tie.close (tie.spec returns)

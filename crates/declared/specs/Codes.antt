@@ -1,0 +1,24 @@
+-- Types as codes, and answers with them.
+use Prim.Native.Nat.{ℕ}
+use mathlib.Core.Path.{_≡_}
+use mathlib.Core.Bool.{Bool}
+use mathlib.Core.List.{List, [], _∷_}
+use mathlib.Core.Option.{none, some}
+use Rattle.rules.specs.Asking.{Ty, Unknown, code}
+use Rattle.rules.specs.Kept.{tyOfMark}
+
+-- the type that a code tells; codes are 1 to 10
+unfoldable pub tyFrom : ℕ → Ty
+tyFrom c = elim (tyOfMark c) [ none ↦ Unknown | some t ↦ t ]
+
+-- r is f's answer for the type whose code is c
+pub record Tests (f : Ty → Bool) (c : ℕ) (r : Bool) : Type 0 where
+  pub tests : (t : Ty) → c ≡ code t → r ≡ f t
+
+-- ... for the types whose codes are c and d
+pub record Tests2 (f : Ty → Ty → Bool) (c d : ℕ) (r : Bool) : Type 0 where
+  pub tests : (t u : Ty) → c ≡ code t → d ≡ code u → r ≡ f t u
+
+-- the codes of the named types, in the order of the code's table, and one for any other name
+abbrev pub namedCodes : List ℕ
+namedCodes = 1 ∷ 1 ∷ 1 ∷ 1 ∷ 1 ∷ 1 ∷ 1 ∷ 1 ∷ 1 ∷ 1 ∷ 2 ∷ 3 ∷ 4 ∷ 5 ∷ 6 ∷ 7 ∷ 1 ∷ 9 ∷ 9 ∷ 9 ∷ 10 ∷ []

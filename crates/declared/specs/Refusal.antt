@@ -1,0 +1,57 @@
+-- Document 01's number, place and text for each refusal of the code. Lines are those of the sheet s.
+use Prim.Native.Nat.{ℕ, suc}
+use mathlib.Core.List.{List, [], _∷_}
+use mathlib.Core.Option.{none, some}
+use Rattle.rules.specs.Text.{Name, lit}
+use Rattle.rules.specs.Ast.{Expr, Param, span, typeName, typeSpan}
+use Rattle.rules.specs.Asking.{Refusal as Ruled, Res, ok, refused}
+use Rattle.rules.specs.Declarations.{guardianText, innerText, onlyTypesText, arityText, arityOf, unknownText, noArgumentsText, nameText, digestText}
+use Rattle.rules.specs.Standing.{exprAt, typeAt, paramAt, fieldAt}
+use Rattle.rules.specs.Typing.{Dot, dotOf, straightText, byNameText, holdsText, amountText, keyedOpText, receiverText, notText, negText, logicalText, arithmeticText, orderingText, namesText, comparedText}
+use Rattle.declared.specs.Codes.{tyFrom}
+use Rattle.declared.specs.declared.refusal.Refusal.{Refusal}
+use Rattle.declared.specs.declared.refusal.Refusal.the-variants.{NameStored, Arity, OnlyTypes, Inner, UnknownType, NoArguments, Digest, Guardian, Receiver, KeyedOp, Amount, Straight, ByName, Holds, Not, Neg, Logical, Arithmetic, Ordering, Names, Compared}
+use Rattle.declared.specs.declared.refusal.Done.{Done}
+use Rattle.declared.specs.declared.refusal.Done.the-variants.{Fine, Refused}
+
+-- the dot at a line
+unfoldable pub dotAt : List ℕ → ℕ → Dot
+dotAt s i = elim (dotOf (exprAt s i)) [ some d ↦ d | none ↦ record { base = exprAt s i; name = []; nspan = 0 } ]
+
+-- how many arguments a Map or Registry takes
+unfoldable pub arity : Name → ℕ
+arity x = elim (arityOf x) [ some n ↦ n | none ↦ 0 ]
+
+unfoldable pub refusalOf : List ℕ → Refusal → Ruled
+refusalOf s (NameStored ty) = record { number = 12; place = typeSpan (typeAt s ty); text = nameText }
+refusalOf s (Arity ty) =
+    record { number = 13; place = typeSpan (typeAt s ty); text = arityText (typeAt s ty) (arity (typeName (typeAt s ty))) }
+refusalOf s (OnlyTypes ty) = record { number = 14; place = typeSpan (typeAt s ty); text = onlyTypesText (typeAt s ty) }
+refusalOf s (Inner ty inner key) =
+    record { number = 15; place = typeSpan (typeAt s inner); text = innerText (typeAt s ty) (typeAt s inner) key }
+refusalOf s (UnknownType ty) = record { number = 16; place = typeSpan (typeAt s ty); text = unknownText (typeAt s ty) }
+refusalOf s (NoArguments ty) = record { number = 17; place = typeSpan (typeAt s ty); text = noArgumentsText (typeAt s ty) }
+refusalOf s (Digest named) =
+    record { number = 18; place = typeSpan (typeAt s (suc named)); text = digestText (paramAt s named .name) }
+refusalOf s (Guardian ty) = record { number = 20; place = typeSpan (typeAt s ty); text = guardianText }
+refusalOf s (Receiver callee) = record { number = 30; place = span (dotAt s callee .base); text = receiverText (dotAt s callee .name) }
+refusalOf s (KeyedOp callee field) =
+    record { number = 31; place = dotAt s callee .nspan; text = keyedOpText (dotAt s callee .name) (fieldAt s field) }
+refusalOf s (Amount callee arg) = record { number = 32; place = span (exprAt s arg); text = amountText (dotAt s callee .name) }
+refusalOf s (Straight field arg) = record { number = 33; place = span (exprAt s arg); text = straightText (fieldAt s field .name) }
+refusalOf s (ByName field arg) = record { number = 34; place = span (exprAt s arg); text = byNameText (fieldAt s field .name) }
+refusalOf s (Holds field arg want got) =
+    record { number = 35; place = span (exprAt s arg); text = holdsText (fieldAt s field .name) (tyFrom want) (tyFrom got) }
+refusalOf s (Not inner) = record { number = 36; place = span (exprAt s inner); text = lit notText ∷ [] }
+refusalOf s (Neg inner) = record { number = 37; place = span (exprAt s inner); text = lit negText ∷ [] }
+refusalOf s (Logical operand) = record { number = 38; place = span (exprAt s operand); text = lit logicalText ∷ [] }
+refusalOf s (Arithmetic operand) = record { number = 39; place = span (exprAt s operand); text = lit arithmeticText ∷ [] }
+refusalOf s (Ordering operand) = record { number = 40; place = span (exprAt s operand); text = lit orderingText ∷ [] }
+refusalOf s (Names left) = record { number = 41; place = span (exprAt s left); text = namesText }
+refusalOf s (Compared right l r) =
+    record { number = 42; place = span (exprAt s right); text = comparedText (tyFrom l) (tyFrom r) }
+
+-- what a rule that gives no value answers
+unfoldable pub doneOf : List ℕ → Done → Res Unit
+doneOf s Fine = ok tt
+doneOf s (Refused r) = refused (refusalOf s r)

@@ -1,0 +1,117 @@
+// Declared types: module 1. A type is its code, 1 to 10.
+use sheet::end;
+use sheet::first;
+use sheet::kind;
+use sheet::name;
+use text::place_in;
+ghost use mathlib.Core.Path.{_≡_};
+ghost use Prim.Native.Nat.{suc, _/_, _<_};
+ghost use Rattle.rules.specs.Asking.{code};
+ghost use Rattle.rules.specs.Declared.{compatible as compatibleOf, numeric as numericOf, oneWord};
+ghost use Rattle.rules.specs.Declared.{declaredArg, tyOfDecl, tyOfName};
+ghost use Rattle.rules.specs.Standing.{typeAt};
+ghost use lib.ListN.{getD, length};
+ghost use Rattle.sheet.specs.Scratch.{skip};
+ghost use Rattle.declared.specs.Codes.{Tests, Tests2, namedCodes};
+ghost use Rattle.declared.specs.Lines.{Typed};
+
+// The type that the name at a place of the table in ty_of_name means, 10 behind its end.
+fn named(place: usize) -> u8
+    requires { ⌜ place < 21 ⌝ }
+    ensures { λ r. ⌜ r ≡ getD namedCodes place 0 ⌝ }
+{
+    NAMED[place]
+}
+
+const NAMED: [u8; 21] = [
+    1,
+    1,
+    1,
+    1,
+    1,
+    1,
+    1,
+    1,
+    1,
+    1,
+    2,
+    3,
+    4,
+    5,
+    6,
+    7,
+    1,
+    9,
+    9,
+    9,
+    10,
+];
+
+fn ty_of_name(name: &[u8]) -> u8
+    ensures { λ r. ⌜ r ≡ code (tyOfName (now (name .entry))) ⌝ }
+{
+    named(place_in(
+        name,
+        b"u8 u16 u32 u64 u128 i8 i16 i32 i64 i128 bool Q_Address Q_Asset Q_Word64 Q_Name Time Q_Id Map Registry GuardianSet ",
+    ))
+}
+
+// The type that the `type` record at line i declares.
+pub fn ty_of_decl(sheet: &[u8], lines: &[u16], i: usize) -> u8
+    requires { ⌜ Typed (now sheet) (now lines) i ⌝ }
+    ensures { λ r. ⌜ r ≡ code (tyOfDecl (typeAt (now (sheet .entry)) i)) ⌝ }
+{
+    ty_of_name(name(sheet, lines, i))
+}
+
+pub fn numeric(ty: u8) -> bool
+    ensures { λ r. ⌜ Tests numericOf ty r ⌝ }
+{
+    (ty == 1) | ((ty == 7) | (ty == 10))
+}
+
+fn one_word(ty: u8) -> bool
+    ensures { λ r. ⌜ Tests oneWord ty r ⌝ }
+{
+    (ty == 1) | ((ty == 7) | (ty == 2))
+}
+
+// Whether a value of one type may stand where the other is wanted.
+pub fn compatible(want: u8, got: u8) -> bool
+    ensures { λ r. ⌜ Tests2 compatibleOf want got r ⌝ }
+{
+    let same = want == got;
+    if (want == 6) | (got == 6) | (want == 9) | (got == 9) {
+        same
+    } else {
+        same | (want == 10) | (got == 10) | (one_word(want) & one_word(got))
+    }
+}
+
+// The line of the first or second argument of the `type` record at line ty.
+fn arg_line(lines: &[u16], ty: usize, index: usize) -> usize
+    requires { ⌜ (ty < length (now lines) / 8) × (index < 2) ⌝ }
+    ensures { λ r. ⌜ r ≡ skip (now (lines .entry)) index (suc ty) ⌝ }
+{
+    if index == 0 {
+        ty + 1
+    } else {
+        end(lines, ty + 1)
+    }
+}
+
+// The type of a declared type's argument, 10 where it has no such type.
+pub fn declared_arg(sheet: &[u8], lines: &[u16], ty: usize, index: usize) -> u8
+    requires { ⌜ Typed (now sheet) (now lines) ty ⌝ }
+    requires { ⌜ index < 2 ⌝ }
+    ensures { λ r. ⌜ r ≡ code (declaredArg (typeAt (now (sheet .entry)) ty) index) ⌝ }
+{
+    if first(lines, ty) <= index {
+        return 10;
+    }
+    let at = arg_line(lines, ty, index);
+    if kind(lines, at) != 8 {
+        return 10;
+    }
+    ty_of_decl(sheet, lines, at)
+}

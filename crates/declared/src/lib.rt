@@ -1,0 +1,10 @@
+// Declared types, declarations and lookups by name, over loaded lines: modules 1 to 3.
+mod declared;
+mod refusal;
+
+pub use declared::compatible;
+pub use declared::declared_arg;
+pub use declared::numeric;
+pub use declared::ty_of_decl;
+pub use refusal::Done;
+pub use refusal::Refusal;
