@@ -1,2 +1,4 @@
+pub mod Fields
+pub mod Finding
 pub mod Tables
 pub mod Types

@@ -1,3 +1,4 @@
 pub mod Codes
+pub mod Found
 pub mod Lines
 pub mod Refusal

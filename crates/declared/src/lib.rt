@@ -1,10 +1,14 @@
 // Declared types, declarations and lookups by name, over loaded lines: modules 1 to 3.
 mod declared;
+mod model;
 mod refusal;
 
 pub use declared::compatible;
 pub use declared::declared_arg;
 pub use declared::numeric;
 pub use declared::ty_of_decl;
+pub use model::Found;
+pub use model::field_named;
+pub use model::last_named;
 pub use refusal::Done;
 pub use refusal::Refusal;

@@ -1,0 +1,220 @@
+-- The last state field of a name. Assumes nothing.
+use mathlib.Core.Logic.{_≢_}
+use mathlib.Core.Path.{_≡_, refl, sym, ap, _∙_}
+use mathlib.Core.List.{List, [], _∷_, _++_, map, append-nil}
+use mathlib.Core.Bool.{Bool, true, false, cond}
+use mathlib.Core.Option.{Option, none, some, Option·map}
+use Prim.Native.Nat.{ℕ, zero, suc, _+_, _-_, _/_, _<_, _≤_}
+use native.Mathlib.Omega.{arith}
+use lib.Dec.{eqb}
+use lib.ListN.{length}
+use borrow.Author.Tests.{eq-eqb, ne-eqb}
+use Rattle.text.specs.Text.{same}
+use Rattle.sheet.specs.Grammar as grammar
+use Rattle.sheet.specs.Held.{Held, held}
+use Rattle.sheet.specs.Held as formed
+use Rattle.sheet.specs.Load.{sorts}
+use Rattle.sheet.specs.Scratch.{kindAt, endAt, entry}
+use Rattle.sheet.specs.Tree.{Node, node, nil, more, takeNodes}
+use Rattle.sheet.proofs.Due.{length-times}
+use Rattle.rules.specs.Text.{Name, lastNamed}
+use Rattle.rules.specs.Ast.{Field, itemOf, fieldOf, contractOf, nodes}
+use Rattle.rules.specs.Model.{itemModel, joined, build, fieldNamed}
+use Rattle.rules.specs.Verdict.{modelOf}
+use Rattle.rules.specs.Standing.{treesFrom, without, nodeAt, nodesAt, fieldAt, modelIn, Loaded, Here, Row, stop, next}
+use Rattle.rules.proofs.Parts.{stop as end, _also_, pick, parts}
+use Rattle.rules.proofs.Standing.{Stands, stands, nodes-next, parts-behind, row-behind, row-first, row-rest}
+use Rattle.declared.specs.Found.{nodeName, nodeKind, ofKind, foundNode, foundField, orElse, itemFields, Stretch, Of, Last, ItemAt, Newest, FieldNamed}
+use Rattle.declared.specs.declared.model.Found.{Found}
+use Rattle.declared.specs.declared.model.Found.the-variants.{At, Nothing}
+use Rattle.declared.proofs.Finding.{last-turn, or-none}
+
+-- ------------------------------------------------------------ the last of a name
+
+pub last-append : {A : Type 0} (f : A → Name) (x : Name) (as' bs : List A) (o : Option A)
+    → orElse (lastNamed f x (as' ++ bs)) o ≡ orElse (lastNamed f x bs) (orElse (lastNamed f x as') o)
+unfolding lastNamed orElse
+last-append f x [] bs o = refl
+last-append f x (a ∷ as') bs o =
+    last-turn f x a (as' ++ bs) o
+    ∙ last-append f x as' bs (cond (same x (f a)) (some a) o)
+    ∙ ap (orElse (lastNamed f x bs)) (sym (last-turn f x a as' o))
+
+pub last-map : {A B : Type 0} (g : A → B) (f : B → Name) (h : A → Name) (x : Name) → ((a : A) → f (g a) ≡ h a)
+    → (as' : List A) → lastNamed f x (map g as') ≡ Option·map g (lastNamed h x as')
+unfolding lastNamed
+last-map g f h x e [] = refl
+last-map {A} {B} g f h x e (a ∷ as') = go (lastNamed h x as') (same x (h a)) _ _ (last-map g f h x e as') (ap (same x) (e a))
+  where
+    go : (l : Option A) (b : Bool) (l' : Option B) (b' : Bool) → l' ≡ Option·map g l → b' ≡ b
+        → _≡_ {A = Option B} (elim l' [ some y ↦ some y | none ↦ elim b' [ true ↦ some (g a) | false ↦ none ] ])
+        (Option·map g (elim l as (λ _. Option A) [ some y ↦ some y | none ↦ elim b [ true ↦ some a | false ↦ none ] ]))
+    go (some y) b l' b' p q = rw p refl
+    go none true l' b' p q = rw (p, q) refl
+    go none false l' b' p q = rw (p, q) refl
+
+-- ------------------------------------------------------------ the fields of a model
+
+abbrev allFields : List Node → List Node
+allFields [] = []
+allFields (t ∷ ts) = itemFields t ++ allFields ts
+
+item-fields : (t : Node) → 1 ≤ nodeKind t → nodeKind t < 6 → itemModel (itemOf t) .fields ≡ map fieldOf (itemFields t)
+unfolding nodeKind itemModel itemOf itemFields
+item-fields (node i l ps) a b =
+    pick {P = λ k. l .kind ≡ k → itemModel (itemOf (node i l ps)) .fields ≡ map fieldOf (itemFields (node i l ps))} {i = 1} {n = 5} (l .kind)
+    ((λ e. rw e refl) also (λ e. rw e refl) also (λ e. rw e refl) also (λ e. rw e refl) also (λ e. rw e refl) also end)
+    a b refl
+
+map-append : {A B : Type 0} (f : A → B) (as' bs : List A) → map f (as' ++ bs) ≡ map f as' ++ map f bs
+map-append f [] bs = refl
+map-append f (a ∷ as') bs = ap (λ cs. f a ∷ cs) (map-append f as' bs)
+
+row-fields : {s S : List ℕ} {m i : ℕ} → Loaded s S → Row S grammar.Item m i → build (map itemOf (nodesAt s m i)) .fields ≡ map fieldOf (allFields (nodesAt s m i))
+unfolding nodesAt takeNodes nodes build joined nodeKind
+row-fields d stop = refl
+row-fields {s} {S} {m = suc m} {i} d (next h r) =
+    let t = stands d i (h .within) in
+    let k : nodeKind (nodeAt s i) ≡ kindAt S i = rw (t .here) (sym (t .says .kind)) in
+    rw (
+      nodes-next d m i (h .within),
+      map-append fieldOf (itemFields (nodeAt s i)) (allFields (nodesAt s m (endAt S i))),
+      ← item-fields (nodeAt s i) (omega (arith, k, h .kind .0)) (omega (arith, k, h .kind .1)),
+      ← row-fields d r,
+    )
+    refl
+
+-- the parts of a line that are all of one sort
+pub one-sort : {s S : List ℕ} {i : ℕ} {σ : grammar.Sort} (m : ℕ) (t : Stands s S i) → t .line .parts ≡ (m, σ) ∷ []
+    → (nodes (t .parts) ≡ nodesAt s m (suc i)) × Row S σ m (suc i) × (entry S i 5 ≡ m)
+unfolding nodesAt sorts
+one-sort m t e =
+    (ap nodes (parts-behind t ∙ rw (e, append-nil, length-times) refl), row-behind m [] t (rw e refl), t .says .first ∙ rw e refl)
+
+root : {S : List ℕ} {n : ℕ} {t : Node} → Held S n 0 t → formed.Formed grammar.Contract t → (0 < n) × (nodeKind t ≡ 0)
+unfolding nodeKind
+root (held h y r) (formed.formed a p fs) = (h, omega (arith, a .0, a .1))
+
+-- the items of a sheet
+items-at : {s S : List ℕ} → Loaded s S → (modelIn s ≡ build (map itemOf (nodesAt s (entry S 0 5) 1))) × Row S grammar.Item (entry S 0 5) 1
+unfolding modelIn modelOf contractOf nodeAt treesFrom without nodeKind
+items-at {s} {S} d =
+    let r = root (d .holding .held) (d .holding .formed) in
+    let t = stands d 0 (r .0) in
+    let e : d .root ≡ node 0 (t .line) (t .parts) = rw (d .one) at (t .here) in
+    let g = parts (t .line) 0 (t .parted) (rw e at (r .1)) in
+    let q = one-sort (g .0) t (g .1) in
+    rw (q .2) (ap build (ap contractOf (d .one) ∙ ap (λ y. contractOf (more y nil)) e ∙ ap (map itemOf) (q .0)), q .1)
+
+-- ------------------------------------------------------------ the fields of an item
+
+-- records that are all of one kind
+pub all-kind : {s S : List ℕ} {σ : grammar.Sort} {m i : ℕ} (k : ℕ) → ((j : ℕ) → Here S σ j → kindAt S j ≡ k) → Loaded s S → Row S σ m i
+    → ofKind k (nodesAt s m i) ≡ nodesAt s m i
+unfolding nodesAt takeNodes nodes ofKind nodeKind
+all-kind k e d stop = refl
+all-kind {s} {S} {m = suc m} {i} k e d (next h r) =
+    let t = stands d i (h .within) in
+    let q : eqb (nodeKind (nodeAt s i)) k ≡ true = rw (t .here, ← t .says .kind, e i h) (eq-eqb k k refl) in
+    rw (nodes-next d m i (h .within), ofKind, q) (ap (λ ts. nodeAt s i ∷ ts) (all-kind k e d r))
+
+no-fields : (t : Node) → nodeKind t ≢ 1 → itemFields t ≡ []
+unfolding itemFields nodeKind
+no-fields (node i l ps) h = rw (itemFields, ne-eqb (l .kind) 1 h) refl
+
+its-fields : {s S : List ℕ} {i : ℕ} (t : Stands s S i) → t .line .kind ≡ 1 → itemFields (nodeAt s i) ≡ nodes (t .parts)
+unfolding itemFields
+its-fields t e = rw (t .here, itemFields, e) refl
+
+module _ (s S : List ℕ) (x : Name) (i : ℕ) (f : Found) (h : ItemAt s S i) (k : ℕ) (e : k ≡ kindAt S i) where
+  t : Stands s S i
+  t = stands (h .loaded) i (h .here .within)
+
+  kind-is : t .line .kind ≡ k
+  kind-is = sym (e ∙ t .says .kind)
+
+  pub other : k ≢ 1 → Newest s S x i f f
+  unfolding lastNamed orElse nodeKind
+  other q = record { found = rw (no-fields (nodeAt s i) (rw (t .here, kind-is) q)) refl; kind = λ o. o }
+
+  module _ (m j : ℕ) (q : k ≡ 1) (c : m ≡ entry S i 5) (y : j ≡ i + 1) where
+    g : (nodes (t .parts) ≡ nodesAt s m j) × Row S grammar.Field m j
+    g =
+        let p = parts (t .line) 1 (t .parted) (kind-is ∙ q) in
+        let o = one-sort (p .0) t (p .1) in
+        let z : j ≡ suc i = omega arith in
+        let b : m ≡ p .0 = c ∙ o .2 in
+        rw (z, b) (o .0, o .1)
+
+    pub fields-behind : Stretch s S m j
+    fields-behind = record { loaded = h .loaded; sort = grammar.Field; row = g .1 }
+
+    fields-are : itemFields (nodeAt s i) ≡ ofKind 6 (nodesAt s m j)
+    fields-are = its-fields t (kind-is ∙ q) ∙ g .0 ∙ sym (all-kind 6 (λ a b. omega (arith, b .kind .0, b .kind .1)) (h .loaded) (g .1))
+
+    module _ (r : Found) (l : Last s S 6 x m j r) where
+      pub newer : (a : ℕ) → r ≡ At a → Newest s S x i f (At a)
+      unfolding foundNode orElse
+      newer a z = record { found = rw (fields-are, ← l .found, z) refl; kind = λ o. rw z at (l .kind) }
+
+      pub older : r ≡ Nothing → Newest s S x i f f
+      unfolding foundNode orElse
+      older z = record { found = rw (fields-are, ← l .found, z) refl; kind = λ o. o }
+
+-- ------------------------------------------------------------ item by item
+
+as-field : (s : List ℕ) (r : Found) → foundField s r ≡ Option·map fieldOf (foundNode s r)
+unfolding foundField foundNode fieldAt
+as-field s (At i) = refl
+as-field s Nothing = refl
+
+field-name : (t : Node) → fieldOf t .name ≡ nodeName t
+unfolding fieldOf nodeName
+field-name (node i l ps) = refl
+
+-- what is found so far, with left items to go from line at on
+pub record FieldsGoing (s S : List ℕ) (x : Name) (left at : ℕ) (f : Found) : Type 0 where
+  pub loaded : Loaded s S
+  pub row : Row S grammar.Item left at
+  pub rest : lastNamed nodeName x (allFields (nodesAt s (entry S 0 5) 1)) ≡ orElse (lastNamed nodeName x (allFields (nodesAt s left at))) (foundNode s f)
+  pub kind : Of S 6 f
+
+pub fields-start : (s S : List ℕ) (x : Name) (m : ℕ) → Loaded s S → m ≡ entry S 0 5 → FieldsGoing s S x m 1 Nothing
+unfolding foundNode
+fields-start s S x m d e = rw e (record { loaded = d; row = items-at d .1; rest = sym (or-none _); kind = tt })
+
+module _ (s S : List ℕ) (x : Name) (left at : ℕ) (f : Found) (g : FieldsGoing s S x left at f) where
+  row : 0 < left → Row S grammar.Item (suc (left - 1)) at
+  row h = rw (let y : suc (left - 1) ≡ left = omega arith in y) (g .row)
+
+  pub fields-item : 0 < left → ItemAt s S at
+  fields-item h = record { loaded = g .loaded; here = row-first (row h) }
+
+  pub fields-turn : (at' : ℕ) (f' : Found) → 0 < left → Newest s S x at f f' → at' ≡ endAt S at → FieldsGoing s S x (left - 1) at' f'
+  fields-turn at' f' h e q =
+      let r = row h in
+      let list : nodesAt s left at ≡ nodeAt s at ∷ nodesAt s (left - 1) (endAt S at) =
+      ap (λ y. nodesAt s y at) (let y : left ≡ suc (left - 1) = omega arith in y) ∙ nodes-next (g .loaded) (left - 1) at (row-first r .within) in
+      rw q
+      (record {
+        loaded = g .loaded;
+        row = row-rest r;
+        rest =
+            g .rest
+            ∙ rw (list, e .found) (last-append nodeName x (itemFields (nodeAt s at)) (allFields (nodesAt s (left - 1) (endAt S at))) (foundNode s f));
+        kind = e .kind (g .kind);
+      })
+
+  pub fields-over : left ≤ 0 → FieldNamed s S x f
+  unfolding nodesAt takeNodes nodes lastNamed orElse fieldNamed
+  fields-over h =
+      let e = items-at (g .loaded) in
+      let all = lastNamed nodeName x (allFields (nodesAt s (entry S 0 5) 1)) in
+      let last : foundNode s f ≡ all = sym (g .rest ∙ rw (let y : left ≡ 0 = omega arith in y) refl) in
+      record {
+        found =
+            as-field s f
+            ∙ ap (Option·map fieldOf) last
+            ∙ sym (rw (e .0, row-fields (g .loaded) (e .1)) (last-map fieldOf (λ y. y .name) nodeName x field-name (allFields (nodesAt s (entry S 0 5) 1))));
+        kind = g .kind;
+      }

@@ -1,0 +1,109 @@
+-- A search by name among loaded lines. Assumes nothing.
+use mathlib.Core.Logic.{_≢_}
+use mathlib.Core.Path.{_≡_, refl, sym, ap, _∙_}
+use mathlib.Core.List.{List, [], _∷_, map}
+use mathlib.Core.Bool.{Bool, true, false, cond}
+use mathlib.Core.Option.{Option, none, some, Option·map}
+use Prim.Native.Nat.{ℕ, zero, suc, _+_, _-_, _/_, _<_, _≤_}
+use native.Mathlib.Omega.{arith}
+use lib.Dec.{eqb}
+use lib.ListN.{length}
+use borrow.Author.Tests.{eqb-true, eq-eqb, ne-eqb}
+use Rattle.text.specs.Text.{same}
+use Rattle.sheet.specs.Grammar.{Sort}
+use Rattle.sheet.specs.Scratch.{kindAt, nameAt, endAt}
+use Rattle.sheet.specs.Tree.{Node, node, takeNodes}
+use Rattle.rules.specs.Text.{Name, lastNamed}
+use Rattle.rules.specs.Ast.{nodes}
+use Rattle.rules.specs.Standing.{nodeAt, nodesAt, Loaded, Here, Row, stop, next}
+use Rattle.rules.proofs.Standing.{stands, nodes-next, row-first, row-rest}
+use Rattle.declared.specs.Found.{nodeName, nodeKind, ofKind, foundNode, newest, orElse, Stretch, Of, Last}
+use Rattle.declared.specs.declared.model.Found.{Found}
+use Rattle.declared.specs.declared.model.Found.the-variants.{At, Nothing}
+
+-- ------------------------------------------------------------ the last of a name
+
+-- the last of a list, or else o: the first of the list is a new such o
+pub last-turn : {A : Type 0} (f : A → Name) (x : Name) (a : A) (as' : List A) (o : Option A)
+    → orElse (lastNamed f x (a ∷ as')) o ≡ orElse (lastNamed f x as') (cond (same x (f a)) (some a) o)
+unfolding lastNamed orElse
+last-turn f x a as' o = go (lastNamed f x as') (same x (f a))
+  where
+    go : (l : Option _) (b : Bool)
+        → orElse (elim l as (λ _. Option _) [ some y ↦ some y | none ↦ elim b as (λ _. Option _) [ true ↦ some a | false ↦ none ] ]) o
+        ≡ orElse l (cond b (some a) o)
+    go (some y) b = refl
+    go none true = refl
+    go none false = refl
+
+pub or-none : {A : Type 0} (o : Option A) → orElse o none ≡ o
+unfolding orElse
+or-none none = refl
+or-none (some a) = refl
+
+-- ------------------------------------------------------------ line by line
+
+-- ... among those of a kind
+kind-turn : (k : ℕ) (x : Name) (t : Node) (ts : List Node) (o : Option Node)
+    → orElse (lastNamed nodeName x (ofKind k (t ∷ ts))) o
+    ≡ orElse (lastNamed nodeName x (ofKind k ts)) (cond (eqb (nodeKind t) k) (cond (same x (nodeName t)) (some t) o) o)
+unfolding ofKind
+kind-turn k x t ts o = go (eqb (nodeKind t) k)
+  where
+    go : (b : Bool)
+        → orElse (lastNamed nodeName x (elim b as (λ _. List Node) [ true ↦ t ∷ ofKind k ts | false ↦ ofKind k ts ])) o
+        ≡ orElse (lastNamed nodeName x (ofKind k ts)) (cond b (cond (same x (nodeName t)) (some t) o) o)
+    go true = last-turn nodeName x t (ofKind k ts) o
+    go false = refl
+
+newest-node : (s S : List ℕ) (k : ℕ) (x : Name) (i : ℕ) (f : Found)
+    → foundNode s (newest s S k x i f) ≡ cond (eqb (kindAt S i) k) (cond (same x (nameAt s S i)) (some (nodeAt s i)) (foundNode s f)) (foundNode s f)
+unfolding newest foundNode
+newest-node s S k x i f = go (eqb (kindAt S i) k) (same x (nameAt s S i))
+  where
+    go : (b c : Bool) → foundNode s (cond b (cond c (At i) f) f) ≡ cond b (cond c (some (nodeAt s i)) (foundNode s f)) (foundNode s f)
+    go true true = refl
+    go true false = refl
+    go false c = refl
+
+newest-kind : (s S : List ℕ) (k : ℕ) (x : Name) (i : ℕ) (f : Found) → i < length S / 8 → Of S k f → Of S k (newest s S k x i f)
+unfolding newest
+newest-kind s S k x i f h o = go (eqb (kindAt S i) k) refl (same x (nameAt s S i))
+  where
+    go : (b : Bool) → eqb (kindAt S i) k ≡ b → (c : Bool) → Of S k (cond b (cond c (At i) f) f)
+    go true e true = (h, eqb-true (kindAt S i) k e)
+    go true e false = o
+    go false e c = o
+
+-- what is found so far, with left records to go from line at on
+pub record Going (s S : List ℕ) (k : ℕ) (x : Name) (m i left at : ℕ) (f : Found) : Type 0 where
+  pub stretch : Stretch s S left at
+  pub rest : lastNamed nodeName x (ofKind k (nodesAt s m i)) ≡ orElse (lastNamed nodeName x (ofKind k (nodesAt s left at))) (foundNode s f)
+  pub kind : Of S k f
+
+pub start : (s S : List ℕ) (k : ℕ) (x : Name) (m i : ℕ) → Stretch s S m i → Going s S k x m i m i Nothing
+unfolding foundNode
+start s S k x m i h = record { stretch = h; rest = sym (or-none _); kind = tt }
+
+module _ (s S : List ℕ) (k : ℕ) (x : Name) (m i left at : ℕ) (f : Found) (g : Going s S k x m i left at f) where
+  pub turn : (at' : ℕ) (f' : Found) → 0 < left → f' ≡ newest s S k x at f → at' ≡ endAt S at → Going s S k x m i (left - 1) at' f'
+  unfolding nodeName nodeKind
+  turn at' f' h e q =
+      let l = left - 1 in
+      let d = g .stretch .loaded in
+      let row : Row S (g .stretch .sort) (suc l) at = rw (let y : suc l ≡ left = omega arith in y) (g .stretch .row) in
+      let t = stands d at (row-first row .within) in
+      let list : nodesAt s left at ≡ nodeAt s at ∷ nodesAt s l (endAt S at) =
+      ap (λ y. nodesAt s y at) (let y : left ≡ suc l = omega arith in y) ∙ nodes-next d l at (row-first row .within) in
+      rw (e, q)
+      (record {
+        stretch = record { loaded = d; sort = g .stretch .sort; row = row-rest row };
+        rest =
+            g .rest
+            ∙ rw (list, kind-turn k x (nodeAt s at) (nodesAt s l (endAt S at)) (foundNode s f), newest-node s S k x at f, t .says .kind, t .spells .name, t .here) refl;
+        kind = newest-kind s S k x at f (row-first row .within) (g .kind);
+      })
+
+  pub over : left ≤ 0 → Last s S k x m i f
+  unfolding nodesAt takeNodes nodes ofKind lastNamed orElse
+  over h = record { found = sym (g .rest ∙ rw (let e : left ≡ 0 = omega arith in e) refl); kind = g .kind }

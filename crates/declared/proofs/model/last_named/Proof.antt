@@ -1,0 +1,18 @@
+use mathlib.Core.Path.{_≡_}
+use borrow.Author.Needs.{needs}
+use Rattle.declared.proofs.Finding.{Going, start, turn, over}
+use Rattle.declared.proofs.model.last_named.Statement.{statement}
+use Rattle.declared.proofs.model.last_named.Tie as tie
+
+abbrev Inv : tie.InvT-loop
+Inv sheet lines k x from count at₀ left₀ found₀ at left found = Going sheet lines k x count from left at found
+
+abbrev μ : tie.MeasureT-loop
+μ sheet lines k x from count at₀ left₀ found₀ at left found = left
+
+pub last-named-spec : {M : Type 1} → statement M
+last-named-spec =
+    tie.close
+    (tie.spec Inv μ
+    (λ c. search (needs, start)) (λ c κs. search needs) (λ c κs. search needs) (λ c. search needs) (λ c. search needs)
+    (λ c. search (needs, turn)) (λ c. search (needs, over)))

@@ -1,0 +1,80 @@
+-- What a search by name finds among loaded lines.
+use Prim.Native.Nat.{ℕ, _/_, _<_}
+use mathlib.Core.Bool.{true, false, cond}
+use mathlib.Core.List.{List, [], _∷_}
+use mathlib.Core.Option.{Option, none, some}
+use mathlib.Core.Path.{_≡_}
+use lib.Dec.{eqb}
+use lib.ListN.{length}
+use Rattle.sheet.specs.Grammar.{Sort}
+use Rattle.sheet.specs.Grammar as grammar
+use Rattle.sheet.specs.Scratch.{kindAt, nameAt}
+use Rattle.sheet.specs.Tree.{Node, node}
+use Rattle.text.specs.Text.{same}
+use Rattle.rules.specs.Text.{Name, lastNamed}
+use Rattle.rules.specs.Ast.{Field, nodes}
+use Rattle.rules.specs.Model.{fieldNamed}
+use Rattle.rules.specs.Standing.{nodeAt, nodesAt, fieldAt, modelIn, Loaded, Here, Row}
+use Rattle.declared.specs.declared.model.Found.{Found}
+use Rattle.declared.specs.declared.model.Found.the-variants.{At, Nothing}
+
+unfoldable pub nodeName : Node → Name
+nodeName (node i l ps) = l .name
+
+unfoldable pub nodeKind : Node → ℕ
+nodeKind (node i l ps) = l .kind
+
+unfoldable pub ofKind : ℕ → List Node → List Node
+ofKind k [] = []
+ofKind k (t ∷ ts) = elim (eqb (nodeKind t) k) [ true ↦ t ∷ ofKind k ts | false ↦ ofKind k ts ]
+
+unfoldable pub foundNode : List ℕ → Found → Option Node
+foundNode s (At i) = some (nodeAt s i)
+foundNode s Nothing = none
+
+unfoldable pub foundField : List ℕ → Found → Option Field
+foundField s (At i) = some (fieldAt s i)
+foundField s Nothing = none
+
+-- line i where it is a record of kind k with the name x, else what was found before
+unfoldable pub newest : List ℕ → List ℕ → ℕ → Name → ℕ → Found → Found
+newest s S k x i f = cond (eqb (kindAt S i) k) (cond (same x (nameAt s S i)) (At i) f) f
+
+-- m records stand one behind another from line i on
+pub record Stretch (s S : List ℕ) (m i : ℕ) : Type 0 where
+  pub loaded : Loaded s S
+  pub sort : Sort
+  pub row : Row S sort m i
+
+-- the line found is one of kind k
+abbrev pub Of : List ℕ → ℕ → Found → Type 0
+Of S k (At i) = (i < length S / 8) × (kindAt S i ≡ k)
+Of S k Nothing = Unit
+
+-- r is the last record of kind k with the name x among m records from line i on
+pub record Last (s S : List ℕ) (k : ℕ) (x : Name) (m i : ℕ) (r : Found) : Type 0 where
+  pub found : foundNode s r ≡ lastNamed nodeName x (ofKind k (nodesAt s m i))
+  pub kind : Of S k r
+
+-- the fields that an item declares
+unfoldable pub itemFields : Node → List Node
+itemFields (node i l ps) = elim (eqb (l .kind) 1) [ true ↦ nodes ps | false ↦ [] ]
+
+-- an item stands at line i
+pub record ItemAt (s S : List ℕ) (i : ℕ) : Type 0 where
+  pub loaded : Loaded s S
+  pub here : Here S grammar.Item i
+
+unfoldable pub orElse : {A : Type 0} → Option A → Option A → Option A
+orElse none o = o
+orElse (some a) o = some a
+
+-- r is the last field of the name x of the item at line i, or else f
+pub record Newest (s S : List ℕ) (x : Name) (i : ℕ) (f r : Found) : Type 0 where
+  pub found : foundNode s r ≡ orElse (lastNamed nodeName x (itemFields (nodeAt s i))) (foundNode s f)
+  pub kind : Of S 6 f → Of S 6 r
+
+-- r is the last state field of the name x
+pub record FieldNamed (s S : List ℕ) (x : Name) (r : Found) : Type 0 where
+  pub found : foundField s r ≡ fieldNamed (modelIn s) x
+  pub kind : Of S 6 r
