@@ -8,12 +8,13 @@ ghost use mathlib.Core.Path.{_≡_};
 ghost use Prim.Native.Nat.{suc, _/_, _<_};
 ghost use Rattle.rules.specs.Asking.{code};
 ghost use Rattle.rules.specs.Declared.{compatible as compatibleOf, numeric as numericOf, oneWord};
-ghost use Rattle.rules.specs.Declared.{declaredArg, tyOfDecl, tyOfName};
-ghost use Rattle.rules.specs.Standing.{typeAt};
+ghost use Rattle.rules.specs.Declared.{declaredArg, isZeroLiteral, tyOfDecl, tyOfName, zeroDigit};
+ghost use Rattle.text.specs.Text.{all};
+ghost use Rattle.rules.specs.Standing.{exprAt, typeAt};
 ghost use lib.ListN.{getD, length};
 ghost use Rattle.sheet.specs.Scratch.{skip};
 ghost use Rattle.declared.specs.Codes.{Tests, Tests2, namedCodes};
-ghost use Rattle.declared.specs.Lines.{Typed};
+ghost use Rattle.declared.specs.Lines.{ExprAt, Typed};
 
 // The type that the name at a place of the table in ty_of_name means, 10 behind its end.
 fn named(place: usize) -> u8
@@ -114,4 +115,34 @@ pub fn declared_arg(sheet: &[u8], lines: &[u16], ty: usize, index: usize) -> u8
         return 10;
     }
     ty_of_decl(sheet, lines, at)
+}
+
+fn zero_digit(b: u8) -> bool
+    ensures { λ r. ⌜ r ≡ zeroDigit b ⌝ }
+{
+    (b == b'0') | (b == b'_')
+}
+
+fn all_zero(text: &[u8]) -> bool
+    ensures { λ r. ⌜ r ≡ all zeroDigit (now (text .entry)) ⌝ }
+{
+    let mut i = 0;
+    while i < text.len() {
+        if !zero_digit(text[i]) {
+            return false;
+        }
+        i += 1;
+    }
+    true
+}
+
+// Whether line i is a literal of value zero.
+pub fn is_zero_literal(sheet: &[u8], lines: &[u16], i: usize) -> bool
+    requires { ⌜ ExprAt (now sheet) (now lines) i ⌝ }
+    ensures { λ r. ⌜ r ≡ isZeroLiteral (exprAt (now (sheet .entry)) i) ⌝ }
+{
+    if kind(lines, i) != 20 {
+        return false;
+    }
+    all_zero(name(sheet, lines, i))
 }

@@ -5,6 +5,7 @@ mod refusal;
 
 pub use declared::compatible;
 pub use declared::declared_arg;
+pub use declared::is_zero_literal;
 pub use declared::numeric;
 pub use declared::ty_of_decl;
 pub use model::Found;

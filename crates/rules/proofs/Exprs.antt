@@ -1,19 +1,22 @@
 -- The expression at a line, by the line's kind. Assumes nothing.
 use mathlib.Core.Path.{_≡_, refl, sym, ap, _∙_}
 use mathlib.Core.List.{List, [], _∷_, append-nil}
-use mathlib.Core.Bool.{Bool, true, false}
+use mathlib.Core.Bool.{Bool, true, false, cond}
+use mathlib.Core.Option.{some, none}
 use Prim.Native.Nat.{ℕ, zero, suc, _+_, _-_, _/_, _<_, _≤_}
 use package.native.Mathlib.Omega.{arith}
-use lib.Dec.{ltb}
+use lib.Dec.{eqb, ltb}
 use lib.ListN.{length, getD}
-use borrow.Author.Tests.{ltb-true, ltb-false}
+use borrow.Author.Tests.{ltb-true, ltb-false, ne-eqb}
 use Rattle.sheet.specs.Grammar as grammar
 use Rattle.sheet.specs.Load.{times, sorts}
 use Rattle.sheet.specs.Tree.{node, takeNodes}
 use Rattle.sheet.specs.Scratch.{entry, kindAt, opAt, endAt, nameAt}
 use Rattle.sheet.specs.Say.{spanAt, nspanAt}
 use Rattle.sheet.proofs.Due.{length-times}
-use Rattle.rules.specs.Ast.{UnaryOp, Neg, unaryOps, BinOp, Shr, binOps, Leaf, int, id, date, str, caller, native, inasset, now, Wrap, Checked, Wrapping, Expr, leaf, unary, binary, field, call, wrap, Exprs, more, line, exprOf, exprsOf, spanOf}
+use Rattle.rules.specs.Ast.{UnaryOp, Neg, unaryOps, BinOp, Shr, binOps, Leaf, int, id, date, str, caller, native, inasset, now, Wrap, Checked, Wrapping, Expr, leaf, unary, binary, field, call, wrap, Exprs, more, line, leafOf, exprOf, exprsOf, spanOf}
+use Rattle.rules.specs.Declared.{literal, intOf}
+use Rattle.rules.specs.Typing.{identLeaf, identOf, dotOf}
 use Rattle.rules.specs.Standing.{treesFrom, nodeAt, exprAt, exprsAt, Loaded, Here, Row}
 use Rattle.rules.proofs.Parts.{stop, _also_, pick, parts}
 use Rattle.rules.proofs.Standing.{Stands, stands, exprs-next, parts-behind, row-behind, row-first, row-rest}
@@ -109,19 +112,61 @@ module _ {s S : List ℕ} (d : Loaded s S) {i : ℕ} (h : Here S grammar.Expr i)
       also stop)
       a b
 
-  pub line-at : line (exprAt s i) ≡ i
-  unfolding line
-  line-at = go (ltb (kindAt S i) 28) refl
+  -- what holds of each kind holds of the expression
+  pub by-kind : (P : ℕ → Expr → Type 0)
+      → ((k : ℕ) → 20 ≤ k → k < 28 → P k (leaf i (spanAt s S i) (leafAt k (nameAt s S i))))
+      → P 28 (unary i (spanAt s S i) (getD unaryOps (opAt S i) Neg) (exprAt s (suc i)))
+      → P 29 (binary i (spanAt s S i) (getD binOps (opAt S i) Shr) (exprAt s (suc i)) (exprAt s (endAt S (suc i))))
+      → P 30 (field i (spanAt s S i) (exprAt s (suc i)) (nameAt s S i) (nspanAt s S i))
+      → P 31 (call i (spanAt s S i) (exprAt s (suc i)) (exprsAt s (entry S i 6) (endAt S (suc i))))
+      → ((k : ℕ) (w : Wrap) → 32 ≤ k → P k (wrap i (spanAt s S i) w (exprAt s (suc i))))
+      → P (kindAt S i) (exprAt s i)
+  by-kind P a b c e f g = go (ltb (kindAt S i) 28) refl
     where
-      go : (b : Bool) → ltb (kindAt S i) 28 ≡ b → line (exprAt s i) ≡ i
-      go true q = rw (leaf-at (kindAt S i) (h .kind .0) (ltb-true (kindAt S i) 28 q) refl) refl
+      go : (t : Bool) → ltb (kindAt S i) 28 ≡ t → P (kindAt S i) (exprAt s i)
+      go true q =
+          let h28 = ltb-true (kindAt S i) 28 q in
+          rw (leaf-at (kindAt S i) (h .kind .0) h28 refl) (a (kindAt S i) (h .kind .0) h28)
       go false q =
-          pick {P = λ k. kindAt S i ≡ k → line (exprAt s i) ≡ i} {i = 28} {n = 6} (kindAt S i)
-          ((λ e. rw (un-at e .0) refl)
-          also (λ e. rw (bin-at e .0) refl)
-          also (λ e. rw (dot-at e .0) refl)
-          also (λ e. rw (call-at e .0) refl)
-          also (λ e. rw (wrap-at 32 (omega arith) (omega arith) e .0) refl)
-          also (λ e. rw (wrap-at 33 (omega arith) (omega arith) e .0) refl)
+          pick {P = λ k. kindAt S i ≡ k → P k (exprAt s i)} {i = 28} {n = 6} (kindAt S i)
+          ((λ y. rw (un-at y .0) b)
+          also (λ y. rw (bin-at y .0) c)
+          also (λ y. rw (dot-at y .0) e)
+          also (λ y. rw (call-at y .0) f)
+          also (λ y. rw (wrap-at 32 (omega arith) (omega arith) y .0) (g 32 Checked (omega arith)))
+          also (λ y. rw (wrap-at 33 (omega arith) (omega arith) y .0) (g 33 Wrapping (omega arith)))
           also stop)
           (ltb-false (kindAt S i) 28 q) (h .kind .1) refl
+
+  pub line-at : line (exprAt s i) ≡ i
+  unfolding line
+  line-at = by-kind (λ k e. line e ≡ i) (λ k a b. refl) refl refl refl refl (λ k w a. refl)
+
+  -- `Expr::Int`, `Expr::Ident` and `Expr::Field` by the line's kind
+  pub int-at : intOf (exprAt s i) ≡ cond (eqb (kindAt S i) 20) (some (nameAt s S i)) none
+  unfolding intOf leafOf literal
+  int-at =
+      by-kind (λ k e. intOf e ≡ cond (eqb k 20) (some (nameAt s S i)) none)
+      (λ k a b.
+      pick {P = λ k. literal (leafAt k (nameAt s S i)) ≡ cond (eqb k 20) (some (nameAt s S i)) none} {i = 20} {n = 8} k
+      (refl also refl also refl also refl also refl also refl also refl also refl also stop) a b)
+      refl refl refl refl
+      (λ k w a. rw (ne-eqb k 20 (omega arith)) refl)
+
+  pub ident-at : identOf (exprAt s i) ≡ cond (eqb (kindAt S i) 21) (some (nameAt s S i)) none
+  unfolding identOf leafOf identLeaf
+  ident-at =
+      by-kind (λ k e. identOf e ≡ cond (eqb k 21) (some (nameAt s S i)) none)
+      (λ k a b.
+      pick {P = λ k. identLeaf (leafAt k (nameAt s S i)) ≡ cond (eqb k 21) (some (nameAt s S i)) none} {i = 20} {n = 8} k
+      (refl also refl also refl also refl also refl also refl also refl also refl also stop) a b)
+      refl refl refl refl
+      (λ k w a. rw (ne-eqb k 21 (omega arith)) refl)
+
+  pub is-dot-at : dotOf (exprAt s i) ≡ cond (eqb (kindAt S i) 30) (some (record { base = exprAt s (suc i); name = nameAt s S i; nspan = nspanAt s S i })) none
+  unfolding dotOf
+  is-dot-at =
+      by-kind (λ k e. dotOf e ≡ cond (eqb k 30) (some (record { base = exprAt s (suc i); name = nameAt s S i; nspan = nspanAt s S i })) none)
+      (λ k a b. rw (ne-eqb k 30 (omega arith)) refl)
+      refl refl refl refl
+      (λ k w a. rw (ne-eqb k 30 (omega arith)) refl)

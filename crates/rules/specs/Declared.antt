@@ -6,6 +6,7 @@ use mathlib.Core.Bool.{Bool, true, false, _&&_, _||_}
 use mathlib.Core.Option.{Option, none, some}
 use lib.Dec.{eqb, leb}
 use lib.ListN.{getElem?}
+use Rattle.text.specs.Text.{all}
 use Rattle.text.specs.Field.{valueFrom}
 use Rattle.rules.specs.Text.{Name, isOne, pick}
 use Rattle.rules.specs.Ast.{Type', Arg, ofType, ofInt, mOfN, Leaf, int, id, date, str, caller, native, inasset, now, Expr, leafOf, typeName, args}
@@ -29,9 +30,9 @@ parseU64 text = parse 18446744073709551615 (noUnderscores text)
 unfoldable pub parseU128 : Name → Option ℕ
 parseU128 text = parse 340282366920938463463374607431768211455 (noUnderscores text)
 
-unfoldable pub zeros : Name → Bool
-zeros [] = true
-zeros (b ∷ bs) = (eqb b 48 || eqb b 95) && zeros bs
+-- a digit that adds nothing, or an underscore
+abbrev pub zeroDigit : ℕ → Bool
+zeroDigit b = eqb b 48 || eqb b 95
 
 unfoldable pub literal : Leaf → Option Name
 literal (int n) = some n
@@ -48,7 +49,7 @@ unfoldable pub intOf : Expr → Option Name
 intOf e = elim (leafOf e) [ none ↦ none | some k ↦ literal k ]
 
 unfoldable pub isZeroLiteral : Expr → Bool
-isZeroLiteral e = elim (intOf e) [ none ↦ false | some n ↦ zeros n ]
+isZeroLiteral e = elim (intOf e) [ none ↦ false | some n ↦ all zeroDigit n ]
 
 -- ------------------------------------------------------------ declared types
 
