@@ -90,7 +90,7 @@ args-at s S i h =
     )
 
 -- an argument that isn't there
-beyond : {A : Type 0} (xs : List A) (k : ℕ) → length xs ≤ k → getElem? xs k ≡ none
+pub beyond : {A : Type 0} (xs : List A) (k : ℕ) → length xs ≤ k → getElem? xs k ≡ none
 beyond [] zero h = refl
 beyond [] (suc k) h = refl
 beyond (x ∷ xs) zero h = absurd (omega arith)
@@ -102,7 +102,7 @@ nth-map f [] (suc k) x e = absurd (let z : _≡_ {A = ℕ} 0 1 = cc in omega ari
 nth-map f (y ∷ xs) zero x e = let q : y ≡ x = cc in rw q refl
 nth-map f (y ∷ xs) (suc k) x e = nth-map f xs k x e
 
-length-map : {A B : Type 0} (f : A → B) (xs : List A) → length (map f xs) ≡ length xs
+pub length-map : {A B : Type 0} (f : A → B) (xs : List A) → length (map f xs) ≡ length xs
 length-map f [] = refl
 length-map f (x ∷ xs) = ap suc (length-map f xs)
 

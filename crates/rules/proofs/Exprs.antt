@@ -76,23 +76,21 @@ module _ {s S : List ℕ} (d : Loaded s S) {i : ℕ} (h : Here S grammar.Expr i)
       let p = parts-split (g .0) (rw (g .1, append-nil) refl) in
       rw m (rw (t .here, kind-is e, p .0, span-is 31 _ e refl) refl, p .1)
 
-  abbrev WrapAt : ℕ → Type 0
-  WrapAt k =
-      kindAt S i ≡ k
-      → (exprAt s i ≡ wrap i (spanAt s S i) (getD (Checked ∷ Wrapping ∷ []) (k - 32) Wrapping) (exprAt s (suc i))) × Row S grammar.Expr 1 (suc i)
+  abbrev pub Wrapped : Wrap → Type 0
+  Wrapped w = (exprAt s i ≡ wrap i (spanAt s S i) w (exprAt s (suc i))) × Row S grammar.Expr 1 (suc i)
 
-  pub wrap-at : (k : ℕ) → 32 ≤ k → k < 34 → WrapAt k
+  pub wrap-at : 32 ≤ kindAt S i → (w : Wrap) × Wrapped w
   unfolding exprAt exprOf sorts times
-  wrap-at k a b =
-      pick {P = WrapAt} {i = 32} {n = 2} k
+  wrap-at a =
+      pick {P = λ k. kindAt S i ≡ k → (w : Wrap) × Wrapped w} {i = 32} {n = 2} (kindAt S i)
       ((λ e.
       let p = parts-split 0 (rw (parts (t .line) 32 (t .parted) (kind-is e)) refl) in
-      (rw (t .here, kind-is e, p .0, span-is 32 _ e refl) refl, p .1))
+      (Checked, (rw (t .here, kind-is e, p .0, span-is 32 _ e refl) refl, p .1)))
       also (λ e.
       let p = parts-split 0 (rw (parts (t .line) 33 (t .parted) (kind-is e)) refl) in
-      (rw (t .here, kind-is e, p .0, span-is 33 _ e refl) refl, p .1))
+      (Wrapping, (rw (t .here, kind-is e, p .0, span-is 33 _ e refl) refl, p .1)))
       also stop)
-      a b
+      a (h .kind .1) refl
 
   abbrev LeafAt : ℕ → Type 0
   LeafAt k = kindAt S i ≡ k → exprAt s i ≡ leaf i (spanAt s S i) (leafAt k (nameAt s S i))
@@ -133,8 +131,8 @@ module _ {s S : List ℕ} (d : Loaded s S) {i : ℕ} (h : Here S grammar.Expr i)
           also (λ y. rw (bin-at y .0) c)
           also (λ y. rw (dot-at y .0) e)
           also (λ y. rw (call-at y .0) f)
-          also (λ y. rw (wrap-at 32 (omega arith) (omega arith) y .0) (g 32 Checked (omega arith)))
-          also (λ y. rw (wrap-at 33 (omega arith) (omega arith) y .0) (g 33 Wrapping (omega arith)))
+          also (λ y. let w = wrap-at (omega (arith, y)) in rw (w .1 .0) (g 32 (w .0) (omega arith)))
+          also (λ y. let w = wrap-at (omega (arith, y)) in rw (w .1 .0) (g 33 (w .0) (omega arith)))
           also stop)
           (ltb-false (kindAt S i) 28 q) (h .kind .1) refl
 

@@ -12,4 +12,5 @@ pub mod Placed
 pub mod Ordered
 pub mod Checked
 pub mod Standing
+pub mod Binding
 pub mod Exprs

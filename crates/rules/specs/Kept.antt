@@ -10,11 +10,14 @@ use Rattle.rules.specs.Asking.{Ty, Int, Boolean, Address, Asset, Word64,
 abbrev pub Table : Type 0
 Table = List ℕ
 
+-- the types in the order of their codes
+abbrev pub types : List Ty
+types = Int ∷ Boolean ∷ Address ∷ Asset ∷ Word64 ∷ TName ∷ Time ∷ Str ∷ Collection ∷ Unknown ∷ []
+
 -- the type that a mark tells, if it tells one
 unfoldable pub tyOfMark : ℕ → Option Ty
 tyOfMark zero = none
-tyOfMark (suc n) =
-    getElem? (Int ∷ Boolean ∷ Address ∷ Asset ∷ Word64 ∷ TName ∷ Time ∷ Str ∷ Collection ∷ Unknown ∷ []) n
+tyOfMark (suc n) = getElem? types n
 
 pub record Kept (A : Type 0) : Type 0 where
   pub res : Res A

@@ -1,0 +1,317 @@
+-- What rules that ask nothing answer, test by test. Assumes nothing.
+use mathlib.Core.Logic.{_≢_}
+use mathlib.Core.Path.{_≡_, refl, sym, _∙_}
+use mathlib.Core.List.{List, [], _∷_}
+use mathlib.Core.Bool.{Bool, true, false, not, _||_, _&&_}
+use Prim.Native.Nat.{ℕ, zero, suc, _-_, _<_, _≤_}
+use Prim.Native.String.{String}
+use native.Mathlib.Omega.{arith}
+use lib.Dec.{eqb}
+use lib.ListN.{getD}
+use borrow.Author.Tests.{not-true, not-false}
+use Rattle.rules.specs.Text.{Piece, lit}
+use Rattle.rules.specs.Ast.{UnaryOp, Not as NotOp, Neg as NegOp, unaryOps, Add, Sub, Mul, Div, Rem, Shr, binOps, Expr, span}
+use Rattle.rules.specs.Asking.{Ty, Int, Boolean, Address, Asset, Word64, TName, Time, Str, Collection, Unknown, code, Res, ok, refused, Rule, ret, _>>=_, _>>_, expect}
+use Rattle.rules.specs.Kept.{kept, tyOfMark}
+use Rattle.rules.specs.Declared.{eqTy, isTy, numeric, compatible, isZeroLiteral}
+use Rattle.rules.specs.Standing.{exprAt}
+use Rattle.rules.specs.Typing.{expectNumericOr, expectNumber, judgeUnary, logical, arithmetic, ordering, equality, judgeBinary, judgeKey, isNameParam, notText, negText, logicalText, arithmeticText, orderingText, namesText, comparedText}
+use Rattle.rules.proofs.All.{All}
+use Rattle.rules.proofs.Parts.{stop, _also_, pick}
+use Rattle.declared.specs.Codes.{tyFrom, Tests, Tests2}
+use Rattle.declared.specs.Refusal.{refusalOf, doneOf}
+use Rattle.declared.specs.declared.refusal.Refusal.{Refusal}
+use Rattle.declared.specs.declared.refusal.Refusal.the-variants.{Not, Neg, Logical, Arithmetic, Ordering, Names, Compared, Amount, Straight, ByName, Holds}
+use Rattle.declared.specs.declared.refusal.Done.the-variants.{Fine, Refused as Wrong}
+use Rattle.declared.proofs.Tables.{or-false}
+use Rattle.env.specs.Answers.{typedOf, Answers, Judged, Judged2, JudgedIn, JudgesAmount, JudgesKey}
+use Rattle.env.specs.Force.{IsCode, envOf}
+use Rattle.env.specs.declared.env.Env.{Env}
+use Rattle.env.specs.declared.judge.Typed.{Typed}
+use Rattle.env.specs.declared.judge.Typed.the-variants.{Is, Refused}
+
+-- ------------------------------------------------------------ one test
+
+-- a test before other rules
+pub passes : {A : Type 0} (b : Bool) (n at : ℕ) (ps : List Piece) (q : Rule A) (r : Res A) → b ≡ true → Answers q r → Answers (expect b n at ps >> q) r
+unfolding expect _>>_ _>>=_
+passes b n at ps q r e h = rw e h
+
+pub refuses : {A : Type 0} (b : Bool) (n at : ℕ) (ps : List Piece) (q : Rule A) → b ≡ false
+    → Answers (expect b n at ps >> q) (refused (record { number = n; place = at; text = ps }))
+unfolding expect _>>_ _>>=_ kept
+refuses b n at ps q e = rw e (record { answers = λ T. refl })
+
+-- a test by itself
+pub fits : (b : Bool) (n at : ℕ) (ps : List Piece) → b ≡ true → Answers (expect b n at ps) (ok tt)
+unfolding expect kept
+fits b n at ps e = rw e (record { answers = λ T. refl })
+
+pub misfits : (b : Bool) (n at : ℕ) (ps : List Piece) → b ≡ false → Answers (expect b n at ps) (refused (record { number = n; place = at; text = ps }))
+unfolding expect kept
+misfits b n at ps e = rw e (record { answers = λ T. refl })
+
+pub gives : {A : Type 0} (a : A) → Answers (ret a) (ok a)
+unfolding kept
+gives a = record { answers = λ T. refl }
+
+-- a type's code tells the type
+from-code : (t : Ty) → tyFrom (code t) ≡ t
+unfolding tyFrom tyOfMark code
+from-code Int = refl
+from-code Boolean = refl
+from-code Address = refl
+from-code Asset = refl
+from-code Word64 = refl
+from-code TName = refl
+from-code Time = refl
+from-code Str = refl
+from-code Collection = refl
+from-code Unknown = refl
+
+ty-from : (c : ℕ) (t : Ty) → c ≡ code t → tyFrom c ≡ t
+ty-from c t e = rw e (from-code t)
+
+-- ------------------------------------------------------------ operands
+
+-- A rule that wants f of an operand's type refuses the operand's line by `why`.
+pub record Wants (f : Ty → Bool) (why : ℕ → Refusal) : Type 0 where
+  pub number : ℕ
+  pub text : String
+  pub told : (s : List ℕ) (i : ℕ) → refusalOf s (why i) ≡ record { number = number; place = span (exprAt s i); text = lit text ∷ [] }
+
+abbrev pub want : {f : Ty → Bool} {why : ℕ → Refusal} → Wants f why → Ty → Expr → Rule Unit
+want {f} w t e = expect (f t) (w .number) (span e) (lit (w .text) ∷ [])
+
+module _ {f : Ty → Bool} {why : ℕ → Refusal} (w : Wants f why) (b : Bool) (c : ℕ) (h : Tests f c b) (s : List ℕ) (t : Ty) (k : c ≡ code t) (i : ℕ) (q : Rule Ty) where
+  operand-fine : (r : Res Ty) → b ≡ true → Answers q r → Answers (want w t (exprAt s i) >> q) r
+  operand-fine r e a = passes (f t) (w .number) (span (exprAt s i)) (lit (w .text) ∷ []) q r (sym (h .tests t k) ∙ e) a
+
+  operand-wrong : b ≡ false → Answers (want w t (exprAt s i) >> q) (typedOf s (Refused (why i)))
+  unfolding typedOf
+  operand-wrong e = rw (w .told s i) (refuses (f t) (w .number) (span (exprAt s i)) (lit (w .text) ∷ []) q (sym (h .tests t k) ∙ e))
+
+-- the rule of a unary operator, whose answer has the code n
+pub record Unary (op : UnaryOp) (f : Ty → Bool) (why : ℕ → Refusal) (n : ℕ) : Type 1 where
+  pub wants : Wants f why
+  pub is : (a : Expr) (t : Ty) → judgeUnary op a t ≡ (want wants t a >> ret (tyFrom n))
+  pub code : IsCode n
+
+-- ... and of a binary one
+pub record Binary (rule : (left right : Expr) (l r : Ty) → Rule Ty) (f : Ty → Bool) (why : ℕ → Refusal) (n : ℕ) : Type 1 where
+  pub wants : Wants f why
+  pub is : (a b : Expr) (l r : Ty) → rule a b l r ≡ (want wants l a >> (want wants r b >> ret (tyFrom n)))
+  pub code : IsCode n
+
+module _ {op : UnaryOp} {f : Ty → Bool} {why : ℕ → Refusal} {n : ℕ} (u : Unary op f why n) (o i c : ℕ) (b : Bool) (q : getD unaryOps o NegOp ≡ op) (h : Tests f c b) where
+  pub unary-fine : b ≡ true → Judged (λ s. judgeUnary (getD unaryOps o NegOp) (exprAt s i)) c (Is n)
+  unfolding typedOf
+  unary-fine e =
+      record {
+        judged = λ s t k. rw (q, u .is (exprAt s i) t) (operand-fine (u .wants) b c h s t k i (ret (tyFrom n)) _ e (gives (tyFrom n)));
+        valid = u .code;
+      }
+
+  pub unary-wrong : b ≡ false → Judged (λ s. judgeUnary (getD unaryOps o NegOp) (exprAt s i)) c (Refused (why i))
+  unary-wrong e =
+      record { judged = λ s t k. rw (q, u .is (exprAt s i) t) (operand-wrong (u .wants) b c h s t k i (ret (tyFrom n)) e); valid = tt }
+
+module _ {rule : (left right : Expr) (l r : Ty) → Rule Ty} {f : Ty → Bool} {why : ℕ → Refusal} {n : ℕ} (o : Binary rule f why n)
+    (i j c d : ℕ) (b : Bool) (h : Tests f c b) where
+  pub left-wrong : not b ≡ true → Judged2 (λ s. rule (exprAt s i) (exprAt s j)) c d (Refused (why i))
+  left-wrong e =
+      record { judged = λ s t u k l. rw (o .is (exprAt s i) (exprAt s j) t u) (operand-wrong (o .wants) b c h s t k i _ (not-true b e)); valid = tt }
+
+  module _ (x : Bool) (y : Tests f d x) (e : not b ≡ false) where
+    pub right-wrong : not x ≡ true → Judged2 (λ s. rule (exprAt s i) (exprAt s j)) c d (Refused (why j))
+    right-wrong z =
+        record {
+          judged = λ s t u k l.
+              rw (o .is (exprAt s i) (exprAt s j) t u)
+              (operand-fine (o .wants) b c h s t k i _ _ (not-false b e) (operand-wrong (o .wants) x d y s u l j _ (not-true x z)));
+          valid = tt;
+        }
+
+    pub both-fine : not x ≡ false → Judged2 (λ s. rule (exprAt s i) (exprAt s j)) c d (Is n)
+    unfolding typedOf
+    both-fine z =
+        record {
+          judged = λ s t u k l.
+              rw (o .is (exprAt s i) (exprAt s j) t u)
+              (operand-fine (o .wants) b c h s t k i _ _ (not-false b e)
+              (operand-fine (o .wants) x d y s u l j _ _ (not-false x z) (gives (tyFrom n))));
+          valid = o .code;
+        }
+
+-- ------------------------------------------------------------ operators
+
+-- `ty == want || ty == Ty::Unknown`
+abbrev pub OrUnknown : Ty → Ty → Bool
+OrUnknown u t = eqTy t u || eqTy t Unknown
+
+pub or-unknown : (u : Ty) (c n : ℕ) → n ≡ code u → Tests (OrUnknown u) c (eqb c n || eqb c 10)
+unfolding eqTy code
+or-unknown u c n q = record { tests = λ t e. rw (e, q) refl }
+
+pub logical-is : Binary logical (OrUnknown Boolean) Logical 2
+unfolding logical expectNumericOr refusalOf tyFrom tyOfMark
+logical-is =
+    record { wants = record { number = 38; text = logicalText; told = λ s i. refl }; is = λ a b l r. refl; code = (omega arith, omega arith) }
+
+pub arithmetic-is : Binary arithmetic numeric Arithmetic 1
+unfolding arithmetic expectNumber refusalOf tyFrom tyOfMark
+arithmetic-is =
+    record { wants = record { number = 39; text = arithmeticText; told = λ s i. refl }; is = λ a b l r. refl; code = (omega arith, omega arith) }
+
+pub ordering-is : Binary ordering numeric Ordering 2
+unfolding ordering expectNumber refusalOf tyFrom tyOfMark
+ordering-is =
+    record { wants = record { number = 40; text = orderingText; told = λ s i. refl }; is = λ a b l r. refl; code = (omega arith, omega arith) }
+
+pub not-is : Unary NotOp (OrUnknown Boolean) Not 2
+unfolding judgeUnary expectNumericOr refusalOf tyFrom tyOfMark
+not-is =
+    record { wants = record { number = 36; text = notText; told = λ s i. refl }; is = λ a t. refl; code = (omega arith, omega arith) }
+
+pub neg-is : Unary NegOp (OrUnknown Int) Neg 1
+unfolding judgeUnary expectNumericOr refusalOf tyFrom tyOfMark
+neg-is =
+    record { wants = record { number = 37; text = negText; told = λ s i. refl }; is = λ a t. refl; code = (omega arith, omega arith) }
+
+pub not-op : (o : ℕ) → o ≡ 0 → getD unaryOps o NegOp ≡ NotOp
+not-op o e = rw e refl
+
+pub neg-op : (o : ℕ) → o ≢ 0 → getD unaryOps o NegOp ≡ NegOp
+neg-op zero h = absurd (h refl)
+neg-op (suc zero) h = refl
+neg-op (suc (suc o)) h = refl
+
+-- ------------------------------------------------------------ equality
+
+module _ (s : List ℕ) (i j c d : ℕ) where
+  pub names-wrong : (eqb c 6 || eqb d 6) ≡ true → JudgedIn s (equality (exprAt s i) (exprAt s j)) c d (Refused (Names i))
+  unfolding equality typedOf refusalOf eqTy code
+  names-wrong e =
+      record { judged = λ t u k l. refuses (not (eqTy t TName || eqTy u TName)) 41 (span (exprAt s i)) namesText _ (rw (← k, ← l, e) refl); valid = tt }
+
+  module _ (b x y : Bool) (n : (eqb c 6 || eqb d 6) ≡ false) (h : Tests2 compatible c d b)
+      (p : x ≡ (eqb c 3 && isZeroLiteral (exprAt s j))) (q : y ≡ (eqb d 3 && isZeroLiteral (exprAt s i))) where
+    comparable : (t u : Ty) → c ≡ code t → d ≡ code u
+        → (compatible t u || (eqTy t Address && isZeroLiteral (exprAt s j)) || (eqTy u Address && isZeroLiteral (exprAt s i))) ≡ (b || x || y)
+    unfolding eqTy code
+    comparable t u k l = rw (h .tests t u k l, p, q, k, l) refl
+
+    pub compared-fine : (b || x || y) ≡ true → JudgedIn s (equality (exprAt s i) (exprAt s j)) c d (Is 2)
+    unfolding equality typedOf tyFrom tyOfMark eqTy code
+    compared-fine e =
+        record {
+          judged = λ t u k l.
+              passes (not (eqTy t TName || eqTy u TName)) 41 (span (exprAt s i)) namesText _ _ (rw (← k, ← l, n) refl)
+              (passes _ 42 (span (exprAt s j)) (comparedText t u) _ _ (comparable t u k l ∙ e) (gives Boolean));
+          valid = (omega arith, omega arith);
+        }
+
+    pub compared-wrong : (b || x || y) ≡ false → JudgedIn s (equality (exprAt s i) (exprAt s j)) c d (Refused (Compared j c d))
+    unfolding equality typedOf refusalOf eqTy code
+    compared-wrong e =
+        record {
+          judged = λ t u k l.
+              passes (not (eqTy t TName || eqTy u TName)) 41 (span (exprAt s i)) namesText _ _ (rw (← k, ← l, n) refl)
+              (rw (ty-from c t k, ty-from d u l) (refuses _ 42 (span (exprAt s j)) (comparedText t u) _ (comparable t u k l ∙ e)));
+          valid = tt;
+        }
+
+-- ------------------------------------------------------------ binary operators
+
+-- what is judged on every sheet is judged on this one
+pub in-sheet : {f : List ℕ → Ty → Ty → Rule Ty} {c d : ℕ} {r : Typed} (s : List ℕ) → Judged2 f c d r → JudgedIn s (f s) c d r
+in-sheet s h = record { judged = h .judged s; valid = h .valid }
+
+all-get : {A : Type 0} (P : A → Type 0) (xs : List A) (a : A) → All P xs → P a → (k : ℕ) → P (getD xs k a)
+all-get P [] a h p k = p
+all-get P (x ∷ xs) a h p zero = h .0
+all-get P (x ∷ xs) a h p (suc k) = all-get P xs a (h .1) p k
+
+module _ (s : List ℕ) (a b : Expr) (c d : ℕ) (r : Typed) (o : ℕ) where
+  abbrev ByOp : ℕ → Type 0
+  ByOp k = JudgedIn s (judgeBinary (getD binOps k Shr) a b) c d r
+
+  pub logical-op : o < 2 → JudgedIn s (logical a b) c d r → ByOp o
+  unfolding judgeBinary
+  logical-op e h = pick {P = ByOp} {i = 0} {n = 2} o (h also h also stop) (omega arith) e
+
+  pub equality-op : 2 ≤ o → o < 4 → JudgedIn s (equality a b) c d r → ByOp o
+  unfolding judgeBinary
+  equality-op k e h = pick {P = ByOp} {i = 2} {n = 2} o (h also h also stop) k e
+
+  pub ordering-op : 4 ≤ o → o < 8 → JudgedIn s (ordering a b) c d r → ByOp o
+  unfolding judgeBinary
+  ordering-op k e h = pick {P = ByOp} {i = 4} {n = 4} o (h also h also h also h also stop) k e
+
+  pub arithmetic-op : 8 ≤ o → JudgedIn s (arithmetic a b) c d r → ByOp o
+  unfolding judgeBinary
+  arithmetic-op k h =
+      rw (let q : o ≡ suc (suc (suc (suc (suc (suc (suc (suc (o - 8)))))))) = omega arith in q)
+      (all-get (λ p. JudgedIn s (judgeBinary p a b) c d r) (Add ∷ Sub ∷ Mul ∷ Div ∷ Rem ∷ Shr ∷ []) Shr (h, (h, (h, (h, (h, (h, tt)))))) h (o - 8))
+
+-- ------------------------------------------------------------ keyed calls
+
+module _ (callee arg c : ℕ) where
+  pub amount-fine : (eqb c 1 || (eqb c 4 || eqb c 10)) ≡ true → JudgesAmount callee arg c Fine
+  unfolding isTy eqTy code doneOf
+  amount-fine e = record { judged = λ s t k. fits _ 32 _ _ (rw (← k, or-false) e) }
+
+  pub amount-wrong : (eqb c 1 || (eqb c 4 || eqb c 10)) ≡ false → JudgesAmount callee arg c (Wrong (Amount callee arg))
+  unfolding isTy eqTy code doneOf refusalOf
+  amount-wrong e = record { judged = λ s t k. misfits _ 32 _ _ (rw (← k, or-false) e) }
+
+-- a implies b
+implies : (a b : Bool) → (not a || b) ≡ not (a && not b)
+implies true true = refl
+implies true false = refl
+implies false b = refl
+
+module _ (s : List ℕ) (env : Env) (field : ℕ) (key : Bool) (arg c d : ℕ) (b : Bool) (p : b ≡ isNameParam (envOf s [] env) (exprAt s arg)) where
+  is-straight : (got : Ty) → d ≡ code got → (not (eqTy got TName) || isNameParam (envOf s [] env) (exprAt s arg)) ≡ not (eqb d 6 && not b)
+  unfolding eqTy code
+  is-straight got l = rw (← l, ← p) (implies (eqb d 6) b)
+
+  pub straight-wrong : (eqb d 6 && not b) ≡ true → JudgesKey s env field key arg c d (Wrong (Straight field arg))
+  unfolding judgeKey doneOf refusalOf
+  straight-wrong e = record { judged = λ want got k l. refuses _ 33 _ _ _ (is-straight got l ∙ rw e refl) }
+
+  module _ (n : (eqb d 6 && not b) ≡ false) where
+    is-named : (want got : Ty) → c ≡ code want → d ≡ code got → (not (eqTy want TName) || eqTy got TName) ≡ not (eqb c 6 && not (eqb d 6))
+    unfolding eqTy code
+    is-named want got k l = rw (← k, ← l) (implies (eqb c 6) (eqb d 6))
+
+    pub name-wrong : (eqb c 6 && not (eqb d 6)) ≡ true → JudgesKey s env field key arg c d (Wrong (ByName field arg))
+    unfolding judgeKey doneOf refusalOf
+    name-wrong e =
+        record {
+          judged = λ want got k l. passes _ 33 _ _ _ _ (is-straight got l ∙ rw n refl) (refuses _ 34 _ _ _ (is-named want got k l ∙ rw e refl));
+        }
+
+    module _ (x : Bool) (m : (eqb c 6 && not (eqb d 6)) ≡ false) (h : Tests2 compatible c d x) where
+      holds : (want got : Ty) → c ≡ code want → d ≡ code got → ((key && eqTy got TName) || compatible want got) ≡ ((key && eqb d 6) || x)
+      unfolding eqTy code
+      holds want got k l = rw (h .tests want got k l, l) refl
+
+      pub key-fine : ((key && eqb d 6) || x) ≡ true → JudgesKey s env field key arg c d Fine
+      unfolding judgeKey doneOf
+      key-fine e =
+          record {
+            judged = λ want got k l.
+                passes _ 33 _ _ _ _ (is-straight got l ∙ rw n refl)
+                (passes _ 34 _ _ _ _ (is-named want got k l ∙ rw m refl) (fits _ 35 _ _ (holds want got k l ∙ e)));
+          }
+
+      pub key-wrong : ((key && eqb d 6) || x) ≡ false → JudgesKey s env field key arg c d (Wrong (Holds field arg c d))
+      unfolding judgeKey doneOf refusalOf
+      key-wrong e =
+          record {
+            judged = λ want got k l.
+                passes _ 33 _ _ _ _ (is-straight got l ∙ rw n refl)
+                (passes _ 34 _ _ _ _ (is-named want got k l ∙ rw m refl)
+                (rw (ty-from c want k, ty-from d got l) (misfits _ 35 _ _ (holds want got k l ∙ e))));
+          }

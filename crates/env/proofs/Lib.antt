@@ -1,0 +1,4 @@
+pub mod Judging
+pub mod Lookups
+pub mod Mentioned
+pub mod Methods

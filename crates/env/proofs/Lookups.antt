@@ -1,0 +1,296 @@
+-- Lookups by name among the lines that an `Env` tells. Assumes nothing.
+use mathlib.Core.Logic.{_≢_}
+use mathlib.Core.Path.{_≡_, refl, sym, ap, _∙_}
+use mathlib.Core.List.{List, [], _∷_, _++_, map, map-map}
+use mathlib.Core.Bool.{Bool, true, false, _||_}
+use mathlib.Core.Option.{Option, none, some, Option·map}
+use Prim.Native.String.{String}
+use Prim.Native.Nat.{ℕ, suc, _+_, _/_, _<_, _≤_}
+use native.Mathlib.Numerals.{add-one}
+use native.Mathlib.Omega.{arith}
+use mir.Syntax.{w64}
+use mir.Val.{Fits}
+use lib.Dec.{eqb}
+use lib.ListN.{length, getD}
+use borrow.Author.Tests.{eq-eqb, ne-eqb, eqb-false}
+use Rattle.text.specs.Text.{bytes, same}
+use Rattle.sheet.specs.Grammar as grammar
+use Rattle.sheet.specs.Load.{sorts, times}
+use Rattle.sheet.specs.Scratch.{kindAt, nameAt, endAt}
+use Rattle.sheet.specs.Tree.{Node, node}
+use Rattle.rules.specs.Text.{Name, is, isOne, lastNamed, get}
+use Rattle.rules.specs.Ast.{nodes, paramOf, fieldOf, typeName}
+use Rattle.rules.specs.Asking.{Ty, TName, code}
+use Rattle.rules.specs.Kept.{Table}
+use Rattle.rules.specs.Declared.{tyOfDecl, eqTy}
+use Rattle.rules.specs.Check.{paramTypes}
+use Rattle.rules.specs.Typing as typing
+use Rattle.rules.specs.Typing.{identOf, tyOfIdent, isNameParam, keyedField, isPool}
+use Rattle.rules.specs.Standing.{nodeAt, nodesAt, exprAt, typeAt, fieldAt, paramAt, Loaded}
+use Rattle.rules.proofs.AnyTable.{tells}
+use Rattle.rules.proofs.Keeps.{code-marks}
+use Rattle.rules.proofs.Exprs.{ident-at}
+use Rattle.rules.proofs.Parts.{stop, _also_, pick, parts}
+use Rattle.rules.proofs.Standing.{Stands, stands, nodes-next, parts-behind, row-behind, row-first}
+use Rattle.declared.specs.Codes.{tyFrom}
+use Rattle.declared.specs.Found.{nodeName, ofKind, foundNode, foundField, Of, Last, FieldNamed}
+use Rattle.declared.specs.Lines.{Typed}
+use Rattle.declared.specs.declared.model.Found.{Found}
+use Rattle.declared.specs.declared.model.Found.the-variants.{At, Nothing}
+use Rattle.declared.proofs.Fields.{last-map, all-kind}
+use Rattle.declared.proofs.Types.{type-name}
+use Rattle.env.specs.Force.{paramsIn, localOf, lets, envOf, markOf, InForce, ExprIn, Ready, LetTyped, LetsTyped, no-let, a-let, fieldTy, FieldFound, KeyedFound}
+use Rattle.env.specs.declared.env.Env.{Env}
+
+-- ------------------------------------------------------------ the type of a field or parameter
+
+-- the line behind line i is its type
+pub record TypeBehind (s S : List ℕ) (i : ℕ) : Type 0 where
+  pub typed : Typed s S (suc i)
+  pub param : paramAt s i .ty ≡ typeAt s (suc i)
+  pub field : fieldAt s i .ty ≡ typeAt s (suc i)
+
+first-type : {s S : List ℕ} {i : ℕ} (d : Loaded s S) (rs : List grammar.Sort) (t : Stands s S i) → sorts (t .line .parts) ≡ times 1 grammar.Ty ++ rs → TypeBehind s S i
+unfolding times paramAt fieldAt paramOf fieldOf typeAt nodesAt
+first-type {s} {S} {i} d rs t e =
+    let here = row-first (row-behind 1 rs t e) in
+    let ps : nodes (t .parts) ≡ nodeAt s (suc i) ∷ nodesAt s (length rs) (endAt S (suc i)) =
+    ap nodes (parts-behind t ∙ rw e refl) ∙ nodes-next d (length rs) (suc i) (here .within) in
+    record { typed = record { loaded = d; here = here }; param = rw (t .here, ps) refl; field = rw (t .here, ps) refl }
+
+type-behind : (s S : List ℕ) (i k : ℕ) → Loaded s S → i < length S / 8 → kindAt S i ≡ k → 6 ≤ k → k < 8 → TypeBehind s S i
+unfolding sorts times
+type-behind s S i k d h e a b =
+    let t = stands d i h in
+    pick {P = λ k. t .line .kind ≡ k → TypeBehind s S i} {i = 6} {n = 2} k
+    ((λ q. let g = parts (t .line) 6 (t .parted) q in first-type d (times (g .0) grammar.Expr ++ []) t (rw (g .1) refl))
+    also (λ q. let g = parts (t .line) 7 (t .parted) q in first-type d [] t (rw g refl))
+    also stop)
+    a b (sym (t .says .kind) ∙ e)
+
+-- a field or parameter that was found
+module _ (k : ℕ) (s S : List ℕ) (d : Loaded s S) (r : Found) (i : ℕ) (e : r ≡ At i) (o : Of S k r) (a : 6 ≤ k) (b : k < 8) where
+  pub behind : TypeBehind s S i
+  behind = let q : Of S k (At i) = rw e at o in type-behind s S i k d (q .0) (q .1) a b
+
+  pub found-typed : Typed s S (i + 1)
+  found-typed = rw (add-one i) (behind .typed)
+
+  pub found-next : length S < 18446744073709551616 → Fits w64 (i + 1)
+  found-next h = record { fits = omega (arith, behind .typed .here .within) }
+
+-- ------------------------------------------------------------ what a map has
+
+get-map : {A B : Type 0} (g : A → Name × B) (f : A → Name) (x : Name) → ((a : A) → g a .0 ≡ f a) → (as' : List A)
+    → get x (map g as') ≡ Option·map (λ a. g a .1) (lastNamed f x as')
+unfolding get
+get-map {A} {B} g f x e as' = rw (get, last-map g (λ p. p .0) f x e as') (go (lastNamed f x as'))
+  where
+    go : (o : Option A) → elim (Option·map g o) as (λ _. Option B) [ none ↦ none | some p ↦ some (p .1) ] ≡ Option·map (λ a. g a .1) o
+    go none = refl
+    go (some a) = refl
+
+-- ------------------------------------------------------------ parameters
+
+abbrev paramTy : Node → Name × Ty
+paramTy t = (paramOf t .name, tyOfDecl (paramOf t .ty))
+
+param-name : (t : Node) → paramOf t .name ≡ nodeName t
+unfolding paramOf nodeName
+param-name (node i l ps) = refl
+
+params-list : (s : List ℕ) (env : Env) → paramsIn s env ≡ map paramTy (nodesAt s (env .count) (env .params))
+unfolding paramsIn paramTypes
+params-list s env = map-map (λ p. (p .name, tyOfDecl (p .ty))) paramOf (nodesAt s (env .count) (env .params))
+
+module _ (s S : List ℕ) (env : Env) (x : Name) (h : InForce s S env) (r : Found) (l : Last s S 7 x (env .count) (env .params) r) where
+  param-got : get x (paramsIn s env) ≡ Option·map (λ t. paramTy t .1) (foundNode s r)
+  param-got =
+      let ns = nodesAt s (env .count) (env .params) in
+      let all : ofKind 7 ns ≡ ns = all-kind 7 (λ i a. omega (arith, a .kind .0, a .kind .1)) (h .loaded) (h .params) in
+      ap (get x) (params-list s env) ∙ get-map paramTy nodeName x param-name ns ∙ rw (l .found, all) refl
+
+  pub param-there : (i v : ℕ) → r ≡ At i → v ≡ code (tyOfDecl (typeAt s (i + 1))) → v ≡ markOf (get x (paramsIn s env))
+  unfolding foundNode markOf paramAt
+  param-there i v e q =
+      let t = behind 7 s S (h .loaded) r i e (l .kind) (omega arith) (omega arith) in
+      q ∙ rw (param-got, e, t .param, add-one i) refl
+
+  pub no-param : r ≡ Nothing → 0 ≡ markOf (get x (paramsIn s env))
+  unfolding foundNode markOf
+  no-param e = rw (param-got, e) refl
+
+marked : (o : Option Ty) → markOf o ≢ 0 → (t : Ty) × (o ≡ some t)
+unfolding markOf
+marked none h = absurd (h refl)
+marked (some t) h = (t, refl)
+
+unmarked : (o : Option Ty) → markOf o ≡ 0 → o ≡ none
+unfolding markOf
+unmarked none e = refl
+unmarked (some t) e = absurd (eqb-false (code t) 0 (code-marks t .0) e)
+
+-- ------------------------------------------------------------ state fields
+
+module _ (s S : List ℕ) (x : Name) (d : Loaded s S) (r : Found) (n : FieldNamed s S x r) where
+  pub field-there : (i v : ℕ) → r ≡ At i → v ≡ code (tyOfDecl (typeAt s (i + 1))) → v ≡ code (fieldTy s x)
+  unfolding foundField fieldTy
+  field-there i v e q =
+      let t = behind 6 s S d r i e (n .kind) (omega arith) (omega arith) in
+      q ∙ rw (fieldTy, ← n .found, e, t .field, add-one i) refl
+
+  module _ (b : Bool) (e : r ≡ Nothing) (w : b ≡ same x (bytes "deployer")) where
+    pub deployer : b ≡ true → 3 ≡ code (fieldTy s x)
+    unfolding foundField fieldTy is code
+    deployer q = rw (fieldTy, ← n .found, e, ← w, q) refl
+
+    pub no-field : b ≡ false → 10 ≡ code (fieldTy s x)
+    unfolding foundField fieldTy is code
+    no-field q = rw (fieldTy, ← n .found, e, ← w, q) refl
+
+-- ------------------------------------------------------------ locals
+
+-- the last of a name is one of the list
+last-let : {T : Table} {ts : List Node} (x : Name) (t : Node) → LetsTyped T ts → lastNamed nodeName x ts ≡ some t → LetTyped T t
+unfolding lastNamed
+last-let x t no-let e = absurd (let z : _≡_ {A = ℕ} 0 1 = cc in omega arith)
+last-let {T} x t (a-let {t = u} {ts = ts} h hs) e = go (lastNamed nodeName x ts) (same x (nodeName u)) (last-let x t hs) e
+  where
+    go : (o : Option Node) (b : Bool) → (o ≡ some t → LetTyped T t)
+        → elim o as (λ _. Option Node) [ some y ↦ some y | none ↦ elim b as (λ _. Option Node) [ true ↦ some u | false ↦ none ] ] ≡ some t → LetTyped T t
+    go (some y) b f q = f q
+    go none true f q = rw (← let z : u ≡ t = cc in z) h
+    go none false f q = absurd (let z : _≡_ {A = ℕ} 0 1 = cc in omega arith)
+
+local-name : (T : Table) (t : Node) → localOf T t .0 ≡ nodeName t
+unfolding localOf nodeName
+local-name T (node i l ps) = refl
+
+from-code : (c : ℕ) → 1 ≤ c → c ≤ 10 → c ≡ code (tyFrom c)
+unfolding tyFrom
+from-code c a b = let q = tells c a b in rw (tyFrom, q .1) (sym (q .2))
+
+module _ (s S : List ℕ) (env : Env) (T : Table) (x : Name) (h : Ready s S env T) (ty : ℕ) (p : ty ≡ markOf (get x (paramsIn s env))) where
+  pub by-param : ty ≢ 0 → ty ≡ code (tyOfIdent (envOf s T env) x)
+  unfolding tyOfIdent envOf markOf
+  by-param n = let q = marked (get x (paramsIn s env)) (rw (← p) n) in p ∙ rw (tyOfIdent, q .1) refl
+
+  module _ (z : ty ≡ 0) (r : Found) (l : Last s S 16 x (env .bound) (env .body) r) where
+    no-such : get x (paramsIn s env) ≡ none
+    no-such = unmarked (get x (paramsIn s env)) (sym p ∙ z)
+
+    local-got : get x (map (localOf T) (lets s (env .bound) (env .body))) ≡ Option·map (λ t. localOf T t .1) (foundNode s r)
+    unfolding lets
+    local-got = get-map (localOf T) nodeName x (local-name T) (lets s (env .bound) (env .body)) ∙ rw (l .found) refl
+
+    module _ (i : ℕ) (e : r ≡ At i) where
+      let-at : (i < length S / 8) × (kindAt S i ≡ 16)
+      let-at = let q : Of S 16 (At i) = rw e at (l .kind) in q
+
+      let-line : Stands s S i
+      let-line = stands (h .force .loaded) i (let-at .0)
+
+      pub value-within : i + 1 < length T
+      unfolding sorts times
+      value-within =
+          let g = parts (let-line .line) 16 (let-line .parted) (sym (let-line .says .kind) ∙ let-at .1) in
+          let q = row-first (row-behind {σ = grammar.Expr} 1 [] let-line (rw g refl)) in
+          omega (arith, q .within, h .room)
+
+      pub value-next : length T < 18446744073709551616 → Fits w64 (i + 1)
+      value-next f = record { fits = omega (arith, value-within) }
+
+      pub by-local : (v : ℕ) → v ≡ getD T (i + 1) 0 → v ≡ code (tyOfIdent (envOf s T env) x)
+      unfolding tyOfIdent envOf foundNode lets localOf
+      by-local v f =
+          let q : LetTyped T (nodeAt s i) = last-let x (nodeAt s i) (h .typed) (sym (l .found) ∙ rw e refl) in
+          let c : (1 ≤ getD T (suc i) 0) × (getD T (suc i) 0 ≤ 10) = rw (let-line .here) at q in
+          let g : get x (map (localOf T) (lets s (env .bound) (env .body))) ≡ some (tyFrom (getD T (suc i) 0)) = local-got ∙ rw (e, let-line .here) refl in
+          f ∙ rw (add-one i, tyOfIdent, no-such, g) (from-code (getD T (suc i) 0) (c .0) (c .1))
+
+    pub by-field : (v : ℕ) → r ≡ Nothing → v ≡ code (fieldTy s x) → v ≡ code (tyOfIdent (envOf s T env) x)
+    unfolding tyOfIdent envOf foundNode fieldTy
+    by-field v e f =
+        let g : get x (map (localOf T) (lets s (env .bound) (env .body))) ≡ none = local-got ∙ rw e refl in
+        f ∙ rw (tyOfIdent, no-such, g) refl
+
+-- ------------------------------------------------------------ bare names
+
+module _ (s S : List ℕ) (env : Env) (i : ℕ) (h : ExprIn s S env i) (k : ℕ) (e : k ≡ kindAt S i) where
+  no-ident : k ≢ 21 → identOf (exprAt s i) ≡ none
+  no-ident n = ident-at (h .force .loaded) (h .here) ∙ rw (← e, ne-eqb k 21 n) refl
+
+  pub no-name : k ≢ 21 → false ≡ isNameParam (envOf s [] env) (exprAt s i)
+  unfolding isNameParam
+  no-name n = rw (isNameParam, no-ident n) refl
+
+  pub no-state : k ≢ 21 → FieldFound s S env i Nothing
+  unfolding typing.fieldOf foundField
+  no-state n = record { found = rw (typing.fieldOf, no-ident n) refl; kind = tt }
+
+  module _ (q : k ≡ 21) (x : Name) (n : x ≡ nameAt s S i) (ty : ℕ) (p : ty ≡ markOf (get x (paramsIn s env))) where
+    the-ident : identOf (exprAt s i) ≡ some x
+    the-ident = ident-at (h .force .loaded) (h .here) ∙ rw (← e, eq-eqb k 21 q, n) refl
+
+    pub name-param : eqb ty 6 ≡ isNameParam (envOf s [] env) (exprAt s i)
+    unfolding isNameParam envOf markOf eqTy code
+    name-param = rw (isNameParam, the-ident, p) (go (get x (paramsIn s env)))
+      where
+        go : (o : Option Ty) → eqb (markOf o) 6 ≡ elim o [ none ↦ false | some t ↦ eqTy t TName ]
+        go none = refl
+        go (some t) = refl
+
+    pub hidden : ty ≢ 0 → FieldFound s S env i Nothing
+    unfolding typing.fieldOf envOf foundField
+    hidden z =
+        let o = marked (get x (paramsIn s env)) (rw (← p) z) in
+        record { found = rw (typing.fieldOf, the-ident, o .1) refl; kind = tt }
+
+    pub field-found : (r : Found) → ty ≡ 0 → FieldNamed s S x r → FieldFound s S env i r
+    unfolding typing.fieldOf envOf
+    field-found r z f =
+        record { found = f .found ∙ rw (typing.fieldOf, the-ident, unmarked (get x (paramsIn s env)) (sym p ∙ z)) refl; kind = f .kind }
+
+-- ------------------------------------------------------------ fields by their type
+
+-- one of two words
+pub either-word : (x : Name) (v w : String) → isOne x (v ∷ w ∷ []) ≡ (is x v || is x w)
+unfolding isOne
+either-word x v w = go (is x v) (is x w)
+  where
+    go : (a b : Bool) → elim a as (λ _. Bool) [ true ↦ true | false ↦ elim b as (λ _. Bool) [ true ↦ true | false ↦ false ] ] ≡ (a || b)
+    go true b = refl
+    go false true = refl
+    go false false = refl
+
+module _ (s S : List ℕ) (env : Env) (i : ℕ) (h : ExprIn s S env i) (r : Found) (f : FieldFound s S env i r) where
+  pub nothing-keyed : r ≡ Nothing → KeyedFound s S env i Nothing
+  unfolding keyedField foundField
+  nothing-keyed e = record { found = rw (keyedField, ← f .found, e) refl; kind = tt }
+
+  pub no-pool : r ≡ Nothing → false ≡ isPool (envOf s [] env) (exprAt s i)
+  unfolding isPool foundField
+  no-pool e = rw (isPool, ← f .found, e) refl
+
+  module _ (j : ℕ) (e : r ≡ At j) (y : Name) (n : y ≡ nameAt s S (j + 1)) where
+    the-type : typeName (fieldAt s j .ty) ≡ y
+    the-type =
+        let t = behind 6 s S (h .force .loaded) r j e (f .kind) (omega arith) (omega arith) in
+        rw (t .field, n, add-one j) (sym (type-name s S (suc j) (t .typed)))
+
+    pub pool : (b : Bool) → b ≡ same y (bytes "Q_Asset") → b ≡ isPool (envOf s [] env) (exprAt s i)
+    unfolding isPool foundField is
+    pool b w = w ∙ rw (isPool, ← f .found, e, the-type) refl
+
+    module _ (b c : Bool) (v : b ≡ same y (bytes "Map")) (w : c ≡ same y (bytes "Registry")) where
+      which : isOne (typeName (fieldAt s j .ty)) ("Map" ∷ "Registry" ∷ []) ≡ (b || c)
+      unfolding is
+      which = rw (the-type, either-word y "Map" "Registry", v, w) refl
+
+      pub keyed : (b || c) ≡ true → KeyedFound s S env i (At j)
+      unfolding keyedField foundField
+      keyed q = record { found = rw (keyedField, ← f .found, e, which, q) refl; kind = rw e at (f .kind) }
+
+      pub unkeyed : (b || c) ≡ false → KeyedFound s S env i Nothing
+      unfolding keyedField foundField
+      unkeyed q = record { found = rw (keyedField, ← f .found, e, which, q) refl; kind = tt }

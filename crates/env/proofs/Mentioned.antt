@@ -1,0 +1,229 @@
+-- The names of `let`s that an expression mentions, line by line. Assumes nothing.
+use mathlib.Core.Logic.{_≢_}
+use mathlib.Core.Path.{_≡_, refl, sym, ap, _∙_}
+use mathlib.Core.List.{List, [], _∷_, map, append-nil}
+use mathlib.Core.Bool.{Bool, true, false, _||_, _&&_}
+use mathlib.Core.Option.{Option, none, some}
+use Prim.Native.Nat.{ℕ, zero, suc, _+_, _-_, _/_, _<_, _≤_}
+use native.Mathlib.Omega.{arith}
+use lib.Dec.{eqb}
+use lib.ListN.{length}
+use borrow.Author.Tests.{eq-eqb, ne-eqb}
+use Rattle.text.specs.Text.{same}
+use Rattle.sheet.specs.Grammar as grammar
+use Rattle.sheet.specs.Line.{Line}
+use Rattle.sheet.specs.Load.{sorts, times}
+use Rattle.sheet.specs.Scratch.{kindAt, nameAt, endAt}
+use Rattle.sheet.specs.Tree.{Node, node, Nodes, nil, more, takeNodes}
+use Rattle.sheet.specs.Held.{Held, held, HeldAll, no-tree, tree, Among, Parted, Formed, formed, FormedAll, none-due, one-due}
+use Rattle.sheet.proofs.Holds.{all-le}
+use Rattle.rules.specs.Text.{Name, among, lastNamed}
+use Rattle.rules.specs.Ast.{exprOf, exprsOf, nodes}
+use Rattle.rules.specs.Typing.{identLeaf, isSome, leafHas, has, hasAny, stale}
+use Rattle.rules.specs.Standing.{before, treesFrom, nodeAt, nodesAt, exprAt, Loaded, Here}
+use Rattle.rules.proofs.Parts.{stop, _also_, pick, parts}
+use Rattle.rules.proofs.Standing.{stands}
+use Rattle.declared.specs.Found.{nodeName, ofKind, foundNode, Stretch, Last}
+use Rattle.declared.specs.declared.model.Found.{Found}
+use Rattle.declared.specs.declared.model.Found.the-variants.{At, Nothing}
+use Rattle.declared.proofs.Tables.{or-false}
+use Rattle.env.specs.Force.{lets, laterNames, InForce, ExprIn}
+use Rattle.env.specs.declared.env.Env.{Env}
+
+-- ------------------------------------------------------------ one line
+
+-- line i is an `id` with one of the names
+abbrev pub hit : (s S : List ℕ) → List Name → ℕ → Bool
+hit s S xs i = eqb (kindAt S i) 21 && among (nameAt s S i) xs
+
+-- a name is among those of a list where a search finds one of the list
+among-last : {A : Type 0} (f : A → Name) (x : Name) (as' : List A) → among x (map f as') ≡ isSome (lastNamed f x as')
+unfolding among lastNamed isSome
+among-last f x [] = refl
+among-last {A} f x (a ∷ as') = go (lastNamed f x as') (same x (f a)) (among-last f x as')
+  where
+    go : (o : Option A) (b : Bool) → among x (map f as') ≡ isSome o
+        → _≡_ {A = Bool} (elim b as (λ _. Bool) [ true ↦ true | false ↦ among x (map f as') ])
+        (isSome {A = A} (elim o as (λ _. Option A) [ some y ↦ some y | none ↦ elim b as (λ _. Option A) [ true ↦ some a | false ↦ none ] ]))
+    go (some y) true h = refl
+    go none true h = refl
+    go (some y) false h = h
+    go none false h = h
+
+pub later-lets : (s S : List ℕ) (env : Env) → InForce s S env → Stretch s S (env .later) (env .own)
+later-lets s S env f = record { loaded = f .loaded; sort = grammar.Stmt; row = f .later }
+
+module _ (s S : List ℕ) (env : Env) (i k : ℕ) (e : k ≡ kindAt S i) where
+  pub no-id : (r : Bool) → k ≢ 21 → r ≡ false → r ≡ hit s S (laterNames s env) i
+  no-id r q f = f ∙ rw (← e, ne-eqb k 21 q) refl
+
+  module _ (x : Name) (r : Found) (q : k ≡ 21) (n : x ≡ nameAt s S i) (l : Last s S 16 x (env .later) (env .own) r) where
+    by-search : isSome (foundNode s r) ≡ hit s S (laterNames s env) i
+    unfolding laterNames lets
+    by-search = ap isSome (l .found) ∙ rw (← e, eq-eqb k 21 q, ← n) (sym (among-last nodeName x (ofKind 16 (nodesAt s (env .later) (env .own)))))
+
+    pub is-later : (j : ℕ) → r ≡ At j → true ≡ hit s S (laterNames s env) i
+    unfolding isSome foundNode
+    is-later j h = rw (← by-search, h) refl
+
+    pub not-later : r ≡ Nothing → false ≡ hit s S (laterNames s env) i
+    unfolding isSome foundNode
+    not-later h = rw (← by-search, h) refl
+
+-- ------------------------------------------------------------ lines
+
+-- p of one of the k lines from line i on
+unfoldable pub any : (ℕ → Bool) → ℕ → ℕ → Bool
+any p i zero = false
+any p i (suc k) = p i || any p (suc i) k
+
+or-assoc : (a b c : Bool) → ((a || b) || c) ≡ (a || (b || c))
+or-assoc true b c = refl
+or-assoc false b c = refl
+
+any-add : (p : ℕ → Bool) (i a b : ℕ) → any p i (a + b) ≡ (any p i a || any p (i + a) b)
+unfolding any
+any-add p i zero b = rw (let q : 0 + b ≡ b = omega arith in q, let q : i + 0 ≡ i = omega arith in q) refl
+any-add p i (suc a) b =
+    rw (let q : suc a + b ≡ suc (a + b) = omega arith in q, let q : i + suc a ≡ suc i + a = omega arith in q, any-add p (suc i) a b, or-assoc) refl
+
+any-split : (p : ℕ → Bool) (i j k : ℕ) → i ≤ j → j ≤ k → any p i (k - i) ≡ (any p i (j - i) || any p j (k - j))
+any-split p i j k g h =
+    rw (let q : k - i ≡ (j - i) + (k - j) = omega arith in q) (any-add p i (j - i) (k - j) ∙ rw (let q : i + (j - i) ≡ j = omega arith in q) refl)
+
+any-none : (p : ℕ → Bool) → ((l : ℕ) → p l ≡ false) → (i k : ℕ) → any p i k ≡ false
+unfolding any
+any-none p h i zero = refl
+any-none p h i (suc k) = rw (h i) (any-none p h (suc i) k)
+
+-- ------------------------------------------------------------ one expression
+
+-- a line's expression mentions a name by itself or in its parts, which are expressions
+record Mentions (xs : List Name) (i : ℕ) (l : Line) (ps : Nodes) : Type 0 where
+  count : ℕ
+  exprs : FormedAll (times count grammar.Expr) ps
+  is : has xs (exprOf (node i l ps)) ≡ ((eqb (l .kind) 21 && among (l .name) xs) || hasAny xs (exprsOf ps))
+
+module _ (xs : List Name) (i : ℕ) (l : Line) where
+  abbrev self : Bool
+  self = eqb (l .kind) 21 && among (l .name) xs
+
+  no-part : {ps : Nodes} → has xs (exprOf (node i l nil)) ≡ self → FormedAll [] ps → Mentions xs i l ps
+  unfolding times exprsOf hasAny
+  no-part h none-due = record { count = 0; exprs = none-due; is = rw or-false h }
+
+  one-part : {ps : Nodes} → ((t : Node) → has xs (exprOf (node i l (more t nil))) ≡ (self || has xs (exprOf t))) → FormedAll (grammar.Expr ∷ []) ps → Mentions xs i l ps
+  unfolding times exprsOf hasAny
+  one-part h (one-due {t = t} f none-due) = record { count = 1; exprs = one-due f none-due; is = rw or-false (h t) }
+
+  two-parts : {ps : Nodes} → ((t u : Node) → has xs (exprOf (node i l (more t (more u nil)))) ≡ (self || (has xs (exprOf t) || has xs (exprOf u)))) → FormedAll (grammar.Expr ∷ grammar.Expr ∷ []) ps → Mentions xs i l ps
+  unfolding times exprsOf hasAny
+  two-parts h (one-due {t = t} f (one-due {t = u} g none-due)) =
+      record { count = 2; exprs = one-due f (one-due g none-due); is = rw or-false (h t u) }
+
+  some-parts : {ps : Nodes} (k : ℕ) → ((t : Node) (ns : Nodes) → has xs (exprOf (node i l (more t ns))) ≡ (self || (has xs (exprOf t) || hasAny xs (exprsOf ns)))) → FormedAll (grammar.Expr ∷ times k grammar.Expr) ps → Mentions xs i l ps
+  unfolding times exprsOf hasAny
+  some-parts k h (one-due {t = t} {ns = ns} f g) = record { count = suc k; exprs = one-due f g; is = h t ns }
+
+  -- by the line's kind
+  mentions : (ps : Nodes) → Among grammar.Expr (l .kind) → Parted l → FormedAll (sorts (l .parts)) ps → Mentions xs i l ps
+  unfolding sorts times exprOf exprsOf has hasAny leafHas identLeaf
+  mentions ps a p f =
+      pick {P = λ k. l .kind ≡ k → Mentions xs i l ps} {i = 20} {n = 14} (l .kind)
+      ((λ e. no-part (rw (exprOf, e) refl) (rw (parts l 20 p e) at f))
+      also (λ e. no-part (rw (exprOf, e) refl) (rw (parts l 21 p e) at f))
+      also (λ e. no-part (rw (exprOf, e) refl) (rw (parts l 22 p e) at f))
+      also (λ e. no-part (rw (exprOf, e) refl) (rw (parts l 23 p e) at f))
+      also (λ e. no-part (rw (exprOf, e) refl) (rw (parts l 24 p e) at f))
+      also (λ e. no-part (rw (exprOf, e) refl) (rw (parts l 25 p e) at f))
+      also (λ e. no-part (rw (exprOf, e) refl) (rw (parts l 26 p e) at f))
+      also (λ e. no-part (rw (exprOf, e) refl) (rw (parts l 27 p e) at f))
+      also (λ e. one-part (λ t. rw (exprOf, e) refl) (rw (parts l 28 p e) at f))
+      also (λ e. two-parts (λ t u. rw (exprOf, e) refl) (rw (parts l 29 p e) at f))
+      also (λ e. one-part (λ t. rw (exprOf, e) refl) (rw (parts l 30 p e) at f))
+      also (λ e. let g = parts l 31 p e in some-parts (g .0) (λ t ns. rw (exprOf, e) refl) (rw (g .1, append-nil) at f))
+      also (λ e. one-part (λ t. rw (exprOf, e) refl) (rw (parts l 32 p e) at f))
+      also (λ e. one-part (λ t. rw (exprOf, e) refl) (rw (parts l 33 p e) at f))
+      also stop)
+      (a .0) (a .1) refl
+
+-- ------------------------------------------------------------ the lines of an expression
+
+within : {S : List ℕ} {n i : ℕ} {t : Node} → Held S n i t → (i < n) × (i ≤ endAt S i)
+within (held h y r) = let q = all-le r in (h, omega arith)
+
+module _ {s S : List ℕ} (d : Loaded s S) (xs : List Name) where
+  mutual
+    unfolding any exprsOf hasAny times before
+
+    tree-has : {i : ℕ} {t : Node} → Held S (length S / 8) i t → Formed grammar.Expr t → nodeAt s i ≡ t → has xs (exprOf t) ≡ any (hit s S xs) i (endAt S i - i)
+    tree-has {i} (held {l = l} {ps = ps} h y r) (formed a p f) e =
+        let t = stands d i h in
+        let m = mentions xs i l ps a p f in
+        let line : t .line ≡ l = cc (t .here, e) in
+        let kids : t .parts ≡ ps = cc (t .here, e) in
+        let name : nameAt s S i ≡ l .name = t .spells .name ∙ ap (λ (x : Line). x .name) line in
+        let q = all-le r in
+        let behind : treesFrom s (suc i) ≡ before ps (treesFrom s (endAt S i)) = rw (← kids) (t .behind) in
+        m .is
+        ∙ rw (let z : endAt S i - i ≡ suc (endAt S i - suc i) = omega arith in z, y .kind, name, trees-has r (m .count) (m .exprs) (treesFrom s (endAt S i)) behind) refl
+
+    trees-has : {i j : ℕ} {ps : Nodes} → HeldAll S (length S / 8) i j ps → (k : ℕ) → FormedAll (times k grammar.Expr) ps → (rest : Nodes) → treesFrom s i ≡ before ps rest
+        → hasAny xs (exprsOf ps) ≡ any (hit s S xs) i (j - i)
+    trees-has {i} no-tree zero none-due rest e = rw (let z : i - i ≡ 0 = omega arith in z) refl
+    trees-has {i} {j} (tree {t = t} {ns = ns} h r) (suc k) (one-due f fs) rest e =
+        let w = within h in
+        let st = stands d i (w .0) in
+        let here : nodeAt s i ≡ t = cc (st .next, e) in
+        let behind : treesFrom s (endAt S i) ≡ before ns rest = cc (st .next, e) in
+        rw (any-split (hit s S xs) i (endAt S i) j (w .1) (all-le r), tree-has h f here, trees-has r k fs rest behind) refl
+
+  pub has-lines : (i : ℕ) → Here S grammar.Expr i → has xs (exprAt s i) ≡ any (hit s S xs) i (endAt S i - i)
+  unfolding exprAt
+  has-lines i h =
+      let t = stands d i (h .within) in
+      rw (t .here) (tree-has (held (h .within) (t .says) (t .held)) (formed (rw (← t .says .kind) (h .kind)) (t .parted) (t .formed)) (t .here))
+
+-- ------------------------------------------------------------ the walk over the lines
+
+and-false : (b : Bool) → (b && false) ≡ false
+and-false true = refl
+and-false false = refl
+
+-- of no names none is mentioned
+stale-has : {s S : List ℕ} (d : Loaded s S) (xs : List Name) (i : ℕ) → Here S grammar.Expr i → stale xs (exprAt s i) ≡ has xs (exprAt s i)
+unfolding stale among
+stale-has {s} {S} d [] i h =
+    sym (has-lines d [] i h ∙ any-none (hit s S []) (λ l. and-false (eqb (kindAt S l) 21)) i (endAt S i - i))
+stale-has d (x ∷ xs) i h = refl
+
+pub none-later : (s : List ℕ) (env : Env) (i : ℕ) (r : Bool) → env .later ≡ 0 → r ≡ false → r ≡ stale (laterNames s env) (exprAt s i)
+unfolding laterNames lets nodesAt takeNodes nodes ofKind stale
+none-later s env i r e f = rw (laterNames, lets, e) f
+
+-- what is found so far: nothing before line at
+pub record Looking (s S : List ℕ) (env : Env) (i end at : ℕ) : Type 0 where
+  pub rest : stale (laterNames s env) (exprAt s i) ≡ any (hit s S (laterNames s env)) at (end - at)
+
+pub look-start : (s S : List ℕ) (env : Env) (i end : ℕ) → ExprIn s S env i → end ≡ endAt S i → Looking s S env i end i
+look-start s S env i end h e =
+    let d = h .force .loaded in
+    record { rest = stale-has d (laterNames s env) i (h .here) ∙ rw e (has-lines d (laterNames s env) i (h .here)) }
+
+module _ (s S : List ℕ) (env : Env) (i end at : ℕ) (l : Looking s S env i end at) where
+  pub look-over : (r : Bool) → end ≤ at → r ≡ false → r ≡ stale (laterNames s env) (exprAt s i)
+  unfolding any
+  look-over r h e = e ∙ sym (l .rest ∙ rw (let q : end - at ≡ 0 = omega arith in q) refl)
+
+  module _ (h : at < end) (b : Bool) (e : b ≡ hit s S (laterNames s env) at) where
+    turn : stale (laterNames s env) (exprAt s i) ≡ (b || any (hit s S (laterNames s env)) (at + 1) (end - (at + 1)))
+    unfolding any
+    turn =
+        l .rest
+        ∙ rw (e, let q : end - at ≡ suc (end - suc at) = omega arith in q, let q : at + 1 ≡ suc at = omega arith in q) refl
+
+    pub look-found : (r : Bool) → b ≡ true → r ≡ true → r ≡ stale (laterNames s env) (exprAt s i)
+    look-found r q f = f ∙ sym (turn ∙ rw q refl)
+
+    pub look-next : b ≡ false → Looking s S env i end (at + 1)
+    look-next q = record { rest = turn ∙ rw q refl }

@@ -1,0 +1,330 @@
+-- What a dot's name and a call's callee tell. Assumes nothing.
+use mathlib.Core.Logic.{_≢_}
+use mathlib.Core.Path.{_≡_, refl, sym, _∙_}
+use mathlib.Core.List.{List, [], _∷_}
+use mathlib.Core.Bool.{Bool, true, false, cond, not, _&&_, _||_}
+use mathlib.Core.Option.{Option, none, some}
+use Prim.Native.String.{String}
+use Prim.Native.Nat.{ℕ, suc, _+_, _<_, _≤_}
+use native.Mathlib.Numerals.{add-one}
+use native.Mathlib.Omega.{arith}
+use lib.Dec.{eqb, ltb, leb·suc-suc}
+use lib.ListN.{length, getD}
+use borrow.Author.Tests.{eq-eqb, ne-eqb, lt-ltb, le-ltb, not-true, not-false}
+use Rattle.text.specs.Text.{bytes, same, ended}
+use Rattle.text.specs.Word.{place, split}
+use Rattle.sheet.specs.Grammar as grammar
+use Rattle.sheet.specs.Grammar.{words}
+use Rattle.sheet.specs.Scratch.{kindAt, nameAt}
+use Rattle.sheet.specs.Say.{nspanAt}
+use Rattle.rules.specs.Text.{Name, is, isOne}
+use Rattle.rules.specs.Ast.{Expr, Field, span, typeName}
+use Rattle.rules.specs.Asking.{Ty, Int, Boolean, Asset, Word64, Time, Unknown, code, ok, expect, ifSome}
+use Rattle.rules.specs.Kept.{Table, kept}
+use Rattle.rules.specs.Declared.{declaredArg, eqTy, isTy}
+use Rattle.rules.specs.Typing as typing
+use Rattle.rules.specs.Typing.{Dot, dotOf, identIs, keyedField, isPool, keyedOpFits, keyedOpText, expectKeyedOp, receiverText, expectAssetReceiver, tyOfDot, tyOfGet, tyOfCall}
+use Rattle.rules.specs.Standing.{exprAt, typeAt, fieldAt, Loaded, Here}
+use Rattle.rules.proofs.Exprs.{dot-at, ident-at, is-dot-at}
+use Rattle.rules.proofs.Parts.{stop, _also_, pick}
+use Rattle.rules.proofs.Standing.{row-first}
+use Rattle.declared.specs.Found.{foundField}
+use Rattle.declared.specs.Lines.{Typed, ExprAt}
+use Rattle.declared.specs.Refusal.{dotAt, refusalOf, doneOf}
+use Rattle.declared.specs.declared.model.Found.{Found}
+use Rattle.declared.specs.declared.model.Found.the-variants.{At, Nothing}
+use Rattle.declared.specs.declared.refusal.Refusal.the-variants.{Receiver, KeyedOp}
+use Rattle.declared.specs.declared.refusal.Done.the-variants.{Fine, Refused}
+use Rattle.declared.proofs.Tables.{or-false, wordsIn, valuesIn, place-most, pick-place}
+use Rattle.declared.proofs.Types.{type-name}
+use Rattle.env.specs.Answers.{Answers}
+use Rattle.env.specs.Calls.{dotCodes, methodCodes, wantsOf, keyedOf, KeyedOf, Callee, JudgesOp, TypesCall, getTy, methodTy}
+use Rattle.env.specs.Force.{envOf, ExprIn, KeyedFound}
+use Rattle.env.specs.declared.env.Env.{Env}
+use Rattle.env.proofs.Lookups.{behind, either-word}
+
+-- ------------------------------------------------------------ words
+
+-- a name is one of some words where its place is before their end
+one-place : (x : Name) (ws : List String) → isOne x ws ≡ ltb (place x (words ws)) (length ws)
+unfolding isOne place is
+one-place x [] = refl
+one-place x (w ∷ ws) = go (same x (bytes w)) (one-place x ws)
+  where
+    go : (b : Bool) → isOne x ws ≡ ltb (place x (words ws)) (length ws)
+        → elim b as (λ _. Bool) [ true ↦ true | false ↦ isOne x ws ] ≡ ltb (cond b 0 (1 + place x (words ws))) (suc (length ws))
+    go true h = sym (lt-ltb 0 (suc (length ws)) (omega arith))
+    go false h =
+        let p = place x (words ws) in
+        h ∙ sym (rw (let q : 1 + p ≡ suc p = omega arith in q) (leb·suc-suc (suc p) (length ws)))
+
+-- ------------------------------------------------------------ dots
+
+abbrev dots : String
+dots = "amount signer_bits first len "
+
+abbrev dotTypes : List (String × Ty)
+dotTypes = ("amount", Int) ∷ ("signer_bits", Word64) ∷ ("first", Time) ∷ ("len", Int) ∷ []
+
+pub dot-most : (x : Name) (p : ℕ) → p ≡ place x (split (bytes dots)) → p < 5
+unfolding split ended
+dot-most x p e = omega (arith, place-most x (wordsIn dotTypes))
+
+pub dot-type : (x : Name) (p r : ℕ) → p ≡ place x (split (bytes dots)) → r ≡ getD dotCodes p 0 → r ≡ code (tyOfDot x)
+unfolding tyOfDot split ended code
+dot-type x p r e f =
+    f
+    ∙ rw (pick-place x dotTypes Unknown, ← e)
+    (pick {P = λ p. getD dotCodes p 0 ≡ code (getD (valuesIn dotTypes) p Unknown)} {i = 0} {n = 5} p
+    (refl also refl also refl also refl also refl also stop) (omega arith) (dot-most x p e))
+
+-- ------------------------------------------------------------ methods
+
+pub moves : (x : Name) (b c : Bool) → b ≡ same x (bytes "credit") → c ≡ same x (bytes "debit") → (b || c) ≡ isOne x ("credit" ∷ "debit" ∷ [])
+unfolding is
+moves x b c v w = rw (v, w) (sym (either-word x "credit" "debit"))
+
+abbrev oneKey : List String
+oneKey = "insert" ∷ "remove" ∷ "contains" ∷ "get" ∷ "credit" ∷ "debit" ∷ []
+
+module _ (x : Name) (b : Bool) (w : b ≡ same x (bytes "set")) where
+  pub wants-two : b ≡ true → 2 ≡ wantsOf x
+  unfolding wantsOf is
+  wants-two q = rw (wantsOf, ← w, q) refl
+
+  module _ (p : ℕ) (q : b ≡ false) (e : p ≡ place x (split (bytes "insert remove contains get credit debit "))) where
+    of-one : isOne x oneKey ≡ ltb p 6
+    unfolding split ended
+    of-one = one-place x oneKey ∙ rw e refl
+
+    pub wants-one : p < 6 → 1 ≡ wantsOf x
+    unfolding wantsOf is
+    wants-one h = rw (wantsOf, ← w, q, of-one, lt-ltb p 6 h) refl
+
+    pub wants-none : 6 ≤ p → 0 ≡ wantsOf x
+    unfolding wantsOf is
+    wants-none h = rw (wantsOf, ← w, q, of-one, le-ltb p 6 h) refl
+
+-- ------------------------------------------------------------ the callee
+
+-- the dot at a line of kind 30
+abbrev theDot : List ℕ → List ℕ → ℕ → Dot
+theDot s S i = record { base = exprAt s (suc i); name = nameAt s S i; nspan = nspanAt s S i }
+
+dot-told : (s : List ℕ) (i : ℕ) (d : Dot) → dotOf (exprAt s i) ≡ some d → dotAt s i ≡ d
+unfolding dotAt
+dot-told s i d e = rw (dotAt, e) refl
+
+module _ {s S : List ℕ} {i k : ℕ} (d : Loaded s S) (h : Here S grammar.Expr i) (e : k ≡ kindAt S i) where
+  not-dot : k ≢ 30 → dotOf (exprAt s i) ≡ none
+  not-dot n = is-dot-at d h ∙ rw (← e, ne-eqb k 30 n) refl
+
+  is-dot : k ≡ 30 → dotOf (exprAt s i) ≡ some (theDot s S i)
+  is-dot q = is-dot-at d h ∙ rw (← e, eq-eqb k 30 q) refl
+
+module _ (s S : List ℕ) (env : Env) (i : ℕ) (h : ExprIn s S env i) (k : ℕ) (e : k ≡ kindAt S i) where
+  none-here : k ≢ 30 → dotOf (exprAt s i) ≡ none
+  none-here = not-dot (h .force .loaded) (h .here) e
+
+  dot-here : k ≡ 30 → dotOf (exprAt s i) ≡ some (theDot s S i)
+  dot-here = is-dot (h .force .loaded) (h .here) e
+
+  pub base-in : k ≡ 30 → ExprIn s S env (i + 1)
+  base-in q =
+      rw (add-one i)
+      (record { force = h .force; here = row-first (dot-at (h .force .loaded) (h .here) (sym e ∙ q) .1) })
+
+  pub uses-none : k ≢ 30 → KeyedOf s S env i Nothing
+  unfolding keyedOf foundField
+  uses-none n = record { found = rw (keyedOf, none-here n) refl; kind = tt }
+
+  pub uses : (r : Found) → k ≡ 30 → KeyedFound s S env (i + 1) r → KeyedOf s S env i r
+  unfolding keyedOf
+  uses r q f = record { found = f .found ∙ rw (keyedOf, dot-here q, add-one i) refl; kind = f .kind }
+
+  pub no-receiver : k ≢ 30 → Answers (expectAssetReceiver (envOf s [] env) (exprAt s i)) (doneOf s Fine)
+  unfolding expectAssetReceiver ifSome kept doneOf
+  no-receiver n = record { answers = λ T. rw (expectAssetReceiver, none-here n) refl }
+
+  module _ (q : k ≡ 30) (x : Name) (n : x ≡ nameAt s S i) (p : ℕ) (f : p ≡ place x (split (bytes "merge split "))) where
+    -- the rule, by the name's place
+    receiver : expectAssetReceiver (envOf s [] env) (exprAt s i)
+        ≡ expect (not (ltb p 2) || isPool (envOf s [] env) (exprAt s (suc i))) 30 (span (dotAt s i .base)) (receiverText (dotAt s i .name))
+    unfolding expectAssetReceiver ifSome split ended
+    receiver =
+        let w : isOne x ("merge" ∷ "split" ∷ []) ≡ ltb p 2 = one-place x ("merge" ∷ "split" ∷ []) ∙ rw f refl in
+        rw (expectAssetReceiver, dot-here q, dot-told s i (theDot s S i) (dot-here q), ← n, w) refl
+
+    pub any-receiver : p ≡ 2 → Answers (expectAssetReceiver (envOf s [] env) (exprAt s i)) (doneOf s Fine)
+    unfolding expect kept doneOf
+    any-receiver z = record { answers = λ T. rw (receiver, z) refl }
+
+    module _ (b : Bool) (z : p ≢ 2) (g : b ≡ isPool (envOf s [] env) (exprAt s (i + 1))) where
+      wanted : ltb p 2 ≡ true
+      unfolding split ended
+      wanted = lt-ltb p 2 (omega (arith, f, place-most x (words ("merge" ∷ "split" ∷ []))))
+
+      on-pool : isPool (envOf s [] env) (exprAt s (suc i)) ≡ b
+      on-pool = sym (rw (add-one i) at g)
+
+      pub a-receiver : b ≡ true → Answers (expectAssetReceiver (envOf s [] env) (exprAt s i)) (doneOf s Fine)
+      unfolding expect kept doneOf
+      a-receiver t = record { answers = λ T. rw (receiver, wanted, on-pool, t) refl }
+
+      pub bad-receiver : b ≡ false → Answers (expectAssetReceiver (envOf s [] env) (exprAt s i)) (doneOf s (Refused (Receiver i)))
+      unfolding expect kept doneOf refusalOf
+      bad-receiver t = record { answers = λ T. rw (receiver, wanted, on-pool, t) refl }
+
+-- ------------------------------------------------------------ Maps and Registries
+
+module _ (s S : List ℕ) (i : ℕ) (h : Typed s S i) (y : Name) (n : y ≡ nameAt s S i) where
+  the-name : typeName (typeAt s i) ≡ y
+  the-name = sym (n ∙ type-name s S i h)
+
+  module _ (x : Name) (b : Bool) (w : b ≡ same y (bytes "Registry")) where
+    pub registry-op : (p : ℕ) → b ≡ true → p ≡ place x (split (bytes "insert remove contains ")) → ltb p 3 ≡ keyedOpFits (typeAt s i) x
+    unfolding keyedOpFits is split ended
+    registry-op p q e = rw (keyedOpFits, the-name, ← w, q, e) (sym (one-place x ("insert" ∷ "remove" ∷ "contains" ∷ [])))
+
+    module _ (p : ℕ) (q : b ≡ false) (e : p ≡ place x (split (bytes "set get contains remove "))) where
+      plain-op : isOne x ("set" ∷ "get" ∷ "contains" ∷ "remove" ∷ []) ≡ ltb p 4
+      unfolding split ended
+      plain-op = one-place x ("set" ∷ "get" ∷ "contains" ∷ "remove" ∷ []) ∙ rw e refl
+
+      pub map-op : p < 4 → true ≡ keyedOpFits (typeAt s i) x
+      unfolding keyedOpFits is
+      map-op f = rw (keyedOpFits, the-name, ← w, q, plain-op, lt-ltb p 4 f) refl
+
+      pub amount-op : (m : Bool) (v : ℕ) → 4 ≤ p → m ≡ isOne x ("credit" ∷ "debit" ∷ []) → v ≡ code (declaredArg (typeAt s i) 1)
+          → (m && eqb v 1) ≡ keyedOpFits (typeAt s i) x
+      unfolding keyedOpFits is eqTy code
+      amount-op m v f g u = rw (keyedOpFits, the-name, ← w, q, plain-op, le-ltb p 4 f, g, u) refl
+
+  module _ (b : Bool) (w : b ≡ same y (bytes "Map")) where
+    pub no-map : not b ≡ true → 1 ≡ code (getTy (typeAt s i))
+    unfolding getTy is code
+    no-map q = rw (getTy, the-name, ← w, not-true b q) refl
+
+    module _ (v : ℕ) (q : not b ≡ false) (u : v ≡ code (declaredArg (typeAt s i) 1)) where
+      which : isTy (declaredArg (typeAt s i) 1) (Unknown ∷ Time ∷ []) ≡ (eqb v 10 || eqb v 7)
+      unfolding isTy eqTy code
+      which = rw (u, or-false) refl
+
+      pub no-value : (eqb v 10 || eqb v 7) ≡ true → 1 ≡ code (getTy (typeAt s i))
+      unfolding getTy is code
+      no-value t = rw (getTy, the-name, ← w, not-false b q, which, t) refl
+
+      pub its-value : (eqb v 10 || eqb v 7) ≡ false → v ≡ code (getTy (typeAt s i))
+      unfolding getTy is
+      its-value t = u ∙ rw (getTy, the-name, ← w, not-false b q, which, t) refl
+
+-- ------------------------------------------------------------ what a callee uses
+
+-- the methods that tell a call's type, where `get` gives g
+abbrev methods : String
+methods = "contains split get "
+
+abbrev methodTypes : Ty → List (String × Ty)
+methodTypes g = ("contains", Boolean) ∷ ("split", Asset) ∷ ("get", g) ∷ []
+
+module _ (s S : List ℕ) (i : ℕ) (h : ExprAt s S i) where
+  -- where it uses a field, it is a dot on it
+  uses-field : (Γ : typing.Env) (f : Field) → some f ≡ keyedOf Γ (exprAt s i)
+      → (dotOf (exprAt s i) ≡ some (theDot s S i)) × (keyedField Γ (exprAt s (suc i)) ≡ some f)
+  unfolding keyedOf
+  uses-field Γ f = go (eqb (kindAt S i) 30) (is-dot-at (h .loaded) (h .here))
+    where
+      go : (b : Bool) → dotOf (exprAt s i) ≡ cond b (some (theDot s S i)) none → some f ≡ keyedOf Γ (exprAt s i)
+          → (dotOf (exprAt s i) ≡ some (theDot s S i)) × (keyedField Γ (exprAt s (suc i)) ≡ some f)
+      go true e g = (e, sym (rw (keyedOf, e) at g))
+      go false e g = let n : _≡_ {A = Option Field} (some f) none = rw (keyedOf, e) at g in absurd (let z : _≡_ {A = ℕ} 0 1 = cc in omega arith)
+
+-- where it uses none, no rule applies
+uses-nothing : (Γ : typing.Env) (e : Expr) → none ≡ keyedOf Γ e → (T : Table) → kept (expectKeyedOp Γ e) T ≡ record { res = ok tt; table = T }
+unfolding keyedOf expectKeyedOp ifSome kept
+uses-nothing Γ e g T = go (dotOf e) g
+  where
+    go : (o : Option Dot) → _≡_ {A = Option Field} none (elim o [ none ↦ none | some d ↦ keyedField Γ (d .base) ])
+        → kept (ifSome o (λ d. ifSome (keyedField Γ (d .base)) (λ f. expect (keyedOpFits (f .ty) (d .name)) 31 (d .nspan) (keyedOpText (d .name) f)))) T
+        ≡ record { res = ok tt; table = T }
+    go none q = refl
+    go (some d) q = rw (← q) refl
+
+module _ (s S : List ℕ) (i : ℕ) (keyed : Found) (h : Callee s S i keyed) where
+  pub no-op : keyed ≡ Nothing → JudgesOp s i keyed Fine
+  unfolding foundField doneOf
+  no-op e = record { judged = λ Γ g. record { answers = uses-nothing Γ (exprAt s i) (rw e at g) } }
+
+  module _ (f : ℕ) (e : keyed ≡ At f) where
+    its-type : fieldAt s f .ty ≡ typeAt s (suc f)
+    its-type = behind 6 s S (h .expr .loaded) keyed f e (h .kind) (omega arith) (omega arith) .field
+
+    module _ (x : Name) (n : x ≡ nameAt s S i) (b : Bool) (w : b ≡ keyedOpFits (typeAt s (f + 1)) x) where
+      op : (Γ : typing.Env) → foundField s keyed ≡ keyedOf Γ (exprAt s i)
+          → expectKeyedOp Γ (exprAt s i) ≡ expect b 31 (dotAt s i .nspan) (keyedOpText (dotAt s i .name) (fieldAt s f))
+      unfolding expectKeyedOp ifSome foundField
+      op Γ g =
+          let u = uses-field s S i (h .expr) Γ (fieldAt s f) (rw e at g) in
+          let v : keyedOpFits (fieldAt s f .ty) (nameAt s S i) ≡ b = sym (w ∙ rw (its-type, n, add-one f) refl) in
+          rw (expectKeyedOp, u .0, u .1, dot-told s i (theDot s S i) (u .0), v) refl
+
+      pub good-op : b ≡ true → JudgesOp s i keyed Fine
+      unfolding expect kept doneOf
+      good-op t = record { judged = λ Γ g. record { answers = λ T. rw (op Γ g, t) refl } }
+
+      pub bad-op : b ≡ false → JudgesOp s i keyed (Refused (KeyedOp i f))
+      unfolding expect kept doneOf refusalOf
+      bad-op t = record { judged = λ Γ g. record { answers = λ T. rw (op Γ g, t) refl } }
+
+  module _ (x : Name) (n : x ≡ nameAt s S i) (p : ℕ) (e : p ≡ place x (split (bytes methods))) where
+    pub method-most : p < 4
+    unfolding split ended
+    method-most = omega (arith, place-most x (wordsIn (methodTypes Int)))
+
+    of-place : (g : Ty) → g ≡ tyOfGet (foundField s keyed) → methodTy s (nameAt s S i) keyed ≡ getD (valuesIn (methodTypes g)) p Unknown
+    unfolding methodTy split ended
+    of-place g q = rw (← n, ← q, e) (pick-place x (methodTypes g) Unknown)
+
+    pub by-method : (r : ℕ) → p ≢ 2 → r ≡ getD methodCodes p 0 → r ≡ code (methodTy s (nameAt s S i) keyed)
+    unfolding code
+    by-method r z f =
+        let g = tyOfGet (foundField s keyed) in
+        f
+        ∙ rw (of-place g refl)
+        (pick {P = λ p. p ≢ 2 → getD methodCodes p 0 ≡ code (getD (valuesIn (methodTypes g)) p Unknown)} {i = 0} {n = 4} p
+        ((λ _. refl) also (λ _. refl) also (λ y. absurd (y refl)) also (λ _. refl) also stop) (omega arith) method-most z)
+
+    pub by-get : (f r : ℕ) → p ≡ 2 → keyed ≡ At f → r ≡ code (getTy (typeAt s (f + 1))) → r ≡ code (methodTy s (nameAt s S i) keyed)
+    unfolding tyOfGet foundField getTy
+    by-get f r z k q =
+        let g : getTy (typeAt s (f + 1)) ≡ tyOfGet (foundField s keyed) =
+        rw (add-one f, k, its-type f k) refl in
+        q ∙ rw (of-place (getTy (typeAt s (f + 1))) g, z) refl
+
+    pub no-get : p ≡ 2 → keyed ≡ Nothing → 1 ≡ code (methodTy s (nameAt s S i) keyed)
+    unfolding tyOfGet foundField code
+    no-get z k = rw (of-place Int (rw k refl), z) refl
+
+  module _ (k : ℕ) (e : k ≡ kindAt S i) where
+    pub typed-method : (r : ℕ) → k ≡ 30 → r ≡ code (methodTy s (nameAt s S i) keyed) → TypesCall s i keyed r
+    unfolding tyOfCall keyedOf methodTy
+    typed-method r q f =
+        let d = is-dot (h .expr .loaded) (h .expr .here) e q in
+        record { typed = λ Γ g. let u = rw (keyedOf, d) at g in f ∙ rw (tyOfCall, d, u) refl }
+
+    module _ (q : k ≢ 30) (x : Name) (n : x ≡ nameAt s S i) (b : Bool) (w : b ≡ same x (bytes "mint")) where
+      mints : identIs (exprAt s i) "mint" ≡ (eqb k 21 && b)
+      unfolding identIs is
+      mints = rw (identIs, ident-at (h .expr .loaded) (h .expr .here), ← e, ← n, w) (go (eqb k 21))
+        where
+          go : (t : Bool) → _≡_ {A = Bool} (elim (cond t (some x) none) [ none ↦ false | some y ↦ same y (bytes "mint") ]) (t && same x (bytes "mint"))
+          go true = refl
+          go false = refl
+
+      pub minted : (eqb k 21 && b) ≡ true → TypesCall s i keyed 4
+      unfolding tyOfCall code
+      minted t = record { typed = λ Γ g. rw (tyOfCall, not-dot (h .expr .loaded) (h .expr .here) e q, mints, t) refl }
+
+      pub not-minted : (eqb k 21 && b) ≡ false → TypesCall s i keyed 10
+      unfolding tyOfCall code
+      not-minted t = record { typed = λ Γ g. rw (tyOfCall, not-dot (h .expr .loaded) (h .expr .here) e q, mints, t) refl }

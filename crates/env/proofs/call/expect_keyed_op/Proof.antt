@@ -1,0 +1,18 @@
+use borrow.Author.Needs.{needs}
+use Rattle.env.proofs.Lookups.{found-next, found-typed}
+use Rattle.env.proofs.Methods.{good-op, bad-op, no-op}
+use Rattle.env.proofs.call.expect_keyed_op.Statement.{statement}
+use Rattle.env.proofs.call.expect_keyed_op.Tie as tie
+
+pub expect-keyed-op-spec : {M : Type 1} → statement M
+expect-keyed-op-spec =
+    tie.close
+    (tie.spec
+    (λ c. search needs)
+    (λ c. search (needs, found-next 6))
+    (λ c κs. search needs)
+    (λ c κs. search (needs, found-typed 6))
+    (λ c. search needs)
+    (λ c. search (needs, good-op))
+    (λ c. search (needs, bad-op))
+    (λ c. search (needs, no-op)))

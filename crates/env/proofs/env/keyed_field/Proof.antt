@@ -1,0 +1,21 @@
+use borrow.Author.Needs.{needs}
+use Rattle.env.proofs.Lookups.{found-next, keyed, unkeyed, nothing-keyed}
+use Rattle.env.proofs.env.keyed_field.Statement.{statement}
+use Rattle.env.proofs.env.keyed_field.Tie as tie
+
+pub keyed-field-spec : {M : Type 1} → statement M
+keyed-field-spec =
+    tie.close
+    (tie.spec
+    (λ c κs. search needs)
+    (λ c. search needs)
+    (λ c. search (needs, found-next 6))
+    (λ c κs. search needs)
+    (λ c. search needs)
+    (λ c κs. search needs)
+    (λ c. search needs)
+    (λ c κs. search needs)
+    (λ c. search needs)
+    (λ c. search (needs, keyed))
+    (λ c. search (needs, unkeyed))
+    (λ c. search (needs, nothing-keyed)))

@@ -1,0 +1,10 @@
+use Rattle.env.proofs.Judging.{amount-fine, amount-wrong}
+use Rattle.env.proofs.judge.judge_amount.Statement.{statement}
+use Rattle.env.proofs.judge.judge_amount.Tie as tie
+
+pub judge-amount-spec : {M : Type 1} → statement M
+judge-amount-spec =
+    tie.close
+    (tie.spec
+    (λ c. amount-fine _ _ _ (c .if1 .taken))
+    (λ c. amount-wrong _ _ _ (c .if1 .left)))

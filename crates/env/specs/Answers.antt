@@ -1,0 +1,59 @@
+-- What the code answers to a rule that asks nothing.
+use Prim.Native.Nat.{ℕ}
+use mathlib.Core.Bool.{Bool}
+use mathlib.Core.List.{List, [], _∷_}
+use mathlib.Core.Path.{_≡_}
+use Rattle.rules.specs.Ast.{span}
+use Rattle.rules.specs.Asking.{Ty, Int, Asset, Unknown, code, Res, ok, refused, Rule, expect}
+use Rattle.rules.specs.Kept.{Table, kept}
+use Rattle.rules.specs.Declared.{isTy}
+use Rattle.rules.specs.Typing.{judgeKey, amountText}
+use Rattle.rules.specs.Standing.{exprAt, fieldAt, Loaded, Here}
+use Rattle.declared.specs.Codes.{tyFrom}
+use Rattle.declared.specs.Lines.{ExprAt}
+use Rattle.declared.specs.Refusal.{dotAt, refusalOf, doneOf}
+use Rattle.declared.specs.declared.refusal.Done.{Done}
+use Rattle.env.specs.Force.{envOf, IsCode}
+use Rattle.env.specs.declared.env.Env.{Env}
+use Rattle.env.specs.declared.judge.Typed.{Typed}
+use Rattle.env.specs.declared.judge.Typed.the-variants.{Is, Refused}
+
+unfoldable pub typedOf : List ℕ → Typed → Res Ty
+typedOf s (Is c) = ok (tyFrom c)
+typedOf s (Refused r) = refused (refusalOf s r)
+
+-- a type that is answered is one
+abbrev pub Valid : Typed → Type 0
+Valid (Is c) = IsCode c
+Valid (Refused r) = Unit
+
+-- on any table the rule answers this and leaves the table
+pub record Answers {A : Type 0} (p : Rule A) (r : Res A) : Type 0 where
+  pub answers : (T : Table) → kept p T ≡ record { res = r; table = T }
+
+-- r is what f answers to the type whose code is c, whatever the sheet
+pub record Judged (f : List ℕ → Ty → Rule Ty) (c : ℕ) (r : Typed) : Type 0 where
+  pub judged : (s : List ℕ) (t : Ty) → c ≡ code t → Answers (f s t) (typedOf s r)
+  pub valid : Valid r
+
+pub record Judged2 (f : List ℕ → Ty → Ty → Rule Ty) (c d : ℕ) (r : Typed) : Type 0 where
+  pub judged : (s : List ℕ) (t u : Ty) → c ≡ code t → d ≡ code u → Answers (f s t u) (typedOf s r)
+  pub valid : Valid r
+
+-- ... for the sheet s
+pub record JudgedIn (s : List ℕ) (f : Ty → Ty → Rule Ty) (c d : ℕ) (r : Typed) : Type 0 where
+  pub judged : (t u : Ty) → c ≡ code t → d ≡ code u → Answers (f t u) (typedOf s r)
+  pub valid : Valid r
+
+pub record JudgesAmount (callee arg c : ℕ) (r : Done) : Type 0 where
+  pub judged : (s : List ℕ) (t : Ty) → c ≡ code t
+      → Answers (expect (isTy t (Int ∷ Asset ∷ Unknown ∷ [])) 32 (span (exprAt s arg)) (amountText (dotAt s callee .name))) (doneOf s r)
+
+pub record JudgesKey (s : List ℕ) (env : Env) (field : ℕ) (isKey : Bool) (arg c d : ℕ) (r : Done) : Type 0 where
+  pub judged : (want got : Ty) → c ≡ code want → d ≡ code got
+      → Answers (judgeKey (envOf s [] env) (fieldAt s field .name) isKey (exprAt s arg) want got) (doneOf s r)
+
+-- expressions stand at two lines
+pub record Operands (s S : List ℕ) (left right : ℕ) : Type 0 where
+  pub one : ExprAt s S left
+  pub other : ExprAt s S right

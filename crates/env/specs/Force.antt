@@ -1,0 +1,99 @@
+-- The rules' `Env` of the code's, and what the code asks of it.
+use Prim.Native.Nat.{ℕ, suc, _/_, _≤_}
+use mathlib.Core.List.{List, [], _∷_, map}
+use mathlib.Core.Bool.{true, false}
+use mathlib.Core.Option.{Option, none, some}
+use mathlib.Core.Path.{_≡_}
+use lib.ListN.{length, getD}
+use Rattle.sheet.specs.Grammar as grammar
+use Rattle.sheet.specs.Tree.{Node, node}
+use Rattle.rules.specs.Text.{Name, is}
+use Rattle.rules.specs.Ast.{Field, paramOf}
+use Rattle.rules.specs.Asking.{Ty, Address, Unknown, code}
+use Rattle.rules.specs.Kept.{Table}
+use Rattle.rules.specs.Declared.{tyOfDecl}
+use Rattle.rules.specs.Model.{fieldNamed}
+use Rattle.rules.specs.Typing as typing
+use Rattle.rules.specs.Check.{paramTypes}
+use Rattle.rules.specs.Standing.{nodesAt, exprAt, modelIn, Loaded, Here, Row}
+use Rattle.declared.specs.Codes.{tyFrom}
+use Rattle.declared.specs.Found.{nodeName, ofKind, foundField, Of}
+use Rattle.declared.specs.declared.model.Found.{Found}
+use Rattle.env.specs.declared.env.Env.{Env}
+
+unfoldable pub paramsIn : List ℕ → Env → List (Name × Ty)
+paramsIn s env = paramTypes (map paramOf (nodesAt s (env .count) (env .params)))
+
+-- a `let` with the type that the table has for its value
+unfoldable pub localOf : Table → Node → Name × Ty
+localOf T (node i l ps) = (l .name, tyFrom (getD T (suc i) 0))
+
+unfoldable pub lets : List ℕ → (count line : ℕ) → List Node
+lets s m i = ofKind 16 (nodesAt s m i)
+
+-- names of the `let`s that were bound since the present statement or clause began
+unfoldable pub laterNames : List ℕ → Env → List Name
+laterNames s env = map nodeName (lets s (env .later) (env .own))
+
+unfoldable pub envOf : List ℕ → Table → Env → typing.Env
+envOf s T env =
+    record {
+      model = modelIn s;
+      params = paramsIn s env;
+      locals = map (localOf T) (lets s (env .bound) (env .body));
+      genesis = env .genesis;
+      later = laterNames s env;
+    }
+
+-- ------------------------------------------------------------ what the code asks
+
+-- a code of a type
+abbrev pub IsCode : ℕ → Type 0
+IsCode c = (1 ≤ c) × (c ≤ 10)
+
+-- the values of `let`s have types in the table
+abbrev pub LetTyped : Table → Node → Type 0
+LetTyped T (node i l ps) = IsCode (getD T (suc i) 0)
+
+pub data LetsTyped (T : Table) : List Node → Type 0 where
+  no-let : LetsTyped T []
+  a-let : {t : Node} {ts : List Node} → LetTyped T t → LetsTyped T ts → LetsTyped T (t ∷ ts)
+
+-- the lines that an `Env` tells are there
+pub record InForce (s S : List ℕ) (env : Env) : Type 0 where
+  pub loaded : Loaded s S
+  pub params : Row S grammar.Param (env .count) (env .params)
+  pub locals : Row S grammar.Stmt (env .bound) (env .body)
+  pub later : Row S grammar.Stmt (env .later) (env .own)
+
+-- ... and an expression stands at line i
+pub record ExprIn (s S : List ℕ) (env : Env) (i : ℕ) : Type 0 where
+  pub force : InForce s S env
+  pub here : Here S grammar.Expr i
+
+-- ... and the table has a byte a line, and the types of the locals
+pub record Ready (s S : List ℕ) (env : Env) (T : Table) : Type 0 where
+  pub force : InForce s S env
+  pub room : length S / 8 ≤ length T
+  pub typed : LetsTyped T (lets s (env .bound) (env .body))
+
+-- ------------------------------------------------------------ what is found
+
+-- the code of a type that was found, 0 where there is none
+unfoldable pub markOf : Option Ty → ℕ
+markOf none = 0
+markOf (some t) = code t
+
+-- the type of a name that is no parameter's and no local's
+unfoldable pub fieldTy : List ℕ → Name → Ty
+fieldTy s x =
+    elim (fieldNamed (modelIn s) x) [ some f ↦ tyOfDecl (f .ty) | none ↦ elim (is x "deployer") [ true ↦ Address | false ↦ Unknown ] ]
+
+-- No local changes these, so the table is left out.
+pub record FieldFound (s S : List ℕ) (env : Env) (i : ℕ) (r : Found) : Type 0 where
+  pub found : foundField s r ≡ typing.fieldOf (envOf s [] env) (exprAt s i)
+  pub kind : Of S 6 r
+
+pub record KeyedFound (s S : List ℕ) (env : Env) (i : ℕ) (r : Found) : Type 0 where
+  pub found : foundField s r ≡ typing.keyedField (envOf s [] env) (exprAt s i)
+  pub kind : Of S 6 r

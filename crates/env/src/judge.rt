@@ -1,0 +1,169 @@
+// The judging of types that were asked.
+use crate::env::Env;
+use crate::env::is_name_param;
+use declared::Done;
+use declared::Refusal;
+use declared::compatible;
+use declared::is_zero_literal;
+use declared::numeric;
+ghost use mathlib.Core.Bool.{_&&_};
+ghost use mathlib.Core.Path.{_≡_};
+ghost use lib.Dec.{eqb};
+ghost use lib.ListN.{getD};
+ghost use Rattle.rules.specs.Ast.{binOps, Neg, Shr, unaryOps};
+ghost use Rattle.rules.specs.Declared.{isZeroLiteral};
+ghost use Rattle.rules.specs.Standing.{exprAt};
+ghost use Rattle.rules.specs.Typing.{judgeBinary, judgeUnary};
+ghost use Rattle.rules.specs.Typing.{arithmetic as arithmeticOf, equality as equalityOf, logical as logicalOf, ordering as orderingOf};
+ghost use Rattle.env.specs.Answers.{Judged, Judged2, JudgedIn, JudgesAmount, JudgesKey, Operands};
+ghost use Rattle.declared.specs.Lines.{ExprAt};
+ghost use Rattle.env.specs.Force.{ExprIn};
+
+pub enum Typed {
+    Is(u8),
+    Refused(Refusal),
+}
+
+pub fn judge_unary(op: usize, inner: usize, ty: u8) -> Typed
+    ensures { λ r. ⌜ Judged (λ s. judgeUnary (getD unaryOps op Neg) (exprAt s inner)) ty r ⌝ }
+{
+    if op == 0 {
+        if (ty == 2) | (ty == 10) {
+            Typed::Is(2)
+        } else {
+            Typed::Refused(Refusal::Not(inner))
+        }
+    } else {
+        if (ty == 1) | (ty == 10) {
+            Typed::Is(1)
+        } else {
+            Typed::Refused(Refusal::Neg(inner))
+        }
+    }
+}
+
+fn logical(left: usize, right: usize, l: u8, r: u8) -> Typed
+    ensures { λ a. ⌜ Judged2 (λ s. logicalOf (exprAt s left) (exprAt s right)) l r a ⌝ }
+{
+    if !((l == 2) | (l == 10)) {
+        return Typed::Refused(Refusal::Logical(left));
+    }
+    if !((r == 2) | (r == 10)) {
+        return Typed::Refused(Refusal::Logical(right));
+    }
+    Typed::Is(2)
+}
+
+fn arithmetic(left: usize, right: usize, l: u8, r: u8) -> Typed
+    ensures { λ a. ⌜ Judged2 (λ s. arithmeticOf (exprAt s left) (exprAt s right)) l r a ⌝ }
+{
+    if !numeric(l) {
+        return Typed::Refused(Refusal::Arithmetic(left));
+    }
+    if !numeric(r) {
+        return Typed::Refused(Refusal::Arithmetic(right));
+    }
+    Typed::Is(1)
+}
+
+fn ordering(left: usize, right: usize, l: u8, r: u8) -> Typed
+    ensures { λ a. ⌜ Judged2 (λ s. orderingOf (exprAt s left) (exprAt s right)) l r a ⌝ }
+{
+    if !numeric(l) {
+        return Typed::Refused(Refusal::Ordering(left));
+    }
+    if !numeric(r) {
+        return Typed::Refused(Refusal::Ordering(right));
+    }
+    Typed::Is(2)
+}
+
+// Whether a type is an address, and the other side the zero that means none.
+fn absent(sheet: &[u8], lines: &[u16], ty: u8, other: usize) -> bool
+    requires { ⌜ ExprAt (now sheet) (now lines) other ⌝ }
+    ensures { λ r. ⌜ r ≡ (eqb ty 3 && isZeroLiteral (exprAt (now (sheet .entry)) other)) ⌝ }
+{
+    (ty == 3) & is_zero_literal(sheet, lines, other)
+}
+
+fn equality(sheet: &[u8], lines: &[u16], left: usize, right: usize, l: u8, r: u8) -> Typed
+    requires { ⌜ Operands (now sheet) (now lines) left right ⌝ }
+    ensures { λ a. ⌜ JudgedIn (now (sheet .entry)) (equalityOf (exprAt (now (sheet .entry)) left) (exprAt (now (sheet .entry)) right)) l r a ⌝ }
+{
+    if (l == 6) | (r == 6) {
+        return Typed::Refused(Refusal::Names(left));
+    }
+    if compatible(l, r) | absent(sheet, lines, l, right) | absent(sheet, lines, r, left) {
+        Typed::Is(2)
+    } else {
+        Typed::Refused(Refusal::Compared { right, l, r })
+    }
+}
+
+// Judges the types of both sides by the operator's place among document 01's.
+pub fn judge_binary(
+    sheet: &[u8],
+    lines: &[u16],
+    op: usize,
+    left: usize,
+    right: usize,
+    l: u8,
+    r: u8,
+) -> Typed
+    requires { ⌜ Operands (now sheet) (now lines) left right ⌝ }
+    ensures { λ a. ⌜ JudgedIn (now (sheet .entry)) (judgeBinary (getD binOps op Shr) (exprAt (now (sheet .entry)) left) (exprAt (now (sheet .entry)) right)) l r a ⌝ }
+{
+    if op < 2 {
+        return logical(left, right, l, r);
+    }
+    if op < 4 {
+        return equality(sheet, lines, left, right, l, r);
+    }
+    if op < 8 {
+        return ordering(left, right, l, r);
+    }
+    arithmetic(left, right, l, r)
+}
+
+// Judges the amount that the method of the dot at line callee moves.
+pub fn judge_amount(callee: usize, arg: usize, got: u8) -> Done
+    ensures { λ r. ⌜ JudgesAmount callee arg got r ⌝ }
+{
+    if (got == 1) | ((got == 4) | (got == 10)) {
+        Done::Fine
+    } else {
+        Done::Refused(Refusal::Amount { callee, arg })
+    }
+}
+
+// Judges a key or value of the Map or Registry at line field.
+pub fn judge_key(
+    sheet: &[u8],
+    lines: &[u16],
+    env: Env,
+    field: usize,
+    is_key: bool,
+    arg: usize,
+    want: u8,
+    got: u8,
+) -> Done
+    requires { ⌜ ExprIn (now sheet) (now lines) env arg ⌝ }
+    ensures { λ r. ⌜ JudgesKey (now (sheet .entry)) env field «is_key» arg want got r ⌝ }
+{
+    if (got == 6) & !is_name_param(sheet, lines, env, arg) {
+        return Done::Refused(Refusal::Straight { field, arg });
+    }
+    if (want == 6) & (got != 6) {
+        return Done::Refused(Refusal::ByName { field, arg });
+    }
+    if (is_key & (got == 6)) | compatible(want, got) {
+        Done::Fine
+    } else {
+        Done::Refused(Refusal::Holds {
+            field,
+            arg,
+            want,
+            got,
+        })
+    }
+}
