@@ -1,0 +1,4 @@
+pub mod Kept
+pub mod Sizes
+pub mod Arguments
+pub mod Guardians

@@ -1,0 +1,9 @@
+-- Tests of the code that the rules have no name for.
+use Prim.Native.Nat.{ℕ}
+use mathlib.Core.Bool.{Bool, false, _&&_}
+use mathlib.Core.Option.{Option, none, some}
+use lib.Dec.{leb}
+
+-- a guardian set may have so many members
+unfoldable pub sizeFits : Option ℕ → Bool
+sizeFits members = elim members [ none ↦ false | some n ↦ leb 1 n && leb n 256 ]
