@@ -1,4 +1,5 @@
-pub mod Kept
+pub mod Silent
 pub mod Sizes
 pub mod Arguments
 pub mod Guardians
+pub mod Known

@@ -1,9 +1,16 @@
 -- Tests of the code that the rules have no name for.
 use Prim.Native.Nat.{ℕ}
 use mathlib.Core.Bool.{Bool, false, _&&_}
+use mathlib.Core.List.{[], _∷_}
 use mathlib.Core.Option.{Option, none, some}
 use lib.Dec.{leb}
+use Rattle.rules.specs.Asking.{Ty, Int, Boolean, Address, Word64, TName, Time}
+use Rattle.rules.specs.Declared.{isTy}
 
 -- a guardian set may have so many members
 unfoldable pub sizeFits : Option ℕ → Bool
 sizeFits members = elim members [ none ↦ false | some n ↦ leb 1 n && leb n 256 ]
+
+-- such a type takes no arguments
+unfoldable pub takesNone : Ty → Bool
+takesNone t = isTy t (Int ∷ Boolean ∷ Time ∷ Address ∷ Word64 ∷ TName ∷ [])
