@@ -3,3 +3,4 @@ pub mod Sizes
 pub mod Arguments
 pub mod Guardians
 pub mod Known
+pub mod Storing

@@ -1,19 +1,38 @@
--- A rule that asked nothing has the same answer on any table, and leaves the table as it was. Assumes nothing.
+-- What follows where a rule asked nothing. Assumes nothing.
 use mathlib.Core.Path.{_≡_, refl, sym, ap, _∙_}
-use mathlib.Core.List.{List, [], _∷_, _++_}
-use Prim.Native.Nat.{ℕ, suc, _+_}
+use mathlib.Core.List.{List, []}
+use Prim.Native.Nat.{ℕ}
 use native.Mathlib.Omega.{arith}
 use lib.ListN.{length, length-append}
-use Rattle.rules.specs.Asking.{Ty, Res, ok, refused, Rule, ret, refuse, ask, Asking, Out, ended, fresh}
+use Rattle.rules.specs.Asking.{Ty, Res, ok, refused, Rule, ret, refuse, ask, Asking, Out, ended, fresh, _>>_, _>>=_}
 use Rattle.rules.specs.Kept.{Table, kept}
+use Rattle.declared.specs.Refusal.{doneOf}
+use Rattle.declared.specs.declared.refusal.Refusal.{Refusal}
+use Rattle.declared.specs.declared.refusal.Done.{Done}
+use Rattle.declared.specs.declared.refusal.Done.the-variants.{Fine, Refused}
+use Rattle.declarations.specs.Answers.{outOf}
 
 asks : {A : Type 0} (l : ℕ) (r : Res Ty) (as' : List Asking) (f : Ty → Out A) → ended l r as' f .log ≡ [] → ⊥
 unfolding ended
 asks l (ok t) as' f e = omega (arith, simp length-append at (ap length e))
 asks l (refused r) as' f e = omega (arith, simp length-append at (ap length e))
 
-pub kept-silent : {A : Type 0} (p : Rule A) (x : Res A) (T : Table) → fresh p ≡ record { res = x; log = [] } → kept p T ≡ record { res = x; table = T }
-unfolding fresh kept
-kept-silent (ret a) x T e = rw (← ap (λ o. o .res) e) refl
-kept-silent (refuse r) x T e = rw (← ap (λ o. o .res) e) refl
-kept-silent (ask g l p k) x T e = absurd (asks l _ _ _ (ap (λ o. o .log) e))
+-- it has the same answer on any table, and leaves the table as it was
+pub kept-silent : (p : Rule Unit) (s : List ℕ) (r : Done) (T : Table) → fresh p ≡ outOf s r → kept p T ≡ record { res = doneOf s r; table = T }
+unfolding fresh kept outOf
+kept-silent (ret a) s r T e = rw (← ap (λ o. o .res) e) refl
+kept-silent (refuse x) s r T e = rw (← ap (λ o. o .res) e) refl
+kept-silent (ask g l p k) s r T e = absurd (asks l _ _ _ (ap (λ o. o .log) e))
+
+-- a rule goes on behind it, or ends with it
+pub then-fine : (p q : Rule Unit) (s : List ℕ) → fresh p ≡ outOf s Fine → fresh (p >> q) ≡ fresh q
+unfolding fresh outOf doneOf _>>_ _>>=_
+then-fine (ret a) q s e = refl
+then-fine (refuse x) q s e = absurd (let y = ap (λ o. o .res) e in let z : _≡_ {A = ℕ} 0 1 = cc in omega arith)
+then-fine (ask g l p k) q s e = absurd (asks l _ _ _ (ap (λ o. o .log) e))
+
+pub then-refused : (p q : Rule Unit) (s : List ℕ) (why : Refusal) → fresh p ≡ outOf s (Refused why) → fresh (p >> q) ≡ outOf s (Refused why)
+unfolding fresh outOf doneOf _>>_ _>>=_
+then-refused (ret a) q s why e = absurd (let y = ap (λ o. o .res) e in let z : _≡_ {A = ℕ} 0 1 = cc in omega arith)
+then-refused (refuse x) q s why e = e
+then-refused (ask g l p k) q s why e = absurd (asks l _ _ _ (ap (λ o. o .log) e))

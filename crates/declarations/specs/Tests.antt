@@ -4,7 +4,7 @@ use mathlib.Core.Bool.{Bool, false, _&&_}
 use mathlib.Core.List.{[], _∷_}
 use mathlib.Core.Option.{Option, none, some}
 use lib.Dec.{leb}
-use Rattle.rules.specs.Asking.{Ty, Int, Boolean, Address, Word64, TName, Time}
+use Rattle.rules.specs.Asking.{Ty, Int, Boolean, Address, Asset, Word64, TName, Time, Str, Collection, Unknown}
 use Rattle.rules.specs.Declared.{isTy}
 
 -- a guardian set may have so many members
@@ -14,3 +14,7 @@ sizeFits members = elim members [ none ↦ false | some n ↦ leb 1 n && leb n 2
 -- such a type takes no arguments
 unfoldable pub takesNone : Ty → Bool
 takesNone t = isTy t (Int ∷ Boolean ∷ Time ∷ Address ∷ Word64 ∷ TName ∷ [])
+
+-- such a type is neither key nor value
+unfoldable pub refusedInside : Ty → Bool
+refusedInside t = isTy t (Unknown ∷ Asset ∷ Str ∷ Collection ∷ [])

@@ -4,3 +4,4 @@ mod stored;
 
 pub use guardian::guardian_bound;
 pub use stored::event_field_type;
+pub use stored::storable;
