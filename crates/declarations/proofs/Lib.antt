@@ -4,3 +4,4 @@ pub mod Arguments
 pub mod Guardians
 pub mod Known
 pub mod Storing
+pub mod Digests
