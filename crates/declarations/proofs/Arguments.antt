@@ -1,21 +1,20 @@
 -- The arguments of a declared type over loaded lines. Assumes nothing.
 use mathlib.Core.Path.{_≡_, refl, sym, ap, _∙_}
-use mathlib.Core.Logic.{_≢_}
 use mathlib.Core.List.{List, [], _∷_, map}
 use mathlib.Core.Bool.{Bool}
-use Prim.Native.Nat.{ℕ, zero, suc, _+_, _-_, _<_, _≤_}
+use Prim.Native.Nat.{ℕ, suc, _-_}
 use Prim.Native.String.{String}
 use native.Mathlib.Omega.{arith}
 use lib.ListN.{length, getD}
 use Rattle.text.specs.Text.{bytes, same}
 use Rattle.sheet.specs.Grammar as grammar
 use Rattle.sheet.specs.Scratch.{nameAt, kindAt, endAt, entry}
-use Rattle.sheet.specs.Tree.{Nodes, nil, takeNodes}
+use Rattle.sheet.specs.Tree.{takeNodes}
 use Rattle.rules.specs.Text.{Name, is}
-use Rattle.rules.specs.Ast.{Arg, ofType, ofInt, mOfN, typeName, typeOf, argOf, argsOf, args, nodes}
+use Rattle.rules.specs.Ast.{Arg, ofType, ofInt, mOfN, typeName, typeOf, argOf, args, nodes}
 use Rattle.rules.specs.Standing.{typeAt, argAt, nodesAt, Loaded, Here, Row}
 use Rattle.rules.proofs.Parts.{stop, _also_, pick}
-use Rattle.rules.proofs.Standing.{stands, nodes-next, nodes-length, row-first, row-rest}
+use Rattle.rules.proofs.Standing.{stands, nodes-next, nodes-length}
 use Rattle.declared.specs.Lines.{Typed}
 use Rattle.declared.proofs.Types.{type-name, args-at}
 

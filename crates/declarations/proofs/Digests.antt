@@ -3,28 +3,30 @@ use mathlib.Core.Path.{_≡_, refl, sym, ap, _∙_}
 use mathlib.Core.Logic.{_≢_}
 use mathlib.Core.List.{List, [], _∷_}
 use mathlib.Core.Bool.{Bool, true, false, not, _&&_, _||_, and-eq-true-iff}
-use Prim.Native.Nat.{ℕ, zero, suc, _+_, _-_, _≤_, _<_}
+use Prim.Native.Nat.{ℕ, suc, _+_, _-_, _≤_, _<_}
 use Prim.Native.String.{String}
 use native.Mathlib.Numerals.{add-one}
 use native.Mathlib.Omega.{arith}
-use lib.Dec.{eqb, leb}
+use lib.Dec.{leb}
 use lib.ListN.{length, getD, take, drop, drop-of-length-le, length-drop}
 use lib.Seq.{drop-cons, take-all}
 use borrow.Author.Tests.{eq-eqb, ne-eqb, leb-true, not-true, not-false}
 use Rattle.text.specs.Text.{bytes, same}
 use Rattle.sheet.specs.Scratch.{nameAt}
 use Rattle.rules.specs.Text.{Name, is}
-use Rattle.rules.specs.Ast.{Param, typeName, paramOf}
+use Rattle.rules.specs.Ast.{typeName, paramOf}
 use Rattle.rules.specs.Asking.{expect, fresh}
 use Rattle.rules.specs.Declarations.{lower, startsWith, contains, containsAny, refuseWord64AsDigest}
 use Rattle.rules.specs.Standing.{typeAt, paramAt}
 use Rattle.rules.proofs.Standing.{stands}
 use Rattle.declared.specs.Refusal.{refusalOf, doneOf}
 use Rattle.declared.specs.declared.refusal.Refusal.the-variants.{Digest}
-use Rattle.declared.specs.declared.refusal.Done.the-variants.{Fine, Refused}
-use Rattle.declarations.specs.Answers.{outOf}
+use Rattle.declared.specs.declared.refusal.Done.{Done}
+use Rattle.declared.specs.declared.refusal.Done.the-variants.{Fine}
+use Rattle.declarations.specs.Answers.{outOf, expected}
 use Rattle.declarations.specs.Lines.{Named}
 use Rattle.declarations.specs.Tests.{small, digestWords}
+use Rattle.declarations.proofs.Silent.{expects}
 use Rattle.declarations.proofs.Arguments.{named-word}
 
 pub capital : (b : ℕ) → (leb 65 b && leb b 90) ≡ true → b ≤ 90
@@ -123,10 +125,6 @@ module _ (s S : List ℕ) (i : ℕ) (x : Name) (v : Bool) (h : Named s S i) (e :
     unfolding paramAt paramOf
     names = q ∙ ap (λ y. containsAny (lower y) digestWords) (z ∙ (let t = stands (h .loaded) i (h .within) in rw (t .here) (t .spells .name)))
 
-    pub digest-refused : d ≡ true → fresh (refuseWord64AsDigest (paramAt s i .name) (typeAt s (suc i))) ≡ outOf s (Refused (Digest i))
-    unfolding refuseWord64AsDigest expect fresh outOf doneOf refusalOf
-    digest-refused k = rw (← word64, not-false v g, ← names, k) refl
-
-    pub digest-fine : d ≡ false → fresh (refuseWord64AsDigest (paramAt s i .name) (typeAt s (suc i))) ≡ outOf s Fine
-    unfolding refuseWord64AsDigest expect fresh outOf doneOf
-    digest-fine k = rw (← word64, not-false v g, ← names, k) refl
+    pub digest-judged : (r : Done) → r ≡ expected (not d) (Digest i) → fresh (refuseWord64AsDigest (paramAt s i .name) (typeAt s (suc i))) ≡ outOf s r
+    unfolding refuseWord64AsDigest refusalOf
+    digest-judged r k = rw (← word64, not-false v g, ← names) (expects s (not d) (Digest i) r k)

@@ -1,29 +1,29 @@
 -- Guardian sets over loaded lines. Assumes nothing.
-use mathlib.Core.Path.{_≡_, refl, sym, ap, _∙_}
+use mathlib.Core.Path.{_≡_, refl, _∙_}
 use mathlib.Core.Logic.{_≢_}
-use mathlib.Core.List.{List, [], _∷_}
-use mathlib.Core.Bool.{Bool, true, false, not, _||_}
-use mathlib.Core.Option.{none}
-use Prim.Native.Nat.{ℕ, suc, _+_, _-_, _<_, _≤_}
+use mathlib.Core.List.{List, _∷_}
+use mathlib.Core.Bool.{Bool, false, not, _||_}
+use Prim.Native.Nat.{ℕ, suc, _+_, _-_}
 use native.Mathlib.Numerals.{add-one}
 use native.Mathlib.Omega.{arith}
 use Rattle.text.specs.Text.{bytes, same}
 use Rattle.sheet.specs.Grammar as grammar
 use Rattle.sheet.specs.Scratch.{nameAt, kindAt, endAt, entry}
-use Rattle.rules.specs.Text.{Name, is}
+use Rattle.rules.specs.Text.{Name}
 use Rattle.rules.specs.Ast.{Arg, args}
-use Rattle.rules.specs.Asking.{expect, fresh}
+use Rattle.rules.specs.Asking.{fresh}
 use Rattle.rules.specs.Declared.{parseU64}
 use Rattle.rules.specs.Declarations.{membersOf, guardianFits, guardianBound}
-use Rattle.rules.specs.Standing.{typeAt, argAt, Here}
+use Rattle.rules.specs.Standing.{typeAt, Here}
 use Rattle.rules.proofs.Parts.{stop, _also_, pick}
 use Rattle.rules.proofs.Standing.{row-first}
 use Rattle.declared.specs.Lines.{Typed}
-use Rattle.declared.specs.Refusal.{refusalOf, doneOf}
+use Rattle.declared.specs.Refusal.{refusalOf}
 use Rattle.declared.specs.declared.refusal.Refusal.the-variants.{Guardian}
-use Rattle.declared.specs.declared.refusal.Done.the-variants.{Fine, Refused}
-use Rattle.declarations.specs.Answers.{outOf}
+use Rattle.declared.specs.declared.refusal.Done.{Done}
+use Rattle.declarations.specs.Answers.{outOf, expected}
 use Rattle.declarations.specs.Tests.{sizeFits}
+use Rattle.declarations.proofs.Silent.{expects}
 use Rattle.declarations.proofs.Arguments.{named-word, argsAt, args-next, args-none, told, arg-told, args-here, args-row}
 
 -- What `members_fit` meets: m arguments, of which the first has the kind k.
@@ -68,10 +68,6 @@ pub guardian-fits : (s S : List ℕ) (i : ℕ) (x : Name) (w m : Bool) → Typed
 unfolding guardianFits sizeFits
 guardian-fits s S i x w m h e f g = rw (named-word s S i x "GuardianSet" w h e f, g) refl
 
-pub guardian-fine : (s : List ℕ) (i : ℕ) (b : Bool) → b ≡ guardianFits (typeAt s i) → b ≡ true → fresh (guardianBound (typeAt s i)) ≡ outOf s Fine
-unfolding guardianBound expect fresh outOf doneOf
-guardian-fine s i b e f = rw (sym e ∙ f) refl
-
-pub guardian-refused : (s : List ℕ) (i : ℕ) (b : Bool) → b ≡ guardianFits (typeAt s i) → b ≡ false → fresh (guardianBound (typeAt s i)) ≡ outOf s (Refused (Guardian i))
-unfolding guardianBound expect fresh outOf doneOf refusalOf
-guardian-refused s i b e f = rw (sym e ∙ f) refl
+pub guardian-bound : (s : List ℕ) (i : ℕ) (b : Bool) (r : Done) → b ≡ guardianFits (typeAt s i) → r ≡ expected b (Guardian i) → fresh (guardianBound (typeAt s i)) ≡ outOf s r
+unfolding guardianBound refusalOf
+guardian-bound s i b r e f = rw (← e) (expects s b (Guardian i) r f)

@@ -13,11 +13,11 @@ use Rattle.text.specs.Text.{bytes, same}
 use Rattle.sheet.specs.Grammar as grammar
 use Rattle.sheet.specs.Scratch.{nameAt, kindAt, endAt, entry}
 use Rattle.rules.specs.Text.{Name, is, pick}
-use Rattle.rules.specs.Ast.{Type', args, typeName}
-use Rattle.rules.specs.Asking.{code, Out, expect, fresh, _>>_, _>>=_}
+use Rattle.rules.specs.Ast.{args, typeName}
+use Rattle.rules.specs.Asking.{code, expect, fresh, _>>_, _>>=_}
 use Rattle.rules.specs.Declared.{tyOfDecl, eqTy}
 use Rattle.rules.specs.Declarations.{innerFits, storableArg, storableArgs, storableKeyed, known, arityOf, storableAs, storable}
-use Rattle.rules.specs.Standing.{typeAt, argAt, Loaded, Here, Row}
+use Rattle.rules.specs.Standing.{typeAt, argAt, Here, Row}
 use Rattle.rules.proofs.Parts.{stop, _also_}
 use Rattle.rules.proofs.Parts as parts
 use Rattle.rules.proofs.Standing.{row-first, row-rest}
@@ -29,9 +29,9 @@ use Rattle.declared.specs.declared.refusal.Refusal.{Refusal}
 use Rattle.declared.specs.declared.refusal.Refusal.the-variants.{NameStored, Arity, OnlyTypes, Inner}
 use Rattle.declared.specs.declared.refusal.Done.{Done}
 use Rattle.declared.specs.declared.refusal.Done.the-variants.{Fine, Refused}
-use Rattle.declarations.specs.Answers.{outOf}
+use Rattle.declarations.specs.Answers.{outOf, expected}
 use Rattle.declarations.specs.Tests.{refusedInside}
-use Rattle.declarations.proofs.Silent.{then-fine, then-refused}
+use Rattle.declarations.proofs.Silent.{expects, then-fine, then-refused}
 use Rattle.declarations.proofs.Arguments.{named-word, argsAt, args-next, args-none, told, arg-told, args-here, args-row, args-count}
 
 -- ------------------------------------------------------------ how many arguments
@@ -91,14 +91,10 @@ module _ (s S : List ℕ) (i j k : ℕ) (key : Bool) (h : Typed s S i) (a : Here
       ((λ e. absurd (e refl)) also (λ e. refl) also (λ e. refl) also stop)
       (omega (arith, a .kind .0, f)) (omega (arith, a .kind .1, f)) e)
 
-  module _ (b : Bool) (e : k ≡ 8) (q : b ≡ innerFits (typeName (typeAt s i)) key (typeAt s j)) where
-    pub arg-fine : b ≡ true → fresh (storableArg (typeAt s i) key (argAt s j)) ≡ outOf s Fine
-    unfolding storableArg expect fresh outOf doneOf
-    arg-fine z = rw (arg-told s S j k (h .loaded) a f, e, ← q, z) refl
-
-    pub arg-refused : b ≡ false → fresh (storableArg (typeAt s i) key (argAt s j)) ≡ outOf s (Refused (Inner i j key))
-    unfolding storableArg expect fresh outOf doneOf refusalOf
-    arg-refused z = rw (arg-told s S j k (h .loaded) a f, e, ← q, z) refl
+  pub arg-judged : (b : Bool) (r : Done) → k ≡ 8 → b ≡ innerFits (typeName (typeAt s i)) key (typeAt s j) → r ≡ expected b (Inner i j key)
+      → fresh (storableArg (typeAt s i) key (argAt s j)) ≡ outOf s r
+  unfolding storableArg refusalOf
+  arg-judged b r e q g = rw (arg-told s S j k (h .loaded) a f, e, ← q) (expects s b (Inner i j key) r g)
 
 -- ------------------------------------------------------------ all arguments
 

@@ -1,4 +1,5 @@
 // Names that speak of a digest, which a Q_Word64 can't hold.
+use crate::answer::expect;
 use declared::Done;
 use declared::Refusal;
 use sheet::name;
@@ -84,8 +85,8 @@ pub fn refuse_word64_as_digest(sheet: &[u8], lines: &[u16], named: usize) -> Don
     if !is_word(name(sheet, lines, named + 1), b"Q_Word64") {
         return Done::Fine;
     }
-    if has_digest(name(sheet, lines, named)) {
-        return Done::Refused(Refusal::Digest(named));
-    }
-    Done::Fine
+    expect(
+        !has_digest(name(sheet, lines, named)),
+        Refusal::Digest(named),
+    )
 }

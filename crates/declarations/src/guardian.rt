@@ -1,4 +1,5 @@
 // Guardian sets.
+use crate::answer::expect;
 use declared::Done;
 use declared::Refusal;
 use sheet::first;
@@ -73,8 +74,5 @@ pub fn guardian_bound(sheet: &[u8], lines: &[u16], ty: usize) -> Done
     requires { ⌜ Typed (now sheet) (now lines) ty ⌝ }
     ensures { λ r. ⌜ fresh (guardianBound (typeAt (now (sheet .entry)) ty)) ≡ outOf (now (sheet .entry)) r ⌝ }
 {
-    if guardian_fits(sheet, lines, ty) {
-        return Done::Fine;
-    }
-    Done::Refused(Refusal::Guardian(ty))
+    expect(guardian_fits(sheet, lines, ty), Refusal::Guardian(ty))
 }

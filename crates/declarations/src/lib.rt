@@ -1,4 +1,5 @@
 // Declarations over loaded lines: module 2.
+mod answer;
 mod digest;
 mod guardian;
 mod stored;

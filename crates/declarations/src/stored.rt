@@ -1,4 +1,5 @@
 // Types that a state field or an event's parameter may have.
+use crate::answer::expect;
 use declared::Done;
 use declared::Refusal;
 use declared::ty_of_decl;
@@ -37,10 +38,10 @@ fn known(sheet: &[u8], lines: &[u16], ty: usize) -> Done
     if decl == 10 {
         return Done::Refused(Refusal::UnknownType(ty));
     }
-    if !takes_no_args(decl) | (first(lines, ty) == 0) {
-        return Done::Fine;
-    }
-    Done::Refused(Refusal::NoArguments(ty))
+    expect(
+        !takes_no_args(decl) | (first(lines, ty) == 0),
+        Refusal::NoArguments(ty),
+    )
 }
 
 pub fn event_field_type(sheet: &[u8], lines: &[u16], ty: usize) -> Done
@@ -92,14 +93,12 @@ fn storable_arg(sheet: &[u8], lines: &[u16], ty: usize, arg: usize, key: bool) -
     if kind(lines, arg) != 8 {
         return Done::Refused(Refusal::OnlyTypes(ty));
     }
-    if inner_fits(sheet, lines, ty, arg, key) {
-        return Done::Fine;
-    }
-    Done::Refused(Refusal::Inner {
+    let why = Refusal::Inner {
         ty: ty,
         inner: arg,
         is_key: key,
-    })
+    };
+    expect(inner_fits(sheet, lines, ty, arg, key), why)
 }
 
 fn storable_args(sheet: &[u8], lines: &[u16], ty: usize) -> Done

@@ -1,5 +1,5 @@
 use borrow.Author.Needs.{needs}
-use Rattle.declarations.proofs.Digests.{digest-other, digest-refused, digest-fine}
+use Rattle.declarations.proofs.Digests.{digest-other, digest-judged}
 use Rattle.declarations.proofs.digest.refuse_word64_as_digest.Statement.{statement}
 use Rattle.declarations.proofs.digest.refuse_word64_as_digest.Tie as tie
 
@@ -14,5 +14,5 @@ refuse-word64-as-digest-spec =
     (λ c. search (needs, digest-other))
     (λ c κs. search needs)
     (λ c κs. search needs)
-    (λ c. search (needs, digest-refused))
-    (λ c. search (needs, digest-fine)))
+    (λ c κs. search needs)
+    (λ c. search (needs, digest-judged)))

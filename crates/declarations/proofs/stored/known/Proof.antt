@@ -1,5 +1,5 @@
 use borrow.Author.Needs.{needs}
-use Rattle.declarations.proofs.Known.{known-unknown, known-fine, known-refused}
+use Rattle.declarations.proofs.Known.{known-unknown, known-args}
 use Rattle.declarations.proofs.stored.known.Statement.{statement}
 use Rattle.declarations.proofs.stored.known.Tie as tie
 
@@ -11,5 +11,5 @@ known-spec =
     (λ c. search (needs, known-unknown))
     (λ c κs. search needs)
     (λ c κs. search needs)
-    (λ c. search (needs, known-fine))
-    (λ c. search (needs, known-refused)))
+    (λ c κs. search needs)
+    (λ c. search (needs, known-args)))

@@ -1,5 +1,5 @@
 use borrow.Author.Needs.{needs}
-use Rattle.declarations.proofs.Storing.{arg-type, arg-other, arg-fine, arg-refused}
+use Rattle.declarations.proofs.Storing.{arg-type, arg-other, arg-judged}
 use Rattle.declarations.proofs.stored.storable_arg.Statement.{statement}
 use Rattle.declarations.proofs.stored.storable_arg.Tie as tie
 
@@ -10,5 +10,5 @@ storable-arg-spec =
     (λ c κs. search needs)
     (λ c. search (needs, arg-other))
     (λ c κs. search (needs, arg-type))
-    (λ c. search (needs, arg-fine))
-    (λ c. search (needs, arg-refused)))
+    (λ c κs. search needs)
+    (λ c. search (needs, arg-judged)))
