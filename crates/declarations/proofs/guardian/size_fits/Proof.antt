@@ -15,6 +15,10 @@ Inv-loop text n₀ i₀ n i = (n ≤ 256) × (sizeFits (parseU64 text) ≡ left 
 abbrev μ-loop : tie.MeasureT-loop
 μ-loop text n₀ i₀ n i = length text - i
 
+-- the number stays at most 256
+loop-again-2 : tie.Need-loop-again-2 Inv-loop μ-loop
+loop-again-2 c = search (needs, size-more)
+
 pub size-fits-spec : {M : Type 1} → statement M
 size-fits-spec =
     tie.close
@@ -30,5 +34,5 @@ size-fits-spec =
     (λ c. search (needs, size-high))
     (λ c. search needs)
     (λ c. search needs)
-    (λ c. search (needs, size-more))
+    loop-again-2
     (λ c. search (needs, size-over)))
