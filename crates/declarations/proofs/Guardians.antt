@@ -1,0 +1,73 @@
+-- Guardian sets over loaded lines. Assumes nothing.
+use mathlib.Core.Path.{_≡_, refl, _∙_}
+use mathlib.Core.Logic.{_≢_}
+use mathlib.Core.List.{List, _∷_}
+use mathlib.Core.Bool.{Bool, false, not, _||_}
+use Prim.Native.Nat.{ℕ, suc, _+_, _-_}
+use native.Mathlib.Numerals.{add-one}
+use native.Mathlib.Omega.{arith}
+use Rattle.text.specs.Text.{bytes, same}
+use Rattle.sheet.specs.Grammar as grammar
+use Rattle.sheet.specs.Scratch.{nameAt, kindAt, endAt, entry}
+use Rattle.rules.specs.Text.{Name}
+use Rattle.rules.specs.Ast.{Arg, args}
+use Rattle.rules.specs.Asking.{fresh}
+use Rattle.rules.specs.Declared.{parseU64}
+use Rattle.rules.specs.Declarations.{membersOf, guardianFits, guardianBound}
+use Rattle.rules.specs.Standing.{typeAt, Here}
+use Rattle.rules.proofs.Parts.{stop, _also_, pick}
+use Rattle.rules.proofs.Standing.{row-first}
+use Rattle.declared.specs.Lines.{Typed}
+use Rattle.declared.specs.Refusal.{refusalOf}
+use Rattle.declared.specs.declared.refusal.Refusal.the-variants.{Guardian}
+use Rattle.declared.specs.declared.refusal.Done.{Done}
+use Rattle.declarations.specs.Answers.{outOf, expected}
+use Rattle.declarations.specs.Tests.{sizeFits}
+use Rattle.declarations.proofs.Silent.{expects}
+use Rattle.declarations.proofs.Arguments.{named-word, argsAt, args-next, args-none, told, arg-told, args-here, args-row}
+
+-- What `members_fit` meets: m arguments, of which the first has the kind k.
+module _ (s S : List ℕ) (i m : ℕ) (h : Typed s S i) (c : m ≡ entry S i 5) where
+  pub no-members : m ≡ 0 → false ≡ sizeFits (membersOf (args (typeAt s i)))
+  unfolding sizeFits membersOf
+  no-members e = rw (args-here s S i m h c, e, args-none) refl
+
+  module _ (k : ℕ) (e : m ≢ 0) (f : k ≡ kindAt S (i + 1)) where
+    some-there : m ≡ suc (m - 1)
+    some-there = omega arith
+
+    here : Here S grammar.Arg (suc i)
+    here = row-first (rw some-there at (args-row s S i m h c))
+
+    of-kind : k ≡ kindAt S (suc i)
+    of-kind = rw (← add-one i) f
+
+    abbrev others : List Arg
+    others = argsAt s (m - 1) (endAt S (suc i))
+
+    first : args (typeAt s i) ≡ told s S (suc i) k ∷ others
+    first =
+        args-here s S i m h c
+        ∙ args-next (h .loaded) (m - 1) m (suc i) some-there here
+        ∙ rw (arg-told s S (suc i) k (h .loaded) here of-kind) refl
+
+    pub other-members : k ≢ 9 → false ≡ sizeFits (membersOf (args (typeAt s i)))
+    unfolding sizeFits membersOf
+    other-members g =
+        rw first
+        (pick {P = λ k. k ≢ 9 → false ≡ sizeFits (membersOf (told s S (suc i) k ∷ others))} {i = 8} {n = 3} k
+        ((λ g. refl) also (λ g. absurd (g refl)) also (λ g. refl) also stop)
+        (omega (arith, here .kind .0, of-kind)) (omega (arith, here .kind .1, of-kind)) g)
+
+    pub num-members : (x : Name) (r : Bool) → k ≡ 9 → x ≡ nameAt s S (i + 1) → r ≡ sizeFits (parseU64 x) → r ≡ sizeFits (membersOf (args (typeAt s i)))
+    unfolding membersOf
+    num-members x r g y z = z ∙ rw (first, g, y, add-one) refl
+
+pub guardian-fits : (s S : List ℕ) (i : ℕ) (x : Name) (w m : Bool) → Typed s S i → x ≡ nameAt s S i → w ≡ same x (bytes "GuardianSet")
+    → m ≡ sizeFits (membersOf (args (typeAt s i))) → (not w || m) ≡ guardianFits (typeAt s i)
+unfolding guardianFits sizeFits
+guardian-fits s S i x w m h e f g = rw (named-word s S i x "GuardianSet" w h e f, g) refl
+
+pub guardian-bound : (s : List ℕ) (i : ℕ) (b : Bool) (r : Done) → b ≡ guardianFits (typeAt s i) → r ≡ expected b (Guardian i) → fresh (guardianBound (typeAt s i)) ≡ outOf s r
+unfolding guardianBound refusalOf
+guardian-bound s i b r e f = rw (← e) (expects s b (Guardian i) r f)

@@ -1,0 +1,14 @@
+use mathlib.Core.Path.{refl}
+use Rattle.rules.specs.Asking.{code}
+use Rattle.rules.specs.Declared.{isTy, eqTy}
+use Rattle.declared.proofs.Tables.{or-false}
+use Rattle.declarations.specs.Tests.{refusedInside}
+use Rattle.declarations.proofs.stored.is_refused_inside.Statement.{statement}
+use Rattle.declarations.proofs.stored.is_refused_inside.Tie as tie
+
+returns : tie.Need-returns
+unfolding refusedInside isTy eqTy code
+returns c = record { tests = λ t e. rw (e, or-false) refl }
+
+pub is-refused-inside-spec : {M : Type 1} → statement M
+is-refused-inside-spec = tie.close (tie.spec returns)

@@ -1,0 +1,14 @@
+use mathlib.Core.Path.{refl}
+use Rattle.rules.specs.Asking.{code}
+use Rattle.rules.specs.Declared.{isTy, eqTy}
+use Rattle.declared.proofs.Tables.{or-false}
+use Rattle.declarations.specs.Tests.{takesNone}
+use Rattle.declarations.proofs.stored.takes_no_args.Statement.{statement}
+use Rattle.declarations.proofs.stored.takes_no_args.Tie as tie
+
+returns : tie.Need-returns
+unfolding takesNone isTy eqTy code
+returns c = record { tests = λ t e. rw (e, or-false) refl }
+
+pub takes-no-args-spec : {M : Type 1} → statement M
+takes-no-args-spec = tie.close (tie.spec returns)

@@ -1,0 +1,15 @@
+// How a rule answers.
+use declared::Done;
+use declared::Refusal;
+ghost use mathlib.Core.Path.{_≡_};
+ghost use Rattle.declarations.specs.Answers.{expected};
+
+// Refuses unless the test holds.
+pub fn expect(holds: bool, why: Refusal) -> Done
+    ensures { λ r. ⌜ r ≡ expected holds why ⌝ }
+{
+    if holds {
+        return Done::Fine;
+    }
+    Done::Refused(why)
+}

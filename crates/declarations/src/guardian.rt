@@ -1,0 +1,78 @@
+// Guardian sets.
+use crate::answer::expect;
+use declared::Done;
+use declared::Refusal;
+use sheet::first;
+use sheet::kind;
+use sheet::name;
+use text::is_word;
+ghost use mathlib.Core.Path.{_≡_};
+ghost use Prim.Native.Nat.{_*_, _+_, _-_, _≤_};
+ghost use Rattle.rules.specs.Ast.{args};
+ghost use Rattle.rules.specs.Asking.{fresh};
+ghost use Rattle.rules.specs.Declared.{parseU64};
+ghost use Rattle.rules.specs.Declarations.{guardianBound, guardianFits, membersOf};
+ghost use Rattle.rules.specs.Standing.{typeAt};
+ghost use Rattle.declared.specs.Lines.{Typed};
+ghost use Rattle.declarations.specs.Answers.{outOf};
+ghost use Rattle.declarations.specs.Tests.{sizeFits};
+
+// The number n with one more digit, which is 0 for a byte below the digits.
+fn with_digit(n: usize, b: u8) -> usize
+    requires { ⌜ n ≤ 256 ⌝ }
+    ensures { λ r. ⌜ r ≡ n * 10 + (b - 48) ⌝ }
+{
+    if b < 48 {
+        return n * 10;
+    }
+    n * 10 + (b - 48) as usize
+}
+
+// Whether a text without its underscores is a number from 1 to 256.
+fn size_fits(text: &[u8]) -> bool
+    ensures { λ r. ⌜ r ≡ sizeFits (parseU64 (now (text .entry))) ⌝ }
+{
+    let mut n: usize = 0;
+    let mut i = 0;
+    while i < text.len() {
+        let b = text[i];
+        if b == b'_' {
+            i += 1;
+            continue;
+        }
+        n = with_digit(n, b);
+        if 256 < n {
+            return false;
+        }
+        i += 1;
+    }
+    1 <= n
+}
+
+// Whether the first argument of the `type` record at line ty is a set's size.
+fn members_fit(sheet: &[u8], lines: &[u16], ty: usize) -> bool
+    requires { ⌜ Typed (now sheet) (now lines) ty ⌝ }
+    ensures { λ r. ⌜ r ≡ sizeFits (membersOf (args (typeAt (now (sheet .entry)) ty))) ⌝ }
+{
+    if first(lines, ty) == 0 {
+        return false;
+    }
+    if kind(lines, ty + 1) != 9 {
+        return false;
+    }
+    size_fits(name(sheet, lines, ty + 1))
+}
+
+fn guardian_fits(sheet: &[u8], lines: &[u16], ty: usize) -> bool
+    requires { ⌜ Typed (now sheet) (now lines) ty ⌝ }
+    ensures { λ r. ⌜ r ≡ guardianFits (typeAt (now (sheet .entry)) ty) ⌝ }
+{
+    !is_word(name(sheet, lines, ty), b"GuardianSet") | members_fit(sheet, lines, ty)
+}
+
+pub fn guardian_bound(sheet: &[u8], lines: &[u16], ty: usize) -> Done
+    requires { ⌜ Typed (now sheet) (now lines) ty ⌝ }
+    ensures { λ r. ⌜ fresh (guardianBound (typeAt (now (sheet .entry)) ty)) ≡ outOf (now (sheet .entry)) r ⌝ }
+{
+    expect(guardian_fits(sheet, lines, ty), Refusal::Guardian(ty))
+}
