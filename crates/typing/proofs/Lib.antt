@@ -1,0 +1,5 @@
+pub mod Asking
+pub mod Calls
+pub mod Keys
+pub mod Onward
+pub mod Operators
