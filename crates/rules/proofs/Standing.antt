@@ -174,6 +174,27 @@ row-of (suc k) os e (one-due (formed a p fs) gs) (tree {i = i} (held b y r) rs) 
 pub row-behind : {s S : List ℕ} {i : ℕ} {σ : Sort} (k : ℕ) (rs : List Sort) (t : Stands s S i) → sorts (t .line .parts) ≡ times k σ ++ rs → Row S σ k (suc i)
 row-behind k rs t e = row-of k rs refl (rw e at (t .formed)) (t .held)
 
+-- the parts behind the first k
+rest-of : {S : List ℕ} {n j : ℕ} (σ : Sort) (k : ℕ) (rs : List Sort) {i : ℕ} {ps : Nodes} → FormedAll (times k σ ++ rs) ps → HeldAll S n i j ps
+    → (qs : Nodes) × FormedAll rs qs × HeldAll S n (skip S k i) j qs
+unfolding times skip
+rest-of σ zero os {ps = ps} f h = (ps, f, h)
+rest-of σ (suc k) os (one-due f fs) (tree h hs) = rest-of σ k os fs hs
+
+-- the parts of a second and a third group
+pub row-second : {s S : List ℕ} {i : ℕ} (g h : ℕ × Sort) (gs : List (ℕ × Sort)) (t : Stands s S i) → t .line .parts ≡ g ∷ h ∷ gs → Row S (h .1) (h .0) (skip S (g .0) (suc i))
+unfolding sorts
+row-second g h gs t e =
+    let q = rest-of (g .1) (g .0) _ (rw e at (t .formed)) (t .held) in row-of (h .0) (sorts gs) refl (q .1) (q .2)
+
+pub row-third : {s S : List ℕ} {i : ℕ} (g h l : ℕ × Sort) (gs : List (ℕ × Sort)) (t : Stands s S i) → t .line .parts ≡ g ∷ h ∷ l ∷ gs
+    → Row S (l .1) (l .0) (skip S (h .0) (skip S (g .0) (suc i)))
+unfolding sorts
+row-third g h l gs t e =
+    let q = rest-of (g .1) (g .0) _ (rw e at (t .formed)) (t .held) in
+    let r = rest-of (h .1) (h .0) _ (q .1) (q .2) in
+    row-of (l .0) (sorts gs) refl (r .1) (r .2)
+
 pub row-first : {S : List ℕ} {σ : Sort} {k i : ℕ} → Row S σ (suc k) i → Here S σ i
 row-first (next h r) = h
 

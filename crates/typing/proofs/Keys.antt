@@ -270,7 +270,7 @@ unfolding checkKeys kept
 none-wanted Γ f key [] T = refl
 none-wanted Γ f key (a ∷ as') T = refl
 
-or-parts : (a b : Bool) → (a || b) ≡ false → (a ≡ false) × (b ≡ false)
+pub or-parts : (a b : Bool) → (a || b) ≡ false → (a ≡ false) × (b ≡ false)
 or-parts true b e = absurd (let z : _≡_ {A = ℕ} 0 1 = cc in omega arith)
 or-parts false b e = (refl, e)
 
