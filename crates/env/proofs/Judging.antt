@@ -9,68 +9,29 @@ use native.Mathlib.Omega.{arith}
 use lib.Dec.{eqb}
 use lib.ListN.{getD}
 use borrow.Author.Tests.{not-true, not-false}
-use Rattle.rules.specs.Text.{Piece, lit}
+use Rattle.rules.specs.Text.{lit}
 use Rattle.rules.specs.Ast.{UnaryOp, Not as NotOp, Neg as NegOp, unaryOps, Add, Sub, Mul, Div, Rem, Shr, binOps, Expr, span}
-use Rattle.rules.specs.Asking.{Ty, Int, Boolean, Address, Asset, Word64, TName, Time, Str, Collection, Unknown, code, Res, ok, refused, Rule, ret, _>>=_, _>>_, expect}
-use Rattle.rules.specs.Kept.{kept, tyOfMark}
+use Rattle.rules.specs.Asking.{Ty, Int, Boolean, Address, TName, Unknown, code, Res, Rule, ret, _>>_, expect}
+use Rattle.rules.specs.Kept.{tyOfMark}
 use Rattle.rules.specs.Declared.{eqTy, isTy, numeric, compatible, isZeroLiteral}
 use Rattle.rules.specs.Standing.{exprAt}
 use Rattle.rules.specs.Typing.{expectNumericOr, expectNumber, judgeUnary, logical, arithmetic, ordering, equality, judgeBinary, judgeKey, isNameParam, notText, negText, logicalText, arithmeticText, orderingText, namesText, comparedText}
 use Rattle.rules.proofs.All.{All}
 use Rattle.rules.proofs.Parts.{stop, _also_, pick}
-use Rattle.declared.specs.Codes.{tyFrom, Tests, Tests2}
+use Rattle.declared.specs.Answers.{Answers}
+use Rattle.declared.specs.Codes.{IsCode, tyFrom, Tests, Tests2}
 use Rattle.declared.specs.Refusal.{refusalOf, doneOf}
 use Rattle.declared.specs.declared.refusal.Refusal.{Refusal}
 use Rattle.declared.specs.declared.refusal.Refusal.the-variants.{Not, Neg, Logical, Arithmetic, Ordering, Names, Compared, Amount, Straight, ByName, Holds}
 use Rattle.declared.specs.declared.refusal.Done.the-variants.{Fine, Refused as Wrong}
+use Rattle.declared.proofs.Answers.{gives, fits, misfits, passes, refuses}
+use Rattle.declared.proofs.Codes.{from-code}
 use Rattle.declared.proofs.Tables.{or-false}
-use Rattle.env.specs.Answers.{typedOf, Answers, Judged, Judged2, JudgedIn, JudgesAmount, JudgesKey}
-use Rattle.env.specs.Force.{IsCode, envOf}
+use Rattle.env.specs.Answers.{typedOf, Judged, Judged2, JudgedIn, JudgesAmount, JudgesKey}
+use Rattle.env.specs.Force.{envOf}
 use Rattle.env.specs.declared.env.Env.{Env}
 use Rattle.env.specs.declared.judge.Typed.{Typed}
 use Rattle.env.specs.declared.judge.Typed.the-variants.{Is, Refused}
-
--- ------------------------------------------------------------ one test
-
--- a test before other rules
-pub passes : {A : Type 0} (b : Bool) (n at : ℕ) (ps : List Piece) (q : Rule A) (r : Res A) → b ≡ true → Answers q r → Answers (expect b n at ps >> q) r
-unfolding expect _>>_ _>>=_
-passes b n at ps q r e h = rw e h
-
-pub refuses : {A : Type 0} (b : Bool) (n at : ℕ) (ps : List Piece) (q : Rule A) → b ≡ false
-    → Answers (expect b n at ps >> q) (refused (record { number = n; place = at; text = ps }))
-unfolding expect _>>_ _>>=_ kept
-refuses b n at ps q e = rw e (record { answers = λ T. refl })
-
--- a test by itself
-pub fits : (b : Bool) (n at : ℕ) (ps : List Piece) → b ≡ true → Answers (expect b n at ps) (ok tt)
-unfolding expect kept
-fits b n at ps e = rw e (record { answers = λ T. refl })
-
-pub misfits : (b : Bool) (n at : ℕ) (ps : List Piece) → b ≡ false → Answers (expect b n at ps) (refused (record { number = n; place = at; text = ps }))
-unfolding expect kept
-misfits b n at ps e = rw e (record { answers = λ T. refl })
-
-pub gives : {A : Type 0} (a : A) → Answers (ret a) (ok a)
-unfolding kept
-gives a = record { answers = λ T. refl }
-
--- a type's code tells the type
-from-code : (t : Ty) → tyFrom (code t) ≡ t
-unfolding tyFrom tyOfMark code
-from-code Int = refl
-from-code Boolean = refl
-from-code Address = refl
-from-code Asset = refl
-from-code Word64 = refl
-from-code TName = refl
-from-code Time = refl
-from-code Str = refl
-from-code Collection = refl
-from-code Unknown = refl
-
-ty-from : (c : ℕ) (t : Ty) → c ≡ code t → tyFrom c ≡ t
-ty-from c t e = rw e (from-code t)
 
 -- ------------------------------------------------------------ operands
 
@@ -217,7 +178,7 @@ module _ (s : List ℕ) (i j c d : ℕ) where
         record {
           judged = λ t u k l.
               passes (not (eqTy t TName || eqTy u TName)) 41 (span (exprAt s i)) namesText _ _ (rw (← k, ← l, n) refl)
-              (rw (ty-from c t k, ty-from d u l) (refuses _ 42 (span (exprAt s j)) (comparedText t u) _ (comparable t u k l ∙ e)));
+              (rw (from-code c t k, from-code d u l) (refuses _ 42 (span (exprAt s j)) (comparedText t u) _ (comparable t u k l ∙ e)));
           valid = tt;
         }
 
@@ -313,5 +274,5 @@ module _ (s : List ℕ) (env : Env) (field : ℕ) (key : Bool) (arg c d : ℕ) (
             judged = λ want got k l.
                 passes _ 33 _ _ _ _ (is-straight got l ∙ rw n refl)
                 (passes _ 34 _ _ _ _ (is-named want got k l ∙ rw m refl)
-                (rw (ty-from c want k, ty-from d got l) (misfits _ 35 _ _ (holds want got k l ∙ e))));
+                (rw (from-code c want k, from-code d got l) (misfits _ 35 _ _ (holds want got k l ∙ e))));
           }
