@@ -8,7 +8,7 @@ use Prim.Native.String.{String}
 use native.Mathlib.Omega.{arith}
 use lib.Dec.{eqb}
 use lib.ListN.{getD}
-use borrow.Author.Tests.{not-true, not-false}
+use borrow.Author.Tests.{eq-eqb, ne-eqb, not-true, not-false}
 use Rattle.rules.specs.Text.{lit}
 use Rattle.rules.specs.Ast.{UnaryOp, Not as NotOp, Neg as NegOp, unaryOps, Add, Sub, Mul, Div, Rem, Shr, binOps, Expr, span}
 use Rattle.rules.specs.Asking.{Ty, Int, Boolean, Address, TName, Unknown, code, Res, Rule, ret, _>>_, expect}
@@ -232,16 +232,24 @@ implies true true = refl
 implies true false = refl
 implies false b = refl
 
-module _ (s : List ℕ) (env : Env) (field : ℕ) (key : Bool) (arg c d : ℕ) (b : Bool) (p : b ≡ isNameParam (envOf s [] env) (exprAt s arg)) where
-  is-straight : (got : Ty) → d ≡ code got → (not (eqTy got TName) || isNameParam (envOf s [] env) (exprAt s arg)) ≡ not (eqb d 6 && not b)
+-- what `straight` answers for the code d
+module _ (d : ℕ) (x : Bool) where
+  pub straight-other : d ≢ 6 → true ≡ (not (eqb d 6) || x)
+  straight-other e = rw (ne-eqb d 6 e) refl
+
+  pub straight-name : (b : Bool) → d ≡ 6 → b ≡ x → b ≡ (not (eqb d 6) || x)
+  straight-name b e q = rw (eq-eqb d 6 e) q
+
+module _ (s : List ℕ) (env : Env) (field : ℕ) (key : Bool) (arg c d : ℕ) (b : Bool) (p : b ≡ (not (eqb d 6) || isNameParam (envOf s [] env) (exprAt s arg))) where
+  is-straight : (got : Ty) (x : Bool) → d ≡ code got → b ≡ x → (not (eqTy got TName) || isNameParam (envOf s [] env) (exprAt s arg)) ≡ x
   unfolding eqTy code
-  is-straight got l = rw (← l, ← p) (implies (eqb d 6) b)
+  is-straight got x l e = rw (← l) (sym p ∙ e)
 
-  pub straight-wrong : (eqb d 6 && not b) ≡ true → JudgesKey s env field key arg c d (Wrong (Straight field arg))
+  pub straight-wrong : not b ≡ true → JudgesKey s env field key arg c d (Wrong (Straight field arg))
   unfolding judgeKey doneOf refusalOf
-  straight-wrong e = record { judged = λ want got k l. refuses _ 33 _ _ _ (is-straight got l ∙ rw e refl) }
+  straight-wrong e = record { judged = λ want got k l. refuses _ 33 _ _ _ (is-straight got false l (not-true b e)) }
 
-  module _ (n : (eqb d 6 && not b) ≡ false) where
+  module _ (n : not b ≡ false) where
     is-named : (want got : Ty) → c ≡ code want → d ≡ code got → (not (eqTy want TName) || eqTy got TName) ≡ not (eqb c 6 && not (eqb d 6))
     unfolding eqTy code
     is-named want got k l = rw (← k, ← l) (implies (eqb c 6) (eqb d 6))
@@ -250,7 +258,7 @@ module _ (s : List ℕ) (env : Env) (field : ℕ) (key : Bool) (arg c d : ℕ) (
     unfolding judgeKey doneOf refusalOf
     name-wrong e =
         record {
-          judged = λ want got k l. passes _ 33 _ _ _ _ (is-straight got l ∙ rw n refl) (refuses _ 34 _ _ _ (is-named want got k l ∙ rw e refl));
+          judged = λ want got k l. passes _ 33 _ _ _ _ (is-straight got true l (not-false b n)) (refuses _ 34 _ _ _ (is-named want got k l ∙ rw e refl));
         }
 
     module _ (x : Bool) (m : (eqb c 6 && not (eqb d 6)) ≡ false) (h : Tests2 compatible c d x) where
@@ -263,7 +271,7 @@ module _ (s : List ℕ) (env : Env) (field : ℕ) (key : Bool) (arg c d : ℕ) (
       key-fine e =
           record {
             judged = λ want got k l.
-                passes _ 33 _ _ _ _ (is-straight got l ∙ rw n refl)
+                passes _ 33 _ _ _ _ (is-straight got true l (not-false b n))
                 (passes _ 34 _ _ _ _ (is-named want got k l ∙ rw m refl) (fits _ 35 _ _ (holds want got k l ∙ e)));
           }
 
@@ -272,7 +280,7 @@ module _ (s : List ℕ) (env : Env) (field : ℕ) (key : Bool) (arg c d : ℕ) (
       key-wrong e =
           record {
             judged = λ want got k l.
-                passes _ 33 _ _ _ _ (is-straight got l ∙ rw n refl)
+                passes _ 33 _ _ _ _ (is-straight got true l (not-false b n))
                 (passes _ 34 _ _ _ _ (is-named want got k l ∙ rw m refl)
                 (rw (from-code c want k, from-code d got l) (misfits _ 35 _ _ (holds want got k l ∙ e))));
           }
