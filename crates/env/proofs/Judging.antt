@@ -1,4 +1,4 @@
--- What rules that ask nothing answer, test by test. Assumes nothing.
+-- The judging of types that were asked, test by test. Assumes nothing.
 use mathlib.Core.Logic.{_≢_}
 use mathlib.Core.Path.{_≡_, refl, sym, _∙_}
 use mathlib.Core.List.{List, [], _∷_}
