@@ -27,7 +27,7 @@ use Rattle.declared.specs.declared.refusal.Done.the-variants.{Fine, Refused as 
 use Rattle.declared.proofs.Answers.{gives, fits, misfits, passes, refuses}
 use Rattle.declared.proofs.Codes.{from-code}
 use Rattle.declared.proofs.Tables.{or-false}
-use Rattle.env.specs.Answers.{typedOf, Judged, Judged2, JudgedIn, JudgesAmount, JudgesKey}
+use Rattle.env.specs.Answers.{typedOf, bothOf, Judged, Judged2, JudgedIn, JudgesAmount, JudgesKey}
 use Rattle.env.specs.Force.{envOf}
 use Rattle.env.specs.declared.env.Env.{Env}
 use Rattle.env.specs.declared.judge.Typed.{Typed}
@@ -77,32 +77,28 @@ module _ {op : UnaryOp} {f : Ty → Bool} {why : ℕ → Refusal} {n : ℕ} (u :
   unary-wrong e =
       record { judged = λ s t k. rw (q, u .is (exprAt s i) t) (operand-wrong (u .wants) b c h s t k i (ret (tyFrom n)) e); valid = tt }
 
-module _ {rule : (left right : Expr) (l r : Ty) → Rule Ty} {f : Ty → Bool} {why : ℕ → Refusal} {n : ℕ} (o : Binary rule f why n)
-    (i j c d : ℕ) (b : Bool) (h : Tests f c b) where
-  pub left-wrong : not b ≡ true → Judged2 (λ s. rule (exprAt s i) (exprAt s j)) c d (Refused (why i))
-  left-wrong e =
-      record { judged = λ s t u k l. rw (o .is (exprAt s i) (exprAt s j) t u) (operand-wrong (o .wants) b c h s t k i _ (not-true b e)); valid = tt }
+module _ {rule : (left right : Expr) (l r : Ty) → Rule Ty} {f : Ty → Bool} {why : ℕ → Refusal} {n : ℕ} (o : Binary rule f why n) (i j c d : ℕ) where
+  by-tests : (b x : Bool) → Tests f c b → Tests f d x → Judged2 (λ s. rule (exprAt s i) (exprAt s j)) c d (bothOf b x (why i) (why j) n)
+  unfolding bothOf typedOf
+  by-tests false x h y =
+      record { judged = λ s t u k l. rw (o .is (exprAt s i) (exprAt s j) t u) (operand-wrong (o .wants) false c h s t k i _ refl); valid = tt }
+  by-tests true false h y =
+      record {
+        judged = λ s t u k l.
+            rw (o .is (exprAt s i) (exprAt s j) t u)
+            (operand-fine (o .wants) true c h s t k i _ _ refl (operand-wrong (o .wants) false d y s u l j _ refl));
+        valid = tt;
+      }
+  by-tests true true h y =
+      record {
+        judged = λ s t u k l.
+            rw (o .is (exprAt s i) (exprAt s j) t u)
+            (operand-fine (o .wants) true c h s t k i _ _ refl (operand-fine (o .wants) true d y s u l j _ _ refl (gives (tyFrom n))));
+        valid = o .code;
+      }
 
-  module _ (x : Bool) (y : Tests f d x) (e : not b ≡ false) where
-    pub right-wrong : not x ≡ true → Judged2 (λ s. rule (exprAt s i) (exprAt s j)) c d (Refused (why j))
-    right-wrong z =
-        record {
-          judged = λ s t u k l.
-              rw (o .is (exprAt s i) (exprAt s j) t u)
-              (operand-fine (o .wants) b c h s t k i _ _ (not-false b e) (operand-wrong (o .wants) x d y s u l j _ (not-true x z)));
-          valid = tt;
-        }
-
-    pub both-fine : not x ≡ false → Judged2 (λ s. rule (exprAt s i) (exprAt s j)) c d (Is n)
-    unfolding typedOf
-    both-fine z =
-        record {
-          judged = λ s t u k l.
-              rw (o .is (exprAt s i) (exprAt s j) t u)
-              (operand-fine (o .wants) b c h s t k i _ _ (not-false b e)
-              (operand-fine (o .wants) x d y s u l j _ _ (not-false x z) (gives (tyFrom n))));
-          valid = o .code;
-        }
+  pub both-judged : (b x : Bool) (a : Typed) → Tests f c b → Tests f d x → a ≡ bothOf b x (why i) (why j) n → Judged2 (λ s. rule (exprAt s i) (exprAt s j)) c d a
+  both-judged b x a h y e = rw e (by-tests b x h y)
 
 -- ------------------------------------------------------------ operators
 

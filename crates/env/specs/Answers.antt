@@ -1,6 +1,6 @@
 -- How the code judges types that were asked.
 use Prim.Native.Nat.{ℕ}
-use mathlib.Core.Bool.{Bool}
+use mathlib.Core.Bool.{Bool, true, false}
 use mathlib.Core.List.{List, [], _∷_}
 use mathlib.Core.Path.{_≡_}
 use Rattle.rules.specs.Ast.{span}
@@ -12,6 +12,7 @@ use Rattle.declared.specs.Answers.{Answers}
 use Rattle.declared.specs.Codes.{IsCode, tyFrom}
 use Rattle.declared.specs.Lines.{ExprAt}
 use Rattle.declared.specs.Refusal.{dotAt, refusalOf, doneOf}
+use Rattle.declared.specs.declared.refusal.Refusal.{Refusal}
 use Rattle.declared.specs.declared.refusal.Done.{Done}
 use Rattle.env.specs.Force.{envOf}
 use Rattle.env.specs.declared.env.Env.{Env}
@@ -21,6 +22,12 @@ use Rattle.env.specs.declared.judge.Typed.the-variants.{Is, Refused}
 unfoldable pub typedOf : List ℕ → Typed → Res Ty
 typedOf s (Is c) = ok (tyFrom c)
 typedOf s (Refused r) = refused (refusalOf s r)
+
+-- the answer of two tests, why each refuses, and the type where both hold
+unfoldable pub bothOf : (l r : Bool) → (left right : Refusal) → ℕ → Typed
+bothOf false r left right c = Refused left
+bothOf true false left right c = Refused right
+bothOf true true left right c = Is c
 
 -- a type that is answered is one
 abbrev pub Valid : Typed → Type 0
