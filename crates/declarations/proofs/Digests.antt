@@ -15,19 +15,18 @@ use Rattle.text.specs.Text.{bytes, same}
 use Rattle.sheet.specs.Scratch.{nameAt}
 use Rattle.rules.specs.Text.{Name, is}
 use Rattle.rules.specs.Ast.{typeName, paramOf}
-use Rattle.rules.specs.Asking.{expect, fresh}
-use Rattle.rules.specs.Declarations.{lower, startsWith, contains, containsAny, refuseWord64AsDigest}
+use Rattle.rules.specs.Declarations.{DIGEST_NAME_TOKENS, lower, startsWith, contains, containsAny, refuseWord64AsDigest}
 use Rattle.rules.specs.Standing.{typeAt, paramAt}
 use Rattle.rules.proofs.Standing.{stands}
+use Rattle.declared.specs.Answers.{Answers, expected}
 use Rattle.declared.specs.Refusal.{refusalOf, doneOf}
 use Rattle.declared.specs.declared.refusal.Refusal.the-variants.{Digest}
 use Rattle.declared.specs.declared.refusal.Done.{Done}
 use Rattle.declared.specs.declared.refusal.Done.the-variants.{Fine}
-use Rattle.declarations.specs.Answers.{outOf, expected}
+use Rattle.declared.proofs.Answers.{fits, expects}
+use Rattle.declared.proofs.Types.{named-word}
 use Rattle.declarations.specs.Lines.{Named}
-use Rattle.declarations.specs.Tests.{small, digestWords}
-use Rattle.declarations.proofs.Silent.{expects}
-use Rattle.declarations.proofs.Arguments.{named-word}
+use Rattle.declarations.specs.Tests.{small}
 
 pub capital : (b : ℕ) → (leb 65 b && leb b 90) ≡ true → b ≤ 90
 capital b e = leb-true b 90 (and-eq-true-iff (leb 65 b) (leb b 90) .0 e .1)
@@ -72,10 +71,10 @@ place-first b bs (w ∷ ws) = rw (place-first b bs ws) (swap (startsWith (b ∷ 
 
 -- what the words from k on at place i, and the later places, say
 pub rest : List ℕ → ℕ → ℕ → Bool
-rest s i k = startsAny (lower (drop i s)) (drop k digestWords) || containsAny (lower (drop (i + 1) s)) digestWords
+rest s i k = startsAny (lower (drop i s)) (drop k DIGEST_NAME_TOKENS) || containsAny (lower (drop (i + 1) s)) DIGEST_NAME_TOKENS
 
 -- The places: n is the answer, and i the place of the turn.
-module _ (s : List ℕ) (i : ℕ) (n : Bool) (e : n ≡ containsAny (lower (drop i s)) digestWords) where
+module _ (s : List ℕ) (i : ℕ) (n : Bool) (e : n ≡ containsAny (lower (drop i s)) DIGEST_NAME_TOKENS) where
   pub place-in : i < length s → n ≡ rest s i 0
   unfolding rest lower
   place-in h = e ∙ rw (drop-cons s i 0 h, add-one, place-first) refl
@@ -86,27 +85,27 @@ module _ (s : List ℕ) (i : ℕ) (n : Bool) (e : n ≡ containsAny (lower (drop
 
 -- The words at place i of s: n is the answer, k the word of the turn and t what `word_at` answered.
 module _ (s : List ℕ) (i k : ℕ) (n : Bool) (e : n ≡ rest s i k) where
-  pub word-over : 6 ≤ k → n ≡ containsAny (lower (drop (i + 1) s)) digestWords
+  pub word-over : 6 ≤ k → n ≡ containsAny (lower (drop (i + 1) s)) DIGEST_NAME_TOKENS
   unfolding startsAny rest
-  word-over h = e ∙ rw (drop-of-length-le digestWords h) refl
+  word-over h = e ∙ rw (drop-of-length-le DIGEST_NAME_TOKENS h) refl
 
-  module _ (t : Bool) (h : k < 6) (q : t ≡ startsWith (lower (take (length s - i) (drop i s))) (bytes (getD digestWords k ""))) where
-    at-k : startsWith (lower (drop i s)) (bytes (getD digestWords k "")) ≡ t
+  module _ (t : Bool) (h : k < 6) (q : t ≡ startsWith (lower (take (length s - i) (drop i s))) (bytes (getD DIGEST_NAME_TOKENS k ""))) where
+    at-k : startsWith (lower (drop i s)) (bytes (getD DIGEST_NAME_TOKENS k "")) ≡ t
     at-k = sym (q ∙ rw (take-all (length s - i) (drop i s) (omega (arith, length-drop i s))) refl)
 
     pub word-hit : t ≡ true → true ≡ n
     unfolding startsAny rest
-    word-hit p = sym (e ∙ rw (drop-cons digestWords k "" h, at-k, p) refl)
+    word-hit p = sym (e ∙ rw (drop-cons DIGEST_NAME_TOKENS k "" h, at-k, p) refl)
 
     pub word-miss : t ≡ false → n ≡ rest s i (k + 1)
     unfolding startsAny rest
-    word-miss p = e ∙ rw (drop-cons digestWords k "" h, at-k, p, add-one k) refl
+    word-miss p = e ∙ rw (drop-cons DIGEST_NAME_TOKENS k "" h, at-k, p, add-one k) refl
 
 -- the word of number k
-pub numbered : (s w : List ℕ) (k n : ℕ) (r : Bool) → r ≡ startsWith (lower s) w → k ≡ n → bytes (getD digestWords n "") ≡ w → r ≡ startsWith (lower s) (bytes (getD digestWords k ""))
+pub numbered : (s w : List ℕ) (k n : ℕ) (r : Bool) → r ≡ startsWith (lower s) w → k ≡ n → bytes (getD DIGEST_NAME_TOKENS n "") ≡ w → r ≡ startsWith (lower s) (bytes (getD DIGEST_NAME_TOKENS k ""))
 numbered s w k n r e f g = rw (f, g) e
 
-pub last-word : (s : List ℕ) (k : ℕ) (r : Bool) → r ≡ startsWith (lower s) (bytes "merkle") → k < 6 → 5 ≤ k → r ≡ startsWith (lower s) (bytes (getD digestWords k ""))
+pub last-word : (s : List ℕ) (k : ℕ) (r : Bool) → r ≡ startsWith (lower s) (bytes "merkle") → k < 6 → 5 ≤ k → r ≡ startsWith (lower s) (bytes (getD DIGEST_NAME_TOKENS k ""))
 last-word s k r e f g = numbered s (bytes "merkle") k 5 r e (omega arith) refl
 
 -- ------------------------------------------------------------ fields and parameters
@@ -116,15 +115,15 @@ module _ (s S : List ℕ) (i : ℕ) (x : Name) (v : Bool) (h : Named s S i) (e :
   word64 : v ≡ is (typeName (typeAt s (suc i))) "Q_Word64"
   word64 = named-word s S (suc i) x "Q_Word64" v (record { loaded = h .loaded; here = h .type }) (rw (← add-one i) e) f
 
-  pub digest-other : not v ≡ true → fresh (refuseWord64AsDigest (paramAt s i .name) (typeAt s (suc i))) ≡ outOf s Fine
-  unfolding refuseWord64AsDigest expect fresh outOf doneOf
-  digest-other g = rw (← word64, not-true v g) refl
+  pub digest-other : not v ≡ true → Answers (refuseWord64AsDigest (paramAt s i .name) (typeAt s (suc i))) (doneOf s Fine)
+  unfolding refuseWord64AsDigest doneOf
+  digest-other g = fits _ 18 _ _ (rw (← word64, not-true v g) refl)
 
-  module _ (y : Name) (d : Bool) (g : not v ≡ false) (z : y ≡ nameAt s S i) (q : d ≡ containsAny (lower y) digestWords) where
-    names : d ≡ containsAny (lower (paramAt s i .name)) digestWords
+  module _ (y : Name) (d : Bool) (g : not v ≡ false) (z : y ≡ nameAt s S i) (q : d ≡ containsAny (lower y) DIGEST_NAME_TOKENS) where
+    names : d ≡ containsAny (lower (paramAt s i .name)) DIGEST_NAME_TOKENS
     unfolding paramAt paramOf
-    names = q ∙ ap (λ y. containsAny (lower y) digestWords) (z ∙ (let t = stands (h .loaded) i (h .within) in rw (t .here) (t .spells .name)))
+    names = q ∙ ap (λ y. containsAny (lower y) DIGEST_NAME_TOKENS) (z ∙ (let t = stands (h .loaded) i (h .within) in rw (t .here) (t .spells .name)))
 
-    pub digest-judged : (r : Done) → r ≡ expected (not d) (Digest i) → fresh (refuseWord64AsDigest (paramAt s i .name) (typeAt s (suc i))) ≡ outOf s r
+    pub digest-judged : (r : Done) → r ≡ expected (not d) (Digest i) → Answers (refuseWord64AsDigest (paramAt s i .name) (typeAt s (suc i))) (doneOf s r)
     unfolding refuseWord64AsDigest refusalOf
     digest-judged r k = rw (← word64, not-false v g, ← names) (expects s (not d) (Digest i) r k)

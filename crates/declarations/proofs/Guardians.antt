@@ -11,20 +11,18 @@ use Rattle.sheet.specs.Grammar as grammar
 use Rattle.sheet.specs.Scratch.{nameAt, kindAt, endAt, entry}
 use Rattle.rules.specs.Text.{Name}
 use Rattle.rules.specs.Ast.{Arg, args}
-use Rattle.rules.specs.Asking.{fresh}
 use Rattle.rules.specs.Declared.{parseU64}
 use Rattle.rules.specs.Declarations.{membersOf, guardianFits, guardianBound}
 use Rattle.rules.specs.Standing.{typeAt, Here}
-use Rattle.rules.proofs.Parts.{stop, _also_, pick}
 use Rattle.rules.proofs.Standing.{row-first}
+use Rattle.declared.specs.Answers.{Answers, expected}
 use Rattle.declared.specs.Lines.{Typed}
-use Rattle.declared.specs.Refusal.{refusalOf}
+use Rattle.declared.specs.Refusal.{refusalOf, doneOf}
 use Rattle.declared.specs.declared.refusal.Refusal.the-variants.{Guardian}
 use Rattle.declared.specs.declared.refusal.Done.{Done}
-use Rattle.declarations.specs.Answers.{outOf, expected}
+use Rattle.declared.proofs.Answers.{expects}
+use Rattle.declared.proofs.Types.{named-word, argsAt, args-next, args-none, by-kind, told, arg-told, args-here, args-row}
 use Rattle.declarations.specs.Tests.{sizeFits}
-use Rattle.declarations.proofs.Silent.{expects}
-use Rattle.declarations.proofs.Arguments.{named-word, argsAt, args-next, args-none, told, arg-told, args-here, args-row}
 
 -- What `members_fit` meets: m arguments, of which the first has the kind k.
 module _ (s S : List ℕ) (i m : ℕ) (h : Typed s S i) (c : m ≡ entry S i 5) where
@@ -55,9 +53,7 @@ module _ (s S : List ℕ) (i m : ℕ) (h : Typed s S i) (c : m ≡ entry S i 5) 
     unfolding sizeFits membersOf
     other-members g =
         rw first
-        (pick {P = λ k. k ≢ 9 → false ≡ sizeFits (membersOf (told s S (suc i) k ∷ others))} {i = 8} {n = 3} k
-        ((λ g. refl) also (λ g. absurd (g refl)) also (λ g. refl) also stop)
-        (omega (arith, here .kind .0, of-kind)) (omega (arith, here .kind .1, of-kind)) g)
+        (by-kind (λ k. k ≢ 9 → false ≡ sizeFits (membersOf (told s S (suc i) k ∷ others))) k here of-kind (λ g. refl) (λ g. absurd (g refl)) (λ g. refl) g)
 
     pub num-members : (x : Name) (r : Bool) → k ≡ 9 → x ≡ nameAt s S (i + 1) → r ≡ sizeFits (parseU64 x) → r ≡ sizeFits (membersOf (args (typeAt s i)))
     unfolding membersOf
@@ -68,6 +64,6 @@ pub guardian-fits : (s S : List ℕ) (i : ℕ) (x : Name) (w m : Bool) → Typed
 unfolding guardianFits sizeFits
 guardian-fits s S i x w m h e f g = rw (named-word s S i x "GuardianSet" w h e f, g) refl
 
-pub guardian-bound : (s : List ℕ) (i : ℕ) (b : Bool) (r : Done) → b ≡ guardianFits (typeAt s i) → r ≡ expected b (Guardian i) → fresh (guardianBound (typeAt s i)) ≡ outOf s r
+pub guardian-bound : (s : List ℕ) (i : ℕ) (b : Bool) (r : Done) → b ≡ guardianFits (typeAt s i) → r ≡ expected b (Guardian i) → Answers (guardianBound (typeAt s i)) (doneOf s r)
 unfolding guardianBound refusalOf
 guardian-bound s i b r e f = rw (← e) (expects s b (Guardian i) r f)

@@ -12,15 +12,10 @@ use lib.ListN.{length, getD, drop, drop-of-length-le}
 use lib.Seq.{drop-cons}
 use borrow.Author.Tests.{le-leb, lt-leb, leb-false, ne-eqb}
 use Rattle.text.specs.Field.{valueFrom}
+use Rattle.text.proofs.Fields.{value-grows}
 use Rattle.rules.specs.Text.{Name}
 use Rattle.rules.specs.Declared.{noUnderscores, parse, parseU64}
 use Rattle.declarations.specs.Tests.{sizeFits}
-
--- a number grows with its digits
-value-grows : (v : ℕ) (l : List ℕ) → v ≤ valueFrom v l
-unfolding valueFrom
-value-grows v [] = omega arith
-value-grows v (b ∷ bs) = let h = value-grows (v * 10 + (b - 48)) bs in omega arith
 
 abbrev pub between : ℕ → Bool
 between v = leb 1 v && leb v 256

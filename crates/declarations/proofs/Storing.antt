@@ -14,25 +14,22 @@ use Rattle.sheet.specs.Grammar as grammar
 use Rattle.sheet.specs.Scratch.{nameAt, kindAt, endAt, entry}
 use Rattle.rules.specs.Text.{Name, is, pick}
 use Rattle.rules.specs.Ast.{args, typeName}
-use Rattle.rules.specs.Asking.{code, expect, fresh, _>>_, _>>=_}
+use Rattle.rules.specs.Asking.{code, Res, _>>_}
 use Rattle.rules.specs.Declared.{tyOfDecl, eqTy}
 use Rattle.rules.specs.Declarations.{innerFits, storableArg, storableArgs, storableKeyed, known, arityOf, storableAs, storable}
 use Rattle.rules.specs.Standing.{typeAt, argAt, Here, Row}
-use Rattle.rules.proofs.Parts.{stop, _also_}
-use Rattle.rules.proofs.Parts as parts
 use Rattle.rules.proofs.Standing.{row-first, row-rest}
+use Rattle.declared.specs.Answers.{Answers, expected}
 use Rattle.declared.specs.Codes.{Tests}
 use Rattle.declared.specs.Lines.{Typed}
 use Rattle.declared.specs.Refusal.{arity, refusalOf, doneOf}
-use Rattle.declared.proofs.Types.{type-name}
 use Rattle.declared.specs.declared.refusal.Refusal.{Refusal}
 use Rattle.declared.specs.declared.refusal.Refusal.the-variants.{NameStored, Arity, OnlyTypes, Inner}
 use Rattle.declared.specs.declared.refusal.Done.{Done}
 use Rattle.declared.specs.declared.refusal.Done.the-variants.{Fine, Refused}
-use Rattle.declarations.specs.Answers.{outOf, expected}
+use Rattle.declared.proofs.Answers.{gives, misfits, expects, passes, refuses, then-fine, then-refused}
+use Rattle.declared.proofs.Types.{type-name, named-word, argsAt, args-next, args-none, by-kind, told, arg-told, args-here, args-row, args-count}
 use Rattle.declarations.specs.Tests.{refusedInside}
-use Rattle.declarations.proofs.Silent.{expects, then-fine, then-refused}
-use Rattle.declarations.proofs.Arguments.{named-word, argsAt, args-next, args-none, told, arg-told, args-here, args-row, args-count}
 
 -- ------------------------------------------------------------ how many arguments
 
@@ -79,20 +76,15 @@ module _ (s S : List ℕ) (i j d : ℕ) (key : Bool) (h : Typed s S i) (g : Type
 
 -- What `storable_arg` meets: an argument at line j, of the kind k.
 module _ (s S : List ℕ) (i j k : ℕ) (key : Bool) (h : Typed s S i) (a : Here S grammar.Arg j) (f : k ≡ kindAt S j) where
-  pub arg-type : k ≡ 8 → Typed s S j
-  arg-type e =
-      record { loaded = h .loaded; here = record { within = a .within; kind = (omega (arith, f), omega (arith, f)); after = a .after } }
-
-  pub arg-other : k ≢ 8 → fresh (storableArg (typeAt s i) key (argAt s j)) ≡ outOf s (Refused (OnlyTypes i))
-  unfolding storableArg expect fresh outOf doneOf refusalOf
+  pub arg-other : k ≢ 8 → Answers (storableArg (typeAt s i) key (argAt s j)) (doneOf s (Refused (OnlyTypes i)))
+  unfolding storableArg doneOf refusalOf
   arg-other e =
       rw (arg-told s S j k (h .loaded) a f)
-      (parts.pick {P = λ k. k ≢ 8 → fresh (storableArg (typeAt s i) key (told s S j k)) ≡ outOf s (Refused (OnlyTypes i))} {i = 8} {n = 3} k
-      ((λ e. absurd (e refl)) also (λ e. refl) also (λ e. refl) also stop)
-      (omega (arith, a .kind .0, f)) (omega (arith, a .kind .1, f)) e)
+      (by-kind (λ k. k ≢ 8 → Answers (storableArg (typeAt s i) key (told s S j k)) (doneOf s (Refused (OnlyTypes i)))) k a f
+      (λ e. absurd (e refl)) (λ e. misfits false 14 _ _ refl) (λ e. misfits false 14 _ _ refl) e)
 
   pub arg-judged : (b : Bool) (r : Done) → k ≡ 8 → b ≡ innerFits (typeName (typeAt s i)) key (typeAt s j) → r ≡ expected b (Inner i j key)
-      → fresh (storableArg (typeAt s i) key (argAt s j)) ≡ outOf s r
+      → Answers (storableArg (typeAt s i) key (argAt s j)) (doneOf s r)
   unfolding storableArg refusalOf
   arg-judged b r e q g = rw (arg-told s S j k (h .loaded) a f, e, ← q) (expects s b (Inner i j key) r g)
 
@@ -102,17 +94,17 @@ module _ (s S : List ℕ) (i j k : ℕ) (key : Bool) (h : Typed s S i) (a : Here
 pub record Turn (s S : List ℕ) (i n j k : ℕ) : Type 0 where
   pub most : k ≤ n
   pub row : Row S grammar.Arg (n - k) j
-  pub left : fresh (storableArgs (typeAt s i) true (args (typeAt s i))) ≡ fresh (storableArgs (typeAt s i) (eqb k 0) (argsAt s (n - k) j))
+  pub left : (r : Res Unit) → Answers (storableArgs (typeAt s i) (eqb k 0) (argsAt s (n - k) j)) r → Answers (storableArgs (typeAt s i) true (args (typeAt s i))) r
 
 pub turn-start : (s S : List ℕ) (i n : ℕ) → Typed s S i → n ≡ entry S i 5 → Turn s S i n (i + 1) 0
 turn-start s S i n h c =
     let q : n - 0 ≡ n = omega arith in
-    record { most = omega arith; row = rw (q, add-one) (args-row s S i n h c); left = rw (q, add-one, args-here s S i n h c) refl }
+    record { most = omega arith; row = rw (q, add-one) (args-row s S i n h c); left = rw (q, add-one, args-here s S i n h c) (λ r a. a) }
 
 module _ (s S : List ℕ) (i n j k : ℕ) (h : Typed s S i) (t : Turn s S i n j k) where
-  pub turn-over : n ≤ k → fresh (storableArgs (typeAt s i) true (args (typeAt s i))) ≡ outOf s Fine
-  unfolding storableArgs fresh outOf doneOf
-  turn-over e = t .left ∙ rw (let q : n - k ≡ 0 = omega arith in q, args-none) refl
+  pub turn-over : n ≤ k → Answers (storableArgs (typeAt s i) true (args (typeAt s i))) (doneOf s Fine)
+  unfolding storableArgs doneOf
+  turn-over e = t .left _ (rw (let q : n - k ≡ 0 = omega arith in q, args-none) (gives tt))
 
   module _ (e : k < n) where
     some-left : n - k ≡ suc (n - (k + 1))
@@ -121,34 +113,36 @@ module _ (s S : List ℕ) (i n j k : ℕ) (h : Typed s S i) (t : Turn s S i n j 
     pub turn-here : Here S grammar.Arg j
     turn-here = row-first (rw some-left at (t .row))
 
-    turn-left : fresh (storableArgs (typeAt s i) true (args (typeAt s i)))
-        ≡ fresh (storableArg (typeAt s i) (eqb k 0) (argAt s j) >> storableArgs (typeAt s i) false (argsAt s (n - (k + 1)) (endAt S j)))
+    turn-left : storableArgs (typeAt s i) (eqb k 0) (argsAt s (n - k) j)
+        ≡ (storableArg (typeAt s i) (eqb k 0) (argAt s j) >> storableArgs (typeAt s i) false (argsAt s (n - (k + 1)) (endAt S j)))
     unfolding storableArgs
-    turn-left = t .left ∙ rw (args-next (h .loaded) (n - (k + 1)) (n - k) j some-left turn-here) refl
+    turn-left = rw (args-next (h .loaded) (n - (k + 1)) (n - k) j some-left turn-here) refl
 
-    module _ (r : Done) (f : fresh (storableArg (typeAt s i) (eqb k 0) (argAt s j)) ≡ outOf s r) where
-      pub turn-refused : (why : Refusal) → r ≡ Refused why → fresh (storableArgs (typeAt s i) true (args (typeAt s i))) ≡ outOf s (Refused why)
-      turn-refused why q = turn-left ∙ then-refused _ _ s why (rw q at f)
+    module _ (r : Done) (f : Answers (storableArg (typeAt s i) (eqb k 0) (argAt s j)) (doneOf s r)) where
+      pub turn-refused : (why : Refusal) → r ≡ Refused why → Answers (storableArgs (typeAt s i) true (args (typeAt s i))) (doneOf s (Refused why))
+      unfolding doneOf
+      turn-refused why q = t .left _ (rw turn-left (then-refused _ _ (refusalOf s why) (rw q at f)))
 
       pub turn-next : (l : ℕ) → r ≡ Fine → l ≡ endAt S j → Turn s S i n l (k + 1)
+      unfolding doneOf
       turn-next l q g =
           record {
             most = omega arith;
             row = rw g (row-rest (rw some-left at (t .row)));
-            left = turn-left ∙ then-fine _ _ s (rw q at f) ∙ rw (g, ne-eqb (k + 1) 0 (omega arith)) refl;
+            left = rw (g, ne-eqb (k + 1) 0 (omega arith)) (λ r a. t .left r (rw turn-left (then-fine _ _ tt r (rw q at f) a)));
           }
 
 -- ------------------------------------------------------------ the type
 
 -- What `storable_keyed` meets: a Map or Registry with m arguments that takes n.
 module _ (s S : List ℕ) (i n m : ℕ) (h : Typed s S i) (a : n ≡ arity (typeName (typeAt s i))) (c : m ≡ entry S i 5) where
-  pub keyed-refused : m ≢ n → fresh (storableKeyed (typeAt s i) n) ≡ outOf s (Refused (Arity i))
-  unfolding storableKeyed expect _>>_ _>>=_ fresh outOf doneOf refusalOf
-  keyed-refused e = rw (args-count s S i m h c, ne-eqb m n e, a) refl
+  pub keyed-refused : m ≢ n → Answers (storableKeyed (typeAt s i) n) (doneOf s (Refused (Arity i)))
+  unfolding storableKeyed doneOf refusalOf
+  keyed-refused e = rw (← a) (refuses _ 13 _ _ _ (rw (args-count s S i m h c, ne-eqb m n e) refl))
 
-  pub keyed-args : (r : Done) → m ≡ n → fresh (storableArgs (typeAt s i) true (args (typeAt s i))) ≡ outOf s r → fresh (storableKeyed (typeAt s i) n) ≡ outOf s r
-  unfolding storableKeyed expect _>>_ _>>=_
-  keyed-args r e f = rw (args-count s S i m h c, eq-eqb m n e) f
+  pub keyed-args : (r : Done) → m ≡ n → Answers (storableArgs (typeAt s i) true (args (typeAt s i))) (doneOf s r) → Answers (storableKeyed (typeAt s i) n) (doneOf s r)
+  unfolding storableKeyed
+  keyed-args r e f = passes _ 13 _ _ _ _ (rw (args-count s S i m h c, eq-eqb m n e) refl) f
 
 arity-none : (x : Name) → arity x ≡ 0 → arityOf x ≡ none
 unfolding arity
@@ -165,20 +159,23 @@ arity-some (some n) e = refl
 
 -- What `storable` meets: whether the type's name is Q_Name, and how many arguments it takes.
 module _ (s S : List ℕ) (i : ℕ) (x : Name) (w : Bool) (h : Typed s S i) (e : x ≡ nameAt s S i) (f : w ≡ same x (bytes "Q_Name")) where
-  pub storable-name : w ≡ true → fresh (storable (typeAt s i)) ≡ outOf s (Refused (NameStored i))
-  unfolding storable expect _>>_ _>>=_ fresh outOf doneOf refusalOf
-  storable-name g = rw (← named-word s S i x "Q_Name" w h e f, g) refl
+  no-name : (b : Bool) → w ≡ b → not (is (typeName (typeAt s i)) "Q_Name") ≡ not b
+  no-name b g = rw (← named-word s S i x "Q_Name" w h e f, g) refl
+
+  pub storable-name : w ≡ true → Answers (storable (typeAt s i)) (doneOf s (Refused (NameStored i)))
+  unfolding storable doneOf refusalOf
+  storable-name g = refuses _ 12 _ _ _ (no-name true g)
 
   module _ (n : ℕ) (g : w ≡ false) (a : n ≡ arity x) where
     pub storable-arity : n ≡ arity (typeName (typeAt s i))
     storable-arity = rw (← type-name s S i h, ← e) a
 
-    pub storable-known : (r : Done) → n ≡ 0 → fresh (known (typeAt s i)) ≡ outOf s r → fresh (storable (typeAt s i)) ≡ outOf s r
-    unfolding storable expect _>>_ _>>=_ storableAs
-    storable-known r z q =
-        rw (← named-word s S i x "Q_Name" w h e f, g, arity-none (typeName (typeAt s i)) (sym storable-arity ∙ z)) q
+    pub storable-known : (r : Done) → n ≡ 0 → Answers (known (typeAt s i)) (doneOf s r) → Answers (storable (typeAt s i)) (doneOf s r)
+    unfolding storable storableAs
+    storable-known r z q = passes _ 12 _ _ _ _ (no-name false g) (rw (arity-none (typeName (typeAt s i)) (sym storable-arity ∙ z)) q)
 
-    pub storable-args : (r : Done) → n ≢ 0 → fresh (storableKeyed (typeAt s i) n) ≡ outOf s r → fresh (storable (typeAt s i)) ≡ outOf s r
-    unfolding storable expect _>>_ _>>=_ storableAs arity
+    pub storable-args : (r : Done) → n ≢ 0 → Answers (storableKeyed (typeAt s i) n) (doneOf s r) → Answers (storable (typeAt s i)) (doneOf s r)
+    unfolding storable storableAs arity
     storable-args r z q =
-        rw (← named-word s S i x "Q_Name" w h e f, g, arity-some (arityOf (typeName (typeAt s i))) (λ y. z (storable-arity ∙ y)), ← storable-arity) q
+        passes _ 12 _ _ _ _ (no-name false g)
+        (rw (arity-some (arityOf (typeName (typeAt s i))) (λ y. z (storable-arity ∙ y)), ← storable-arity) q)

@@ -1,8 +1,7 @@
 -- Tests of the code that the rules have no name for.
 use Prim.Native.Nat.{ℕ, _+_}
-use Prim.Native.String.{String}
 use mathlib.Core.Bool.{Bool, false, cond, _&&_}
-use mathlib.Core.List.{List, [], _∷_}
+use mathlib.Core.List.{[], _∷_}
 use mathlib.Core.Option.{Option, none, some}
 use lib.Dec.{leb}
 use Rattle.rules.specs.Asking.{Ty, Int, Boolean, Address, Asset, Word64, TName, Time, Str, Collection, Unknown}
@@ -23,7 +22,3 @@ refusedInside t = isTy t (Unknown ∷ Asset ∷ Str ∷ Collection ∷ [])
 -- a capital letter made small
 unfoldable pub small : ℕ → ℕ
 small b = cond (leb 65 b && leb b 90) (b + 32) b
-
--- in the order of DIGEST_NAME_TOKENS
-abbrev pub digestWords : List String
-digestWords = "digest" ∷ "hash" ∷ "fingerprint" ∷ "checksum" ∷ "commitment" ∷ "merkle" ∷ []

@@ -2,7 +2,7 @@
 use declared::Done;
 use declared::Refusal;
 ghost use mathlib.Core.Path.{_≡_};
-ghost use Rattle.declarations.specs.Answers.{expected};
+ghost use Rattle.declared.specs.Answers.{expected};
 
 // Refuses unless the test holds.
 pub fn expect(holds: bool, why: Refusal) -> Done

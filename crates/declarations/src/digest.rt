@@ -8,13 +8,13 @@ ghost use mathlib.Core.Path.{_≡_};
 ghost use Prim.Native.Nat.{_<_, suc};
 ghost use lib.ListN.{getD};
 ghost use Rattle.text.specs.Text.{bytes};
-ghost use Rattle.rules.specs.Asking.{fresh};
-ghost use Rattle.rules.specs.Declarations.{containsAny, refuseWord64AsDigest, startsWith};
+ghost use Rattle.rules.specs.Declarations.{containsAny, DIGEST_NAME_TOKENS, refuseWord64AsDigest, startsWith};
 ghost use Rattle.rules.specs.Declarations.{lower as lowerOf};
 ghost use Rattle.rules.specs.Standing.{paramAt, typeAt};
-ghost use Rattle.declarations.specs.Answers.{outOf};
+ghost use Rattle.declared.specs.Answers.{Answers};
+ghost use Rattle.declared.specs.Refusal.{doneOf};
 ghost use Rattle.declarations.specs.Lines.{Named};
-ghost use Rattle.declarations.specs.Tests.{digestWords, small};
+ghost use Rattle.declarations.specs.Tests.{small};
 
 fn lower(b: u8) -> u8
     ensures { λ r. ⌜ r ≡ small b ⌝ }
@@ -45,7 +45,7 @@ fn starts_with(s: &[u8], word: &[u8]) -> bool
 // Whether s starts with the digest word of number k.
 fn word_at(s: &[u8], k: usize) -> bool
     requires { ⌜ k < 6 ⌝ }
-    ensures { λ r. ⌜ r ≡ startsWith (lowerOf (now (s .entry))) (bytes (getD digestWords k "")) ⌝ }
+    ensures { λ r. ⌜ r ≡ startsWith (lowerOf (now (s .entry))) (bytes (getD DIGEST_NAME_TOKENS k "")) ⌝ }
 {
     match k {
         0 => starts_with(s, b"digest"),
@@ -59,7 +59,7 @@ fn word_at(s: &[u8], k: usize) -> bool
 
 // Whether a digest word stands at any place of the name.
 fn has_digest(name: &[u8]) -> bool
-    ensures { λ r. ⌜ r ≡ containsAny (lowerOf (now (name .entry))) digestWords ⌝ }
+    ensures { λ r. ⌜ r ≡ containsAny (lowerOf (now (name .entry))) DIGEST_NAME_TOKENS ⌝ }
 {
     let mut found = false;
     let mut i = 0;
@@ -80,7 +80,7 @@ fn has_digest(name: &[u8]) -> bool
 // The field or parameter at line named, whose type stands at the next line.
 pub fn refuse_word64_as_digest(sheet: &[u8], lines: &[u16], named: usize) -> Done
     requires { ⌜ Named (now sheet) (now lines) named ⌝ }
-    ensures { λ r. ⌜ fresh (refuseWord64AsDigest (paramAt (now (sheet .entry)) named .name) (typeAt (now (sheet .entry)) (suc named))) ≡ outOf (now (sheet .entry)) r ⌝ }
+    ensures { λ r. ⌜ Answers (refuseWord64AsDigest (paramAt (now (sheet .entry)) named .name) (typeAt (now (sheet .entry)) (suc named))) (doneOf (now (sheet .entry)) r) ⌝ }
 {
     if !is_word(name(sheet, lines, named + 1), b"Q_Word64") {
         return Done::Fine;

@@ -9,12 +9,12 @@ use text::is_word;
 ghost use mathlib.Core.Path.{_≡_};
 ghost use Prim.Native.Nat.{_*_, _+_, _-_, _≤_};
 ghost use Rattle.rules.specs.Ast.{args};
-ghost use Rattle.rules.specs.Asking.{fresh};
 ghost use Rattle.rules.specs.Declared.{parseU64};
 ghost use Rattle.rules.specs.Declarations.{guardianBound, guardianFits, membersOf};
 ghost use Rattle.rules.specs.Standing.{typeAt};
+ghost use Rattle.declared.specs.Answers.{Answers};
 ghost use Rattle.declared.specs.Lines.{Typed};
-ghost use Rattle.declarations.specs.Answers.{outOf};
+ghost use Rattle.declared.specs.Refusal.{doneOf};
 ghost use Rattle.declarations.specs.Tests.{sizeFits};
 
 // The number n with one more digit, which is 0 for a byte below the digits.
@@ -72,7 +72,7 @@ fn guardian_fits(sheet: &[u8], lines: &[u16], ty: usize) -> bool
 
 pub fn guardian_bound(sheet: &[u8], lines: &[u16], ty: usize) -> Done
     requires { ⌜ Typed (now sheet) (now lines) ty ⌝ }
-    ensures { λ r. ⌜ fresh (guardianBound (typeAt (now (sheet .entry)) ty)) ≡ outOf (now (sheet .entry)) r ⌝ }
+    ensures { λ r. ⌜ Answers (guardianBound (typeAt (now (sheet .entry)) ty)) (doneOf (now (sheet .entry)) r) ⌝ }
 {
     expect(guardian_fits(sheet, lines, ty), Refusal::Guardian(ty))
 }

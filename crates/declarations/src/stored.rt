@@ -12,14 +12,13 @@ ghost use mathlib.Core.Bool.{true};
 ghost use mathlib.Core.Path.{_≡_};
 ghost use Rattle.sheet.specs.Grammar.{Arg};
 ghost use Rattle.rules.specs.Ast.{args, typeName};
-ghost use Rattle.rules.specs.Asking.{fresh};
 ghost use Rattle.rules.specs.Declarations.{eventFieldType, innerFits, storableArg, storableArgs, storableKeyed};
 ghost use Rattle.rules.specs.Declarations.{known as knownOf, storable as storableOf};
 ghost use Rattle.rules.specs.Standing.{Here, argAt, typeAt};
+ghost use Rattle.declared.specs.Answers.{Answers};
 ghost use Rattle.declared.specs.Codes.{Tests};
 ghost use Rattle.declared.specs.Lines.{Typed};
-ghost use Rattle.declared.specs.Refusal.{arity as arityIn};
-ghost use Rattle.declarations.specs.Answers.{outOf};
+ghost use Rattle.declared.specs.Refusal.{arity as arityIn, doneOf};
 ghost use Rattle.declarations.specs.Tests.{refusedInside, takesNone};
 
 // Int, Bool, Time, Address, Word64 or Name.
@@ -32,7 +31,7 @@ fn takes_no_args(ty: u8) -> bool
 // The last arm of `storable`, and the whole of `event_field_type`.
 fn known(sheet: &[u8], lines: &[u16], ty: usize) -> Done
     requires { ⌜ Typed (now sheet) (now lines) ty ⌝ }
-    ensures { λ r. ⌜ fresh (knownOf (typeAt (now (sheet .entry)) ty)) ≡ outOf (now (sheet .entry)) r ⌝ }
+    ensures { λ r. ⌜ Answers (knownOf (typeAt (now (sheet .entry)) ty)) (doneOf (now (sheet .entry)) r) ⌝ }
 {
     let decl = ty_of_decl(sheet, lines, ty);
     if decl == 10 {
@@ -46,7 +45,7 @@ fn known(sheet: &[u8], lines: &[u16], ty: usize) -> Done
 
 pub fn event_field_type(sheet: &[u8], lines: &[u16], ty: usize) -> Done
     requires { ⌜ Typed (now sheet) (now lines) ty ⌝ }
-    ensures { λ r. ⌜ fresh (eventFieldType (typeAt (now (sheet .entry)) ty)) ≡ outOf (now (sheet .entry)) r ⌝ }
+    ensures { λ r. ⌜ Answers (eventFieldType (typeAt (now (sheet .entry)) ty)) (doneOf (now (sheet .entry)) r) ⌝ }
 {
     known(sheet, lines, ty)
 }
@@ -88,7 +87,7 @@ fn inner_fits(sheet: &[u8], lines: &[u16], ty: usize, inner: usize, key: bool) -
 fn storable_arg(sheet: &[u8], lines: &[u16], ty: usize, arg: usize, key: bool) -> Done
     requires { ⌜ Typed (now sheet) (now lines) ty ⌝ }
     requires { ⌜ Here (now lines) Arg arg ⌝ }
-    ensures { λ r. ⌜ fresh (storableArg (typeAt (now (sheet .entry)) ty) key (argAt (now (sheet .entry)) arg)) ≡ outOf (now (sheet .entry)) r ⌝ }
+    ensures { λ r. ⌜ Answers (storableArg (typeAt (now (sheet .entry)) ty) key (argAt (now (sheet .entry)) arg)) (doneOf (now (sheet .entry)) r) ⌝ }
 {
     if kind(lines, arg) != 8 {
         return Done::Refused(Refusal::OnlyTypes(ty));
@@ -103,7 +102,7 @@ fn storable_arg(sheet: &[u8], lines: &[u16], ty: usize, arg: usize, key: bool) -
 
 fn storable_args(sheet: &[u8], lines: &[u16], ty: usize) -> Done
     requires { ⌜ Typed (now sheet) (now lines) ty ⌝ }
-    ensures { λ r. ⌜ fresh (storableArgs (typeAt (now (sheet .entry)) ty) true (args (typeAt (now (sheet .entry)) ty))) ≡ outOf (now (sheet .entry)) r ⌝ }
+    ensures { λ r. ⌜ Answers (storableArgs (typeAt (now (sheet .entry)) ty) true (args (typeAt (now (sheet .entry)) ty))) (doneOf (now (sheet .entry)) r) ⌝ }
 {
     let n = first(lines, ty);
     let mut arg = ty + 1;
@@ -122,7 +121,7 @@ fn storable_args(sheet: &[u8], lines: &[u16], ty: usize) -> Done
 fn storable_keyed(sheet: &[u8], lines: &[u16], ty: usize, arity: usize) -> Done
     requires { ⌜ Typed (now sheet) (now lines) ty ⌝ }
     requires { ⌜ arity ≡ arityIn (typeName (typeAt (now sheet) ty)) ⌝ }
-    ensures { λ r. ⌜ fresh (storableKeyed (typeAt (now (sheet .entry)) ty) arity) ≡ outOf (now (sheet .entry)) r ⌝ }
+    ensures { λ r. ⌜ Answers (storableKeyed (typeAt (now (sheet .entry)) ty) arity) (doneOf (now (sheet .entry)) r) ⌝ }
 {
     if first(lines, ty) != arity {
         return Done::Refused(Refusal::Arity(ty));
@@ -132,7 +131,7 @@ fn storable_keyed(sheet: &[u8], lines: &[u16], ty: usize, arity: usize) -> Done
 
 pub fn storable(sheet: &[u8], lines: &[u16], ty: usize) -> Done
     requires { ⌜ Typed (now sheet) (now lines) ty ⌝ }
-    ensures { λ r. ⌜ fresh (storableOf (typeAt (now (sheet .entry)) ty)) ≡ outOf (now (sheet .entry)) r ⌝ }
+    ensures { λ r. ⌜ Answers (storableOf (typeAt (now (sheet .entry)) ty)) (doneOf (now (sheet .entry)) r) ⌝ }
 {
     let word = name(sheet, lines, ty);
     if is_word(word, b"Q_Name") {

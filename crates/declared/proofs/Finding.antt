@@ -1,21 +1,19 @@
 -- A search by name among loaded lines. Assumes nothing.
-use mathlib.Core.Logic.{_≢_}
 use mathlib.Core.Path.{_≡_, refl, sym, ap, _∙_}
-use mathlib.Core.List.{List, [], _∷_, map}
+use mathlib.Core.List.{List, _∷_}
 use mathlib.Core.Bool.{Bool, true, false, cond}
-use mathlib.Core.Option.{Option, none, some, Option·map}
-use Prim.Native.Nat.{ℕ, zero, suc, _+_, _-_, _/_, _<_, _≤_}
+use mathlib.Core.Option.{Option, none, some}
+use Prim.Native.Nat.{ℕ, suc, _-_, _/_, _<_, _≤_}
 use native.Mathlib.Omega.{arith}
 use lib.Dec.{eqb}
 use lib.ListN.{length}
-use borrow.Author.Tests.{eqb-true, eq-eqb, ne-eqb}
+use borrow.Author.Tests.{eqb-true}
 use Rattle.text.specs.Text.{same}
-use Rattle.sheet.specs.Grammar.{Sort}
 use Rattle.sheet.specs.Scratch.{kindAt, nameAt, endAt}
-use Rattle.sheet.specs.Tree.{Node, node, takeNodes}
+use Rattle.sheet.specs.Tree.{Node, takeNodes}
 use Rattle.rules.specs.Text.{Name, lastNamed}
 use Rattle.rules.specs.Ast.{nodes}
-use Rattle.rules.specs.Standing.{nodeAt, nodesAt, Loaded, Here, Row, stop, next}
+use Rattle.rules.specs.Standing.{nodeAt, nodesAt, Row}
 use Rattle.rules.proofs.Standing.{stands, nodes-next, row-first, row-rest}
 use Rattle.declared.specs.Found.{nodeName, nodeKind, ofKind, foundNode, newest, orElse, Stretch, Of, Last}
 use Rattle.declared.specs.declared.model.Found.{Found}

@@ -1,3 +1,5 @@
+pub mod Answers
+pub mod Codes
 pub mod Fields
 pub mod Finding
 pub mod Tables

@@ -2,26 +2,26 @@
 use mathlib.Core.Path.{_≡_, refl, sym, ap, _∙_}
 use mathlib.Core.Logic.{_≢_}
 use mathlib.Core.List.{List, [], _∷_, _++_, map, append-nil}
-use mathlib.Core.Bool.{Bool, true, false, _||_}
+use mathlib.Core.Bool.{Bool}
 use mathlib.Core.Option.{none, some}
-use Prim.Native.Nat.{ℕ, zero, suc, _+_, _-_, _/_, _<_, _≤_}
+use Prim.Native.Nat.{ℕ, zero, suc, _+_, _-_, _<_, _≤_}
 use Prim.Native.String.{String}
 use native.Mathlib.Omega.{arith}
 use lib.ListN.{length, getD, getElem?}
-use Rattle.text.specs.Text.{bytes, ended}
+use Rattle.text.specs.Text.{bytes, same, ended}
 use Rattle.text.specs.Word.{place, split}
 use Rattle.sheet.specs.Grammar as grammar
 use Rattle.sheet.specs.Load.{sorts}
-use Rattle.sheet.specs.Tree.{Nodes, nil, more}
+use Rattle.sheet.specs.Tree.{Nodes, nil, more, takeNodes}
 use Rattle.sheet.proofs.Due.{length-times}
 use Rattle.sheet.specs.Scratch.{nameAt, kindAt, endAt, entry, skip}
-use Rattle.rules.specs.Text.{Name}
-use Rattle.rules.specs.Ast.{argList, typeName, typeOf, argOf, argsOf, args, nodes}
+use Rattle.rules.specs.Text.{Name, is}
+use Rattle.rules.specs.Ast.{Arg, ofType, ofInt, mOfN, argList, typeName, typeOf, argOf, argsOf, args, nodes}
 use Rattle.rules.specs.Asking.{Ty, Int, Boolean, Address, Asset, Word64, TName, Time, Collection, Unknown, code}
 use Rattle.rules.specs.Declared.{isIntegerType, tyOfName, tyOfDecl, tyOfArg, declaredArg}
 use Rattle.rules.specs.Standing.{typeAt, argAt, nodesAt, Loaded, Here, Row}
-use Rattle.rules.proofs.Parts.{Each, stop, _also_, pick, parts}
-use Rattle.rules.proofs.Standing.{stands, parts-behind, row-behind, row-nth, node-nth, nodes-length}
+use Rattle.rules.proofs.Parts.{stop, _also_, pick, parts}
+use Rattle.rules.proofs.Standing.{stands, nodes-next, parts-behind, row-behind, row-nth, node-nth, nodes-length}
 use Rattle.declared.specs.Codes.{namedCodes}
 use Rattle.declared.specs.Lines.{Typed}
 use Rattle.declared.proofs.Tables.{wordsIn, valuesIn, place-most, pick-place, one-of}
@@ -65,6 +65,11 @@ pub type-name : (s S : List ℕ) (i : ℕ) → Typed s S i → nameAt s S i ≡ 
 unfolding typeAt typeOf typeName
 type-name s S i h = let t = stands (h .loaded) i (h .here .within) in rw (t .here) (t .spells .name)
 
+-- a test of a type's name
+pub named-word : (s S : List ℕ) (i : ℕ) (x : Name) (w : String) (r : Bool) → Typed s S i → x ≡ nameAt s S i → r ≡ same x (bytes w) → r ≡ is (typeName (typeAt s i)) w
+unfolding is
+named-word s S i x w r h e f = f ∙ ap (λ y. same y (bytes w)) (e ∙ type-name s S i h)
+
 pub declared : (s S : List ℕ) (i : ℕ) (x : Name) (r : ℕ) → Typed s S i → x ≡ nameAt s S i → r ≡ code (tyOfName x) → r ≡ code (tyOfDecl (typeAt s i))
 unfolding tyOfDecl
 declared s S i x r h e f = f ∙ ap (λ y. code (tyOfName y)) (e ∙ type-name s S i h)
@@ -76,9 +81,21 @@ unfolding argList argsOf nodes
 args-list nil = refl
 args-list (more t ns) = ap (λ as'. argOf t ∷ as') (args-list ns)
 
+-- k arguments, one behind another, the first at line i
+unfoldable pub argsAt : List ℕ → ℕ → ℕ → List Arg
+argsAt s k i = map argOf (nodesAt s k i)
+
+pub args-next : {s S : List ℕ} (d : Loaded s S) (k m i : ℕ) → m ≡ suc k → Here S grammar.Arg i → argsAt s m i ≡ argAt s i ∷ argsAt s k (endAt S i)
+unfolding argsAt argAt
+args-next d k m i e a = rw (e, nodes-next d k i (a .within)) refl
+
+pub args-none : (s : List ℕ) (i : ℕ) → argsAt s 0 i ≡ []
+unfolding argsAt nodesAt takeNodes nodes
+args-none s i = refl
+
 -- the arguments of a type stand behind it
-pub args-at : (s S : List ℕ) (i : ℕ) → Typed s S i → (args (typeAt s i) ≡ map argOf (nodesAt s (entry S i 5) (suc i))) × Row S grammar.Arg (entry S i 5) (suc i)
-unfolding typeAt typeOf args nodesAt sorts
+args-at : (s S : List ℕ) (i : ℕ) → Typed s S i → (args (typeAt s i) ≡ argsAt s (entry S i 5) (suc i)) × Row S grammar.Arg (entry S i 5) (suc i)
+unfolding typeAt typeOf args argsAt nodesAt sorts
 args-at s S i h =
     let t = stands (h .loaded) i (h .here .within) in
     let k : t .line .kind ≡ 8 = omega (arith, t .says .kind, h .here .kind .0, h .here .kind .1) in
@@ -89,7 +106,28 @@ args-at s S i h =
       row-behind (g .0) [] t (rw (g .1) refl),
     )
 
--- an argument that isn't there
+-- what holds for each kind of an argument holds for that of line j
+pub by-kind : {S : List ℕ} {j : ℕ} (P : ℕ → Type 0) (k : ℕ) → Here S grammar.Arg j → k ≡ kindAt S j → P 8 → P 9 → P 10 → P k
+by-kind P k a e x y z = pick {P = P} {i = 8} {n = 3} k (x also y also z also stop) (omega (arith, a .kind .0)) (omega (arith, a .kind .1))
+
+-- an argument by its line's kind
+abbrev pub told : List ℕ → List ℕ → ℕ → ℕ → Arg
+told s S j k = getD (ofType (typeAt s j) ∷ ofInt (nameAt s S j) ∷ []) (k - 8) mOfN
+
+pub arg-told : (s S : List ℕ) (j k : ℕ) → Loaded s S → Here S grammar.Arg j → k ≡ kindAt S j → argAt s j ≡ told s S j k
+unfolding argAt argOf typeAt typeOf
+arg-told s S j k d a e =
+    let t = stands d j (a .within) in
+    by-kind (λ k. k ≡ kindAt S j → argAt s j ≡ told s S j k) k a e
+    (λ e. rw (t .here, sym (t .says .kind) ∙ sym e) refl)
+    (λ e. rw (t .here, sym (t .says .kind) ∙ sym e) (ap ofInt (sym (t .spells .name))))
+    (λ e. rw (t .here, sym (t .says .kind) ∙ sym e) refl)
+    e
+
+pub arg-type : (s S : List ℕ) (i j k : ℕ) → Typed s S i → Here S grammar.Arg j → k ≡ kindAt S j → k ≡ 8 → Typed s S j
+arg-type s S i j k h a f e =
+    record { loaded = h .loaded; here = record { within = a .within; kind = (omega (arith, f), omega (arith, f)); after = a .after } }
+
 pub beyond : {A : Type 0} (xs : List A) (k : ℕ) → length xs ≤ k → getElem? xs k ≡ none
 beyond [] zero h = refl
 beyond [] (suc k) h = refl
@@ -106,58 +144,41 @@ pub length-map : {A B : Type 0} (f : A → B) (xs : List A) → length (map f xs
 length-map f [] = refl
 length-map f (x ∷ xs) = ap suc (length-map f xs)
 
-arg-missing : (s S : List ℕ) (i k : ℕ) → Typed s S i → entry S i 5 ≤ k → declaredArg (typeAt s i) k ≡ Unknown
-unfolding declaredArg
-arg-missing s S i k h e =
-    let q = args-at s S i h in
-    let ns = nodesAt s (entry S i 5) (suc i) in
-    rw (q .0, declaredArg, beyond (map argOf ns) k (omega (arith, e, length-map argOf ns, nodes-length (h .loaded) (q .1)))) refl
+-- The arguments of the type at line i, m of them.
+module _ (s S : List ℕ) (i m : ℕ) (h : Typed s S i) (c : m ≡ entry S i 5) where
+  pub args-here : args (typeAt s i) ≡ argsAt s m (suc i)
+  args-here = rw c (args-at s S i h .0)
 
--- an argument that is there
-arg-there : (s S : List ℕ) (i k : ℕ) → Typed s S i → k < entry S i 5 → declaredArg (typeAt s i) k ≡ tyOfArg (argAt s (skip S k (suc i)))
-unfolding declaredArg argAt
-arg-there s S i k h e =
-    let q = args-at s S i h in
-    rw (q .0, declaredArg, nth-map argOf (nodesAt s (entry S i 5) (suc i)) k _ (node-nth k (h .loaded) e (q .1))) refl
+  pub args-row : Row S grammar.Arg m (suc i)
+  args-row = rw c (args-at s S i h .1)
 
-arg-here : (s S : List ℕ) (i k j : ℕ) → Typed s S i → k < entry S i 5 → j ≡ skip S k (suc i) → Here S grammar.Arg j
-arg-here s S i k j h e f = rw f (row-nth k e (args-at s S i h .1))
-
--- the type of an argument by its line's kind
-arg-by-kind : (s S : List ℕ) (j : ℕ) → Loaded s S → Here S grammar.Arg j → (k : ℕ) → 8 ≤ k → k < 11 → kindAt S j ≡ k → tyOfArg (argAt s j) ≡ getD (tyOfDecl (typeAt s j) ∷ []) (k - 8) Unknown
-unfolding argAt argOf typeAt typeOf tyOfArg
-arg-by-kind s S j d a k =
-    let t = stands d j (a .within) in
-    pick {P = λ k. kindAt S j ≡ k → tyOfArg (argAt s j) ≡ getD (tyOfDecl (typeAt s j) ∷ []) (k - 8) Unknown} {i = 8} {n = 3} k
-    ((λ e. rw (t .here, sym (t .says .kind) ∙ e) refl)
-    also (λ e. rw (t .here, sym (t .says .kind) ∙ e) refl)
-    also (λ e. rw (t .here, sym (t .says .kind) ∙ e) refl)
-    also stop)
-
-arg-of : (s S : List ℕ) (i k j : ℕ) → Typed s S i → k < entry S i 5 → j ≡ skip S k (suc i) → declaredArg (typeAt s i) k ≡ getD (tyOfDecl (typeAt s j) ∷ []) (kindAt S j - 8) Unknown
-arg-of s S i k j h e f =
-    let a = arg-here s S i k j h e f in
-    arg-there s S i k h e ∙ rw (← f) (arg-by-kind s S j (h .loaded) a (kindAt S j) (a .kind .0) (a .kind .1) refl)
+  pub args-count : length (args (typeAt s i)) ≡ m
+  unfolding argsAt
+  args-count = rw args-here (length-map argOf (nodesAt s m (suc i)) ∙ nodes-length (h .loaded) args-row)
 
 -- What `declared_arg` meets: m arguments, of which it wants the one at line j, of kind n.
 module _ (s S : List ℕ) (i k m : ℕ) (h : Typed s S i) (c : m ≡ entry S i 5) where
   pub none-there : (r : ℕ) → m ≤ k → r ≡ 10 → r ≡ code (declaredArg (typeAt s i) k)
-  unfolding code
-  none-there r e q = rw (arg-missing s S i k h (omega arith)) q
+  unfolding declaredArg code
+  none-there r e q = rw (declaredArg, beyond (args (typeAt s i)) k (omega (arith, args-count s S i m h c))) q
 
   module _ (j n : ℕ) (e : k < m) (f : j ≡ skip S k (suc i)) (g : n ≡ kindAt S j) where
     there : Here S grammar.Arg j
-    there = arg-here s S i k j h (omega arith) f
+    there = rw f (row-nth k e (args-row s S i m h c))
+
+    arg-there : declaredArg (typeAt s i) k ≡ tyOfArg (told s S j n)
+    unfolding declaredArg argAt argsAt
+    arg-there =
+        let q = nth-map argOf (nodesAt s m (suc i)) k _ (node-nth k (h .loaded) e (args-row s S i m h c)) in
+        rw (declaredArg, args-here s S i m h c, q, ← f) (ap tyOfArg (arg-told s S j n (h .loaded) there g))
 
     pub type-there : n ≡ 8 → Typed s S j
-    type-there q =
-        record { loaded = h .loaded; here = record { within = there .within; kind = (omega (arith, g), omega (arith, g)); after = there .after } }
+    type-there = arg-type s S i j n h there g
 
     pub typed-there : (r : ℕ) → n ≡ 8 → r ≡ code (tyOfDecl (typeAt s j)) → r ≡ code (declaredArg (typeAt s i) k)
-    typed-there r q x = rw (arg-of s S i k j h (omega arith) f, ← g, q) x
+    unfolding tyOfArg
+    typed-there r q x = rw (arg-there, q) x
 
     pub other-there : (r : ℕ) → n ≢ 8 → r ≡ 10 → r ≡ code (declaredArg (typeAt s i) k)
-    unfolding code
-    other-there r q x =
-        let y : kindAt S j - 8 ≡ suc (kindAt S j - 9) = omega (arith, there .kind .0, g, q) in
-        rw (arg-of s S i k j h (omega arith) f, y) x
+    unfolding tyOfArg code
+    other-there r q x = rw arg-there (by-kind (λ n. n ≢ 8 → r ≡ code (tyOfArg (told s S j n))) n there g (λ y. absurd (y refl)) (λ _. x) (λ _. x) q)

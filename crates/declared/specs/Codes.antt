@@ -1,5 +1,5 @@
 -- Types as codes, and answers with them.
-use Prim.Native.Nat.{ℕ}
+use Prim.Native.Nat.{ℕ, _≤_}
 use mathlib.Core.Path.{_≡_}
 use mathlib.Core.Bool.{Bool}
 use mathlib.Core.List.{List, [], _∷_}
@@ -7,7 +7,11 @@ use mathlib.Core.Option.{none, some}
 use Rattle.rules.specs.Asking.{Ty, Unknown, code}
 use Rattle.rules.specs.Kept.{tyOfMark}
 
--- the type that a code tells; codes are 1 to 10
+-- a code of a type
+abbrev pub IsCode : ℕ → Type 0
+IsCode c = (1 ≤ c) × (c ≤ 10)
+
+-- the type that a code tells
 unfoldable pub tyFrom : ℕ → Ty
 tyFrom c = elim (tyOfMark c) [ none ↦ Unknown | some t ↦ t ]
 

@@ -3,7 +3,7 @@ use Prim.Native.Nat.{ℕ, suc}
 use mathlib.Core.List.{List, [], _∷_}
 use mathlib.Core.Option.{none, some}
 use Rattle.rules.specs.Text.{Name, lit}
-use Rattle.rules.specs.Ast.{Expr, Param, span, typeName, typeSpan}
+use Rattle.rules.specs.Ast.{span, typeName, typeSpan}
 use Rattle.rules.specs.Asking.{Refusal as Ruled, Res, ok, refused}
 use Rattle.rules.specs.Declarations.{guardianText, innerText, onlyTypesText, arityText, arityOf, unknownText, noArgumentsText, nameText, digestText}
 use Rattle.rules.specs.Standing.{exprAt, typeAt, paramAt, fieldAt}

@@ -1,4 +1,4 @@
-// Declared types, declarations and lookups by name, over loaded lines: modules 1 to 3.
+// Declared types and lookups by name, over loaded lines: modules 1 and 3.
 mod declared;
 mod model;
 mod refusal;

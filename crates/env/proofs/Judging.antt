@@ -1,4 +1,4 @@
--- What rules that ask nothing answer, test by test. Assumes nothing.
+-- The judging of types that were asked, test by test. Assumes nothing.
 use mathlib.Core.Logic.{_≢_}
 use mathlib.Core.Path.{_≡_, refl, sym, _∙_}
 use mathlib.Core.List.{List, [], _∷_}
@@ -8,69 +8,30 @@ use Prim.Native.String.{String}
 use native.Mathlib.Omega.{arith}
 use lib.Dec.{eqb}
 use lib.ListN.{getD}
-use borrow.Author.Tests.{not-true, not-false}
-use Rattle.rules.specs.Text.{Piece, lit}
+use borrow.Author.Tests.{eq-eqb, ne-eqb, not-true, not-false}
+use Rattle.rules.specs.Text.{lit}
 use Rattle.rules.specs.Ast.{UnaryOp, Not as NotOp, Neg as NegOp, unaryOps, Add, Sub, Mul, Div, Rem, Shr, binOps, Expr, span}
-use Rattle.rules.specs.Asking.{Ty, Int, Boolean, Address, Asset, Word64, TName, Time, Str, Collection, Unknown, code, Res, ok, refused, Rule, ret, _>>=_, _>>_, expect}
-use Rattle.rules.specs.Kept.{kept, tyOfMark}
+use Rattle.rules.specs.Asking.{Ty, Int, Boolean, Address, TName, Unknown, code, Res, Rule, ret, _>>_, expect}
+use Rattle.rules.specs.Kept.{tyOfMark}
 use Rattle.rules.specs.Declared.{eqTy, isTy, numeric, compatible, isZeroLiteral}
 use Rattle.rules.specs.Standing.{exprAt}
 use Rattle.rules.specs.Typing.{expectNumericOr, expectNumber, judgeUnary, logical, arithmetic, ordering, equality, judgeBinary, judgeKey, isNameParam, notText, negText, logicalText, arithmeticText, orderingText, namesText, comparedText}
 use Rattle.rules.proofs.All.{All}
 use Rattle.rules.proofs.Parts.{stop, _also_, pick}
-use Rattle.declared.specs.Codes.{tyFrom, Tests, Tests2}
+use Rattle.declared.specs.Answers.{Answers}
+use Rattle.declared.specs.Codes.{IsCode, tyFrom, Tests, Tests2}
 use Rattle.declared.specs.Refusal.{refusalOf, doneOf}
 use Rattle.declared.specs.declared.refusal.Refusal.{Refusal}
 use Rattle.declared.specs.declared.refusal.Refusal.the-variants.{Not, Neg, Logical, Arithmetic, Ordering, Names, Compared, Amount, Straight, ByName, Holds}
 use Rattle.declared.specs.declared.refusal.Done.the-variants.{Fine, Refused as Wrong}
+use Rattle.declared.proofs.Answers.{gives, fits, misfits, passes, refuses}
+use Rattle.declared.proofs.Codes.{from-code}
 use Rattle.declared.proofs.Tables.{or-false}
-use Rattle.env.specs.Answers.{typedOf, Answers, Judged, Judged2, JudgedIn, JudgesAmount, JudgesKey}
-use Rattle.env.specs.Force.{IsCode, envOf}
+use Rattle.env.specs.Answers.{typedOf, bothOf, Judged, Judged2, JudgedIn, JudgesAmount, JudgesKey}
+use Rattle.env.specs.Force.{envOf}
 use Rattle.env.specs.declared.env.Env.{Env}
 use Rattle.env.specs.declared.judge.Typed.{Typed}
 use Rattle.env.specs.declared.judge.Typed.the-variants.{Is, Refused}
-
--- ------------------------------------------------------------ one test
-
--- a test before other rules
-pub passes : {A : Type 0} (b : Bool) (n at : ℕ) (ps : List Piece) (q : Rule A) (r : Res A) → b ≡ true → Answers q r → Answers (expect b n at ps >> q) r
-unfolding expect _>>_ _>>=_
-passes b n at ps q r e h = rw e h
-
-pub refuses : {A : Type 0} (b : Bool) (n at : ℕ) (ps : List Piece) (q : Rule A) → b ≡ false
-    → Answers (expect b n at ps >> q) (refused (record { number = n; place = at; text = ps }))
-unfolding expect _>>_ _>>=_ kept
-refuses b n at ps q e = rw e (record { answers = λ T. refl })
-
--- a test by itself
-pub fits : (b : Bool) (n at : ℕ) (ps : List Piece) → b ≡ true → Answers (expect b n at ps) (ok tt)
-unfolding expect kept
-fits b n at ps e = rw e (record { answers = λ T. refl })
-
-pub misfits : (b : Bool) (n at : ℕ) (ps : List Piece) → b ≡ false → Answers (expect b n at ps) (refused (record { number = n; place = at; text = ps }))
-unfolding expect kept
-misfits b n at ps e = rw e (record { answers = λ T. refl })
-
-pub gives : {A : Type 0} (a : A) → Answers (ret a) (ok a)
-unfolding kept
-gives a = record { answers = λ T. refl }
-
--- a type's code tells the type
-from-code : (t : Ty) → tyFrom (code t) ≡ t
-unfolding tyFrom tyOfMark code
-from-code Int = refl
-from-code Boolean = refl
-from-code Address = refl
-from-code Asset = refl
-from-code Word64 = refl
-from-code TName = refl
-from-code Time = refl
-from-code Str = refl
-from-code Collection = refl
-from-code Unknown = refl
-
-ty-from : (c : ℕ) (t : Ty) → c ≡ code t → tyFrom c ≡ t
-ty-from c t e = rw e (from-code t)
 
 -- ------------------------------------------------------------ operands
 
@@ -116,32 +77,28 @@ module _ {op : UnaryOp} {f : Ty → Bool} {why : ℕ → Refusal} {n : ℕ} (u :
   unary-wrong e =
       record { judged = λ s t k. rw (q, u .is (exprAt s i) t) (operand-wrong (u .wants) b c h s t k i (ret (tyFrom n)) e); valid = tt }
 
-module _ {rule : (left right : Expr) (l r : Ty) → Rule Ty} {f : Ty → Bool} {why : ℕ → Refusal} {n : ℕ} (o : Binary rule f why n)
-    (i j c d : ℕ) (b : Bool) (h : Tests f c b) where
-  pub left-wrong : not b ≡ true → Judged2 (λ s. rule (exprAt s i) (exprAt s j)) c d (Refused (why i))
-  left-wrong e =
-      record { judged = λ s t u k l. rw (o .is (exprAt s i) (exprAt s j) t u) (operand-wrong (o .wants) b c h s t k i _ (not-true b e)); valid = tt }
+module _ {rule : (left right : Expr) (l r : Ty) → Rule Ty} {f : Ty → Bool} {why : ℕ → Refusal} {n : ℕ} (o : Binary rule f why n) (i j c d : ℕ) where
+  by-tests : (b x : Bool) → Tests f c b → Tests f d x → Judged2 (λ s. rule (exprAt s i) (exprAt s j)) c d (bothOf b x (why i) (why j) n)
+  unfolding bothOf typedOf
+  by-tests false x h y =
+      record { judged = λ s t u k l. rw (o .is (exprAt s i) (exprAt s j) t u) (operand-wrong (o .wants) false c h s t k i _ refl); valid = tt }
+  by-tests true false h y =
+      record {
+        judged = λ s t u k l.
+            rw (o .is (exprAt s i) (exprAt s j) t u)
+            (operand-fine (o .wants) true c h s t k i _ _ refl (operand-wrong (o .wants) false d y s u l j _ refl));
+        valid = tt;
+      }
+  by-tests true true h y =
+      record {
+        judged = λ s t u k l.
+            rw (o .is (exprAt s i) (exprAt s j) t u)
+            (operand-fine (o .wants) true c h s t k i _ _ refl (operand-fine (o .wants) true d y s u l j _ _ refl (gives (tyFrom n))));
+        valid = o .code;
+      }
 
-  module _ (x : Bool) (y : Tests f d x) (e : not b ≡ false) where
-    pub right-wrong : not x ≡ true → Judged2 (λ s. rule (exprAt s i) (exprAt s j)) c d (Refused (why j))
-    right-wrong z =
-        record {
-          judged = λ s t u k l.
-              rw (o .is (exprAt s i) (exprAt s j) t u)
-              (operand-fine (o .wants) b c h s t k i _ _ (not-false b e) (operand-wrong (o .wants) x d y s u l j _ (not-true x z)));
-          valid = tt;
-        }
-
-    pub both-fine : not x ≡ false → Judged2 (λ s. rule (exprAt s i) (exprAt s j)) c d (Is n)
-    unfolding typedOf
-    both-fine z =
-        record {
-          judged = λ s t u k l.
-              rw (o .is (exprAt s i) (exprAt s j) t u)
-              (operand-fine (o .wants) b c h s t k i _ _ (not-false b e)
-              (operand-fine (o .wants) x d y s u l j _ _ (not-false x z) (gives (tyFrom n))));
-          valid = o .code;
-        }
+  pub both-judged : (b x : Bool) (a : Typed) → Tests f c b → Tests f d x → a ≡ bothOf b x (why i) (why j) n → Judged2 (λ s. rule (exprAt s i) (exprAt s j)) c d a
+  both-judged b x a h y e = rw e (by-tests b x h y)
 
 -- ------------------------------------------------------------ operators
 
@@ -217,7 +174,7 @@ module _ (s : List ℕ) (i j c d : ℕ) where
         record {
           judged = λ t u k l.
               passes (not (eqTy t TName || eqTy u TName)) 41 (span (exprAt s i)) namesText _ _ (rw (← k, ← l, n) refl)
-              (rw (ty-from c t k, ty-from d u l) (refuses _ 42 (span (exprAt s j)) (comparedText t u) _ (comparable t u k l ∙ e)));
+              (rw (from-code c t k, from-code d u l) (refuses _ 42 (span (exprAt s j)) (comparedText t u) _ (comparable t u k l ∙ e)));
           valid = tt;
         }
 
@@ -271,16 +228,24 @@ implies true true = refl
 implies true false = refl
 implies false b = refl
 
-module _ (s : List ℕ) (env : Env) (field : ℕ) (key : Bool) (arg c d : ℕ) (b : Bool) (p : b ≡ isNameParam (envOf s [] env) (exprAt s arg)) where
-  is-straight : (got : Ty) → d ≡ code got → (not (eqTy got TName) || isNameParam (envOf s [] env) (exprAt s arg)) ≡ not (eqb d 6 && not b)
+-- what `straight` answers for the code d
+module _ (d : ℕ) (x : Bool) where
+  pub straight-other : d ≢ 6 → true ≡ (not (eqb d 6) || x)
+  straight-other e = rw (ne-eqb d 6 e) refl
+
+  pub straight-name : (b : Bool) → d ≡ 6 → b ≡ x → b ≡ (not (eqb d 6) || x)
+  straight-name b e q = rw (eq-eqb d 6 e) q
+
+module _ (s : List ℕ) (env : Env) (field : ℕ) (key : Bool) (arg c d : ℕ) (b : Bool) (p : b ≡ (not (eqb d 6) || isNameParam (envOf s [] env) (exprAt s arg))) where
+  is-straight : (got : Ty) (x : Bool) → d ≡ code got → b ≡ x → (not (eqTy got TName) || isNameParam (envOf s [] env) (exprAt s arg)) ≡ x
   unfolding eqTy code
-  is-straight got l = rw (← l, ← p) (implies (eqb d 6) b)
+  is-straight got x l e = rw (← l) (sym p ∙ e)
 
-  pub straight-wrong : (eqb d 6 && not b) ≡ true → JudgesKey s env field key arg c d (Wrong (Straight field arg))
+  pub straight-wrong : not b ≡ true → JudgesKey s env field key arg c d (Wrong (Straight field arg))
   unfolding judgeKey doneOf refusalOf
-  straight-wrong e = record { judged = λ want got k l. refuses _ 33 _ _ _ (is-straight got l ∙ rw e refl) }
+  straight-wrong e = record { judged = λ want got k l. refuses _ 33 _ _ _ (is-straight got false l (not-true b e)) }
 
-  module _ (n : (eqb d 6 && not b) ≡ false) where
+  module _ (n : not b ≡ false) where
     is-named : (want got : Ty) → c ≡ code want → d ≡ code got → (not (eqTy want TName) || eqTy got TName) ≡ not (eqb c 6 && not (eqb d 6))
     unfolding eqTy code
     is-named want got k l = rw (← k, ← l) (implies (eqb c 6) (eqb d 6))
@@ -289,7 +254,7 @@ module _ (s : List ℕ) (env : Env) (field : ℕ) (key : Bool) (arg c d : ℕ) (
     unfolding judgeKey doneOf refusalOf
     name-wrong e =
         record {
-          judged = λ want got k l. passes _ 33 _ _ _ _ (is-straight got l ∙ rw n refl) (refuses _ 34 _ _ _ (is-named want got k l ∙ rw e refl));
+          judged = λ want got k l. passes _ 33 _ _ _ _ (is-straight got true l (not-false b n)) (refuses _ 34 _ _ _ (is-named want got k l ∙ rw e refl));
         }
 
     module _ (x : Bool) (m : (eqb c 6 && not (eqb d 6)) ≡ false) (h : Tests2 compatible c d x) where
@@ -302,7 +267,7 @@ module _ (s : List ℕ) (env : Env) (field : ℕ) (key : Bool) (arg c d : ℕ) (
       key-fine e =
           record {
             judged = λ want got k l.
-                passes _ 33 _ _ _ _ (is-straight got l ∙ rw n refl)
+                passes _ 33 _ _ _ _ (is-straight got true l (not-false b n))
                 (passes _ 34 _ _ _ _ (is-named want got k l ∙ rw m refl) (fits _ 35 _ _ (holds want got k l ∙ e)));
           }
 
@@ -311,7 +276,7 @@ module _ (s : List ℕ) (env : Env) (field : ℕ) (key : Bool) (arg c d : ℕ) (
       key-wrong e =
           record {
             judged = λ want got k l.
-                passes _ 33 _ _ _ _ (is-straight got l ∙ rw n refl)
+                passes _ 33 _ _ _ _ (is-straight got true l (not-false b n))
                 (passes _ 34 _ _ _ _ (is-named want got k l ∙ rw m refl)
-                (rw (ty-from c want k, ty-from d got l) (misfits _ 35 _ _ (holds want got k l ∙ e))));
+                (rw (from-code c want k, from-code d got l) (misfits _ 35 _ _ (holds want got k l ∙ e))));
           }

@@ -27,16 +27,16 @@ use Rattle.rules.specs.Check.{paramTypes}
 use Rattle.rules.specs.Typing as typing
 use Rattle.rules.specs.Typing.{identOf, tyOfIdent, isNameParam, keyedField, isPool}
 use Rattle.rules.specs.Standing.{nodeAt, nodesAt, exprAt, typeAt, fieldAt, paramAt, Loaded}
-use Rattle.rules.proofs.AnyTable.{tells}
 use Rattle.rules.proofs.Keeps.{code-marks}
 use Rattle.rules.proofs.Exprs.{ident-at}
 use Rattle.rules.proofs.Parts.{stop, _also_, pick, parts}
 use Rattle.rules.proofs.Standing.{Stands, stands, nodes-next, parts-behind, row-behind, row-first}
-use Rattle.declared.specs.Codes.{tyFrom}
+use Rattle.declared.specs.Codes.{IsCode, tyFrom}
 use Rattle.declared.specs.Found.{nodeName, ofKind, foundNode, foundField, Of, Last, FieldNamed}
 use Rattle.declared.specs.Lines.{Typed}
 use Rattle.declared.specs.declared.model.Found.{Found}
 use Rattle.declared.specs.declared.model.Found.the-variants.{At, Nothing}
+use Rattle.declared.proofs.Codes.{code-of}
 use Rattle.declared.proofs.Fields.{last-map, all-kind}
 use Rattle.declared.proofs.Types.{type-name}
 use Rattle.env.specs.Force.{paramsIn, localOf, lets, envOf, markOf, InForce, ExprIn, Ready, LetTyped, LetsTyped, no-let, a-let, fieldTy, FieldFound, KeyedFound}
@@ -166,10 +166,6 @@ local-name : (T : Table) (t : Node) → localOf T t .0 ≡ nodeName t
 unfolding localOf nodeName
 local-name T (node i l ps) = refl
 
-from-code : (c : ℕ) → 1 ≤ c → c ≤ 10 → c ≡ code (tyFrom c)
-unfolding tyFrom
-from-code c a b = let q = tells c a b in rw (tyFrom, q .1) (sym (q .2))
-
 module _ (s S : List ℕ) (env : Env) (T : Table) (x : Name) (h : Ready s S env T) (ty : ℕ) (p : ty ≡ markOf (get x (paramsIn s env))) where
   pub by-param : ty ≢ 0 → ty ≡ code (tyOfIdent (envOf s T env) x)
   unfolding tyOfIdent envOf markOf
@@ -204,9 +200,9 @@ module _ (s S : List ℕ) (env : Env) (T : Table) (x : Name) (h : Ready s S env 
       unfolding tyOfIdent envOf foundNode lets localOf
       by-local v f =
           let q : LetTyped T (nodeAt s i) = last-let x (nodeAt s i) (h .typed) (sym (l .found) ∙ rw e refl) in
-          let c : (1 ≤ getD T (suc i) 0) × (getD T (suc i) 0 ≤ 10) = rw (let-line .here) at q in
+          let c : IsCode (getD T (suc i) 0) = rw (let-line .here) at q in
           let g : get x (map (localOf T) (lets s (env .bound) (env .body))) ≡ some (tyFrom (getD T (suc i) 0)) = local-got ∙ rw (e, let-line .here) refl in
-          f ∙ rw (add-one i, tyOfIdent, no-such, g) (from-code (getD T (suc i) 0) (c .0) (c .1))
+          f ∙ rw (add-one i, tyOfIdent, no-such, g) (sym (code-of (getD T (suc i) 0) c .1))
 
     pub by-field : (v : ℕ) → r ≡ Nothing → v ≡ code (fieldTy s x) → v ≡ code (tyOfIdent (envOf s T env) x)
     unfolding tyOfIdent envOf foundNode fieldTy

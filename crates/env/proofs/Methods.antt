@@ -20,7 +20,6 @@ use Rattle.sheet.specs.Say.{nspanAt}
 use Rattle.rules.specs.Text.{Name, is, isOne}
 use Rattle.rules.specs.Ast.{Expr, Field, span, typeName}
 use Rattle.rules.specs.Asking.{Ty, Int, Boolean, Asset, Word64, Time, Unknown, code, ok, expect, ifSome}
-use Rattle.rules.specs.Kept.{Table, kept}
 use Rattle.rules.specs.Declared.{declaredArg, eqTy, isTy}
 use Rattle.rules.specs.Typing as typing
 use Rattle.rules.specs.Typing.{Dot, dotOf, identIs, keyedField, isPool, keyedOpFits, keyedOpText, expectKeyedOp, receiverText, expectAssetReceiver, tyOfDot, tyOfGet, tyOfCall}
@@ -28,6 +27,7 @@ use Rattle.rules.specs.Standing.{exprAt, typeAt, fieldAt, Loaded, Here}
 use Rattle.rules.proofs.Exprs.{dot-at, ident-at, is-dot-at}
 use Rattle.rules.proofs.Parts.{stop, _also_, pick}
 use Rattle.rules.proofs.Standing.{row-first}
+use Rattle.declared.specs.Answers.{Answers}
 use Rattle.declared.specs.Found.{foundField}
 use Rattle.declared.specs.Lines.{Typed, ExprAt}
 use Rattle.declared.specs.Refusal.{dotAt, refusalOf, doneOf}
@@ -35,9 +35,9 @@ use Rattle.declared.specs.declared.model.Found.{Found}
 use Rattle.declared.specs.declared.model.Found.the-variants.{At, Nothing}
 use Rattle.declared.specs.declared.refusal.Refusal.the-variants.{Receiver, KeyedOp}
 use Rattle.declared.specs.declared.refusal.Done.the-variants.{Fine, Refused}
+use Rattle.declared.proofs.Answers.{gives, fits, misfits}
 use Rattle.declared.proofs.Tables.{or-false, wordsIn, valuesIn, place-most, pick-place}
 use Rattle.declared.proofs.Types.{type-name}
-use Rattle.env.specs.Answers.{Answers}
 use Rattle.env.specs.Calls.{dotCodes, methodCodes, wantsOf, keyedOf, KeyedOf, Callee, JudgesOp, TypesCall, getTy, methodTy}
 use Rattle.env.specs.Force.{envOf, ExprIn, KeyedFound}
 use Rattle.env.specs.declared.env.Env.{Env}
@@ -143,8 +143,8 @@ module _ (s S : List ℕ) (env : Env) (i : ℕ) (h : ExprIn s S env i) (k : ℕ)
   uses r q f = record { found = f .found ∙ rw (keyedOf, dot-here q, add-one i) refl; kind = f .kind }
 
   pub no-receiver : k ≢ 30 → Answers (expectAssetReceiver (envOf s [] env) (exprAt s i)) (doneOf s Fine)
-  unfolding expectAssetReceiver ifSome kept doneOf
-  no-receiver n = record { answers = λ T. rw (expectAssetReceiver, none-here n) refl }
+  unfolding expectAssetReceiver ifSome doneOf
+  no-receiver n = rw (expectAssetReceiver, none-here n) (gives tt)
 
   module _ (q : k ≡ 30) (x : Name) (n : x ≡ nameAt s S i) (p : ℕ) (f : p ≡ place x (split (bytes "merge split "))) where
     -- the rule, by the name's place
@@ -156,8 +156,8 @@ module _ (s S : List ℕ) (env : Env) (i : ℕ) (h : ExprIn s S env i) (k : ℕ)
         rw (expectAssetReceiver, dot-here q, dot-told s i (theDot s S i) (dot-here q), ← n, w) refl
 
     pub any-receiver : p ≡ 2 → Answers (expectAssetReceiver (envOf s [] env) (exprAt s i)) (doneOf s Fine)
-    unfolding expect kept doneOf
-    any-receiver z = record { answers = λ T. rw (receiver, z) refl }
+    unfolding doneOf
+    any-receiver z = rw receiver (fits _ 30 _ _ (rw z refl))
 
     module _ (b : Bool) (z : p ≢ 2) (g : b ≡ isPool (envOf s [] env) (exprAt s (i + 1))) where
       wanted : ltb p 2 ≡ true
@@ -168,12 +168,12 @@ module _ (s S : List ℕ) (env : Env) (i : ℕ) (h : ExprIn s S env i) (k : ℕ)
       on-pool = sym (rw (add-one i) at g)
 
       pub a-receiver : b ≡ true → Answers (expectAssetReceiver (envOf s [] env) (exprAt s i)) (doneOf s Fine)
-      unfolding expect kept doneOf
-      a-receiver t = record { answers = λ T. rw (receiver, wanted, on-pool, t) refl }
+      unfolding doneOf
+      a-receiver t = rw receiver (fits _ 30 _ _ (rw (wanted, on-pool, t) refl))
 
       pub bad-receiver : b ≡ false → Answers (expectAssetReceiver (envOf s [] env) (exprAt s i)) (doneOf s (Refused (Receiver i)))
-      unfolding expect kept doneOf refusalOf
-      bad-receiver t = record { answers = λ T. rw (receiver, wanted, on-pool, t) refl }
+      unfolding doneOf refusalOf
+      bad-receiver t = rw receiver (misfits _ 30 _ _ (rw (wanted, on-pool, t) refl))
 
 -- ------------------------------------------------------------ Maps and Registries
 
@@ -240,20 +240,19 @@ module _ (s S : List ℕ) (i : ℕ) (h : ExprAt s S i) where
       go false e g = let n : _≡_ {A = Option Field} (some f) none = rw (keyedOf, e) at g in absurd (let z : _≡_ {A = ℕ} 0 1 = cc in omega arith)
 
 -- where it uses none, no rule applies
-uses-nothing : (Γ : typing.Env) (e : Expr) → none ≡ keyedOf Γ e → (T : Table) → kept (expectKeyedOp Γ e) T ≡ record { res = ok tt; table = T }
-unfolding keyedOf expectKeyedOp ifSome kept
-uses-nothing Γ e g T = go (dotOf e) g
+uses-nothing : (Γ : typing.Env) (e : Expr) → none ≡ keyedOf Γ e → Answers (expectKeyedOp Γ e) (ok tt)
+unfolding keyedOf expectKeyedOp ifSome
+uses-nothing Γ e g = go (dotOf e) g
   where
     go : (o : Option Dot) → _≡_ {A = Option Field} none (elim o [ none ↦ none | some d ↦ keyedField Γ (d .base) ])
-        → kept (ifSome o (λ d. ifSome (keyedField Γ (d .base)) (λ f. expect (keyedOpFits (f .ty) (d .name)) 31 (d .nspan) (keyedOpText (d .name) f)))) T
-        ≡ record { res = ok tt; table = T }
-    go none q = refl
-    go (some d) q = rw (← q) refl
+        → Answers (ifSome o (λ d. ifSome (keyedField Γ (d .base)) (λ f. expect (keyedOpFits (f .ty) (d .name)) 31 (d .nspan) (keyedOpText (d .name) f)))) (ok tt)
+    go none q = gives tt
+    go (some d) q = rw (← q) (gives tt)
 
 module _ (s S : List ℕ) (i : ℕ) (keyed : Found) (h : Callee s S i keyed) where
   pub no-op : keyed ≡ Nothing → JudgesOp s i keyed Fine
   unfolding foundField doneOf
-  no-op e = record { judged = λ Γ g. record { answers = uses-nothing Γ (exprAt s i) (rw e at g) } }
+  no-op e = record { judged = λ Γ g. uses-nothing Γ (exprAt s i) (rw e at g) }
 
   module _ (f : ℕ) (e : keyed ≡ At f) where
     its-type : fieldAt s f .ty ≡ typeAt s (suc f)
@@ -269,12 +268,12 @@ module _ (s S : List ℕ) (i : ℕ) (keyed : Found) (h : Callee s S i keyed) whe
           rw (expectKeyedOp, u .0, u .1, dot-told s i (theDot s S i) (u .0), v) refl
 
       pub good-op : b ≡ true → JudgesOp s i keyed Fine
-      unfolding expect kept doneOf
-      good-op t = record { judged = λ Γ g. record { answers = λ T. rw (op Γ g, t) refl } }
+      unfolding doneOf
+      good-op t = record { judged = λ Γ g. rw (op Γ g) (fits b 31 _ _ t) }
 
       pub bad-op : b ≡ false → JudgesOp s i keyed (Refused (KeyedOp i f))
-      unfolding expect kept doneOf refusalOf
-      bad-op t = record { judged = λ Γ g. record { answers = λ T. rw (op Γ g, t) refl } }
+      unfolding doneOf refusalOf
+      bad-op t = record { judged = λ Γ g. rw (op Γ g) (misfits b 31 _ _ t) }
 
   module _ (x : Name) (n : x ≡ nameAt s S i) (p : ℕ) (e : p ≡ place x (split (bytes methods))) where
     pub method-most : p < 4

@@ -1,19 +1,20 @@
--- What the code answers to a rule that asks nothing.
+-- How the code judges types that were asked.
 use Prim.Native.Nat.{ℕ}
-use mathlib.Core.Bool.{Bool}
+use mathlib.Core.Bool.{Bool, true, false}
 use mathlib.Core.List.{List, [], _∷_}
 use mathlib.Core.Path.{_≡_}
 use Rattle.rules.specs.Ast.{span}
 use Rattle.rules.specs.Asking.{Ty, Int, Asset, Unknown, code, Res, ok, refused, Rule, expect}
-use Rattle.rules.specs.Kept.{Table, kept}
 use Rattle.rules.specs.Declared.{isTy}
 use Rattle.rules.specs.Typing.{judgeKey, amountText}
-use Rattle.rules.specs.Standing.{exprAt, fieldAt, Loaded, Here}
-use Rattle.declared.specs.Codes.{tyFrom}
+use Rattle.rules.specs.Standing.{exprAt, fieldAt}
+use Rattle.declared.specs.Answers.{Answers}
+use Rattle.declared.specs.Codes.{IsCode, tyFrom}
 use Rattle.declared.specs.Lines.{ExprAt}
 use Rattle.declared.specs.Refusal.{dotAt, refusalOf, doneOf}
+use Rattle.declared.specs.declared.refusal.Refusal.{Refusal}
 use Rattle.declared.specs.declared.refusal.Done.{Done}
-use Rattle.env.specs.Force.{envOf, IsCode}
+use Rattle.env.specs.Force.{envOf}
 use Rattle.env.specs.declared.env.Env.{Env}
 use Rattle.env.specs.declared.judge.Typed.{Typed}
 use Rattle.env.specs.declared.judge.Typed.the-variants.{Is, Refused}
@@ -22,14 +23,16 @@ unfoldable pub typedOf : List ℕ → Typed → Res Ty
 typedOf s (Is c) = ok (tyFrom c)
 typedOf s (Refused r) = refused (refusalOf s r)
 
+-- the answer of two tests, why each refuses, and the type where both hold
+unfoldable pub bothOf : (l r : Bool) → (left right : Refusal) → ℕ → Typed
+bothOf false r left right c = Refused left
+bothOf true false left right c = Refused right
+bothOf true true left right c = Is c
+
 -- a type that is answered is one
 abbrev pub Valid : Typed → Type 0
 Valid (Is c) = IsCode c
 Valid (Refused r) = Unit
-
--- on any table the rule answers this and leaves the table
-pub record Answers {A : Type 0} (p : Rule A) (r : Res A) : Type 0 where
-  pub answers : (T : Table) → kept p T ≡ record { res = r; table = T }
 
 -- r is what f answers to the type whose code is c, whatever the sheet
 pub record Judged (f : List ℕ → Ty → Rule Ty) (c : ℕ) (r : Typed) : Type 0 where

@@ -10,13 +10,13 @@ use Rattle.rules.specs.Asking.{Ty, Int, Boolean, Asset, Time, Unknown, code}
 use Rattle.rules.specs.Declared.{declaredArg, isTy}
 use Rattle.rules.specs.Typing as typing
 use Rattle.rules.specs.Typing.{dotOf, keyedField, expectKeyedOp, tyOfGet, tyOfCall}
-use Rattle.rules.specs.Standing.{exprAt, Loaded, Here}
+use Rattle.rules.specs.Standing.{exprAt}
+use Rattle.declared.specs.Answers.{Answers}
 use Rattle.declared.specs.Found.{foundField, Of}
 use Rattle.declared.specs.Lines.{ExprAt}
 use Rattle.declared.specs.Refusal.{doneOf}
 use Rattle.declared.specs.declared.model.Found.{Found}
 use Rattle.declared.specs.declared.refusal.Done.{Done}
-use Rattle.env.specs.Answers.{Answers}
 use Rattle.env.specs.Force.{envOf}
 use Rattle.env.specs.declared.env.Env.{Env}
 

@@ -8,7 +8,7 @@ use lib.ListN.{length, getD}
 use Rattle.sheet.specs.Grammar as grammar
 use Rattle.sheet.specs.Tree.{Node, node}
 use Rattle.rules.specs.Text.{Name, is}
-use Rattle.rules.specs.Ast.{Field, paramOf}
+use Rattle.rules.specs.Ast.{paramOf}
 use Rattle.rules.specs.Asking.{Ty, Address, Unknown, code}
 use Rattle.rules.specs.Kept.{Table}
 use Rattle.rules.specs.Declared.{tyOfDecl}
@@ -16,7 +16,7 @@ use Rattle.rules.specs.Model.{fieldNamed}
 use Rattle.rules.specs.Typing as typing
 use Rattle.rules.specs.Check.{paramTypes}
 use Rattle.rules.specs.Standing.{nodesAt, exprAt, modelIn, Loaded, Here, Row}
-use Rattle.declared.specs.Codes.{tyFrom}
+use Rattle.declared.specs.Codes.{IsCode, tyFrom}
 use Rattle.declared.specs.Found.{nodeName, ofKind, foundField, Of}
 use Rattle.declared.specs.declared.model.Found.{Found}
 use Rattle.env.specs.declared.env.Env.{Env}
@@ -46,10 +46,6 @@ envOf s T env =
     }
 
 -- ------------------------------------------------------------ what the code asks
-
--- a code of a type
-abbrev pub IsCode : ℕ → Type 0
-IsCode c = (1 ≤ c) × (c ≤ 10)
 
 -- the values of `let`s have types in the table
 abbrev pub LetTyped : Table → Node → Type 0

@@ -19,9 +19,9 @@ ghost use Rattle.rules.specs.Standing.{exprAt, typeAt};
 ghost use Rattle.rules.specs.Text.{isOne};
 ghost use Rattle.rules.specs.Typing.{expectAssetReceiver, keyedOpFits, tyOfDot};
 ghost use Rattle.sheet.specs.Scratch.{nameAt};
+ghost use Rattle.declared.specs.Answers.{Answers};
 ghost use Rattle.declared.specs.Lines.{Typed};
 ghost use Rattle.declared.specs.Refusal.{doneOf};
-ghost use Rattle.env.specs.Answers.{Answers};
 ghost use Rattle.env.specs.Calls.{Callee, dotCodes, getTy, JudgesOp, KeyedOf, methodCodes, methodTy, TypesCall, wantsOf};
 ghost use Rattle.env.specs.Force.{envOf, ExprIn};
 

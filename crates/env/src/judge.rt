@@ -6,18 +6,19 @@ use declared::Refusal;
 use declared::compatible;
 use declared::is_zero_literal;
 use declared::numeric;
-ghost use mathlib.Core.Bool.{_&&_};
+ghost use mathlib.Core.Bool.{_&&_, _||_, not};
+ghost use mathlib.Core.List.{[]};
 ghost use mathlib.Core.Path.{_≡_};
 ghost use lib.Dec.{eqb};
 ghost use lib.ListN.{getD};
 ghost use Rattle.rules.specs.Ast.{binOps, Neg, Shr, unaryOps};
 ghost use Rattle.rules.specs.Declared.{isZeroLiteral};
 ghost use Rattle.rules.specs.Standing.{exprAt};
-ghost use Rattle.rules.specs.Typing.{judgeBinary, judgeUnary};
+ghost use Rattle.rules.specs.Typing.{isNameParam, judgeBinary, judgeUnary};
 ghost use Rattle.rules.specs.Typing.{arithmetic as arithmeticOf, equality as equalityOf, logical as logicalOf, ordering as orderingOf};
-ghost use Rattle.env.specs.Answers.{Judged, Judged2, JudgedIn, JudgesAmount, JudgesKey, Operands};
+ghost use Rattle.env.specs.Answers.{bothOf, Judged, Judged2, JudgedIn, JudgesAmount, JudgesKey, Operands};
 ghost use Rattle.declared.specs.Lines.{ExprAt};
-ghost use Rattle.env.specs.Force.{ExprIn};
+ghost use Rattle.env.specs.Force.{envOf, ExprIn};
 
 pub enum Typed {
     Is(u8),
@@ -42,40 +43,53 @@ pub fn judge_unary(op: usize, inner: usize, ty: u8) -> Typed
     }
 }
 
+// What two tests come to, with why each refuses and the type where both hold.
+fn both(l: bool, r: bool, left: Refusal, right: Refusal, ty: u8) -> Typed
+    ensures { λ a. ⌜ a ≡ bothOf l r left right ty ⌝ }
+{
+    if !l {
+        return Typed::Refused(left);
+    }
+    if !r {
+        return Typed::Refused(right);
+    }
+    Typed::Is(ty)
+}
+
 fn logical(left: usize, right: usize, l: u8, r: u8) -> Typed
     ensures { λ a. ⌜ Judged2 (λ s. logicalOf (exprAt s left) (exprAt s right)) l r a ⌝ }
 {
-    if !((l == 2) | (l == 10)) {
-        return Typed::Refused(Refusal::Logical(left));
-    }
-    if !((r == 2) | (r == 10)) {
-        return Typed::Refused(Refusal::Logical(right));
-    }
-    Typed::Is(2)
+    both(
+        (l == 2) | (l == 10),
+        (r == 2) | (r == 10),
+        Refusal::Logical(left),
+        Refusal::Logical(right),
+        2,
+    )
 }
 
 fn arithmetic(left: usize, right: usize, l: u8, r: u8) -> Typed
     ensures { λ a. ⌜ Judged2 (λ s. arithmeticOf (exprAt s left) (exprAt s right)) l r a ⌝ }
 {
-    if !numeric(l) {
-        return Typed::Refused(Refusal::Arithmetic(left));
-    }
-    if !numeric(r) {
-        return Typed::Refused(Refusal::Arithmetic(right));
-    }
-    Typed::Is(1)
+    both(
+        numeric(l),
+        numeric(r),
+        Refusal::Arithmetic(left),
+        Refusal::Arithmetic(right),
+        1,
+    )
 }
 
 fn ordering(left: usize, right: usize, l: u8, r: u8) -> Typed
     ensures { λ a. ⌜ Judged2 (λ s. orderingOf (exprAt s left) (exprAt s right)) l r a ⌝ }
 {
-    if !numeric(l) {
-        return Typed::Refused(Refusal::Ordering(left));
-    }
-    if !numeric(r) {
-        return Typed::Refused(Refusal::Ordering(right));
-    }
-    Typed::Is(2)
+    both(
+        numeric(l),
+        numeric(r),
+        Refusal::Ordering(left),
+        Refusal::Ordering(right),
+        2,
+    )
 }
 
 // Whether a type is an address, and the other side the zero that means none.
@@ -136,6 +150,17 @@ pub fn judge_amount(callee: usize, arg: usize, got: u8) -> Done
     }
 }
 
+// Whether the argument, of the type got, is no Q_Name or a Q_Name parameter.
+fn straight(sheet: &[u8], lines: &[u16], env: Env, arg: usize, got: u8) -> bool
+    requires { ⌜ ExprIn (now sheet) (now lines) env arg ⌝ }
+    ensures { λ r. ⌜ r ≡ (not (eqb got 6) || isNameParam (envOf (now (sheet .entry)) [] env) (exprAt (now (sheet .entry)) arg)) ⌝ }
+{
+    if got != 6 {
+        return true;
+    }
+    is_name_param(sheet, lines, env, arg)
+}
+
 // Judges a key or value of the Map or Registry at line field.
 pub fn judge_key(
     sheet: &[u8],
@@ -150,7 +175,7 @@ pub fn judge_key(
     requires { ⌜ ExprIn (now sheet) (now lines) env arg ⌝ }
     ensures { λ r. ⌜ JudgesKey (now (sheet .entry)) env field «is_key» arg want got r ⌝ }
 {
-    if (got == 6) & !is_name_param(sheet, lines, env, arg) {
+    if !straight(sheet, lines, env, arg, got) {
         return Done::Refused(Refusal::Straight { field, arg });
     }
     if (want == 6) & (got != 6) {

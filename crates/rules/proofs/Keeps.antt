@@ -94,7 +94,7 @@ Above T T1 = (l : ℕ) → Marked T l → Marked T1 l
 settled-above : (T T1 : Table) (as' : List Asking) → Above T T1 → All (Settled T) as' → All (Settled T1) as'
 settled-above T T1 as' u h = all-map (Settled T) (Settled T1) (λ a k. (u (a .0) (k .0), k .1)) as' h
 
-code-tells : (t : Ty) → tyOfMark (code t) ≡ some t
+pub code-tells : (t : Ty) → tyOfMark (code t) ≡ some t
 unfolding tyOfMark code
 code-tells Int = refl
 code-tells Boolean = refl

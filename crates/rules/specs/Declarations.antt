@@ -120,7 +120,7 @@ eventFieldType ty = known ty
 
 -- ------------------------------------------------------------ refuse_word64_as_digest
 
-abbrev DIGEST_NAME_TOKENS : List String
+abbrev pub DIGEST_NAME_TOKENS : List String
 DIGEST_NAME_TOKENS = "digest" ∷ "hash" ∷ "fingerprint" ∷ "checksum" ∷ "commitment" ∷ "merkle" ∷ []
 
 unfoldable pub lower : Name → Name

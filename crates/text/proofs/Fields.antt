@@ -29,7 +29,7 @@ module _ (p : ℕ → Bool) (s : List ℕ) (i : ℕ) (r : Bool) (e : r ≡ all p
   all-over h = sym (e ∙ rw (drop-of-length-le s h))
 
 -- a number grows with its digits
-value-grows : (v : ℕ) (l : List ℕ) → v ≤ valueFrom v l
+pub value-grows : (v : ℕ) (l : List ℕ) → v ≤ valueFrom v l
 unfolding valueFrom
 value-grows v [] = omega arith
 value-grows v (b ∷ bs) = let h = value-grows (v * 10 + (b - 48)) bs in omega arith

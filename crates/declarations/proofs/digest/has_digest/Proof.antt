@@ -4,21 +4,20 @@ use mathlib.Core.Bool.{false}
 use Prim.Native.Nat.{_-_, _≤_, _<_}
 use borrow.Author.Needs.{needs}
 use lib.ListN.{length, drop}
-use Rattle.rules.specs.Declarations.{lower, containsAny}
-use Rattle.declarations.specs.Tests.{digestWords}
+use Rattle.rules.specs.Declarations.{lower, containsAny, DIGEST_NAME_TOKENS}
 use Rattle.declarations.proofs.Digests.{rest, place-in, place-over, word-hit, word-miss, word-over}
 use Rattle.declarations.proofs.digest.has_digest.Statement.{statement}
 use Rattle.declarations.proofs.digest.has_digest.Tie as tie
 
 abbrev Inv-loop : tie.InvT-loop
 Inv-loop name found₀ i k₀ found k =
-    (found ≡ false) × (k ≤ 6) × (i < length name) × (containsAny (lower name) digestWords ≡ rest name i k)
+    (found ≡ false) × (k ≤ 6) × (i < length name) × (containsAny (lower name) DIGEST_NAME_TOKENS ≡ rest name i k)
 
 abbrev μ-loop : tie.MeasureT-loop
 μ-loop name found₀ i k₀ found k = 6 - k
 
 abbrev Inv-places : tie.InvT-places
-Inv-places name found₀ i₀ found i = (found ≡ false) × (containsAny (lower name) digestWords ≡ containsAny (lower (drop i name)) digestWords)
+Inv-places name found₀ i₀ found i = (found ≡ false) × (containsAny (lower name) DIGEST_NAME_TOKENS ≡ containsAny (lower (drop i name)) DIGEST_NAME_TOKENS)
 
 abbrev μ-places : tie.MeasureT-places
 μ-places name found₀ i₀ found i = length name - i

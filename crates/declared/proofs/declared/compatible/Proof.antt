@@ -1,5 +1,4 @@
-use mathlib.Core.Path.{_≡_, refl}
-use Prim.Native.Nat.{ℕ}
+use mathlib.Core.Path.{refl}
 use borrow.Author.Needs.{needs}
 use Rattle.rules.specs.Asking.{code}
 use Rattle.rules.specs.Declared.{compatible, eqTy}

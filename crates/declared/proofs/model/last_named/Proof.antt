@@ -1,4 +1,3 @@
-use mathlib.Core.Path.{_≡_}
 use borrow.Author.Needs.{needs}
 use Rattle.declared.proofs.Finding.{Going, start, turn, over}
 use Rattle.declared.proofs.model.last_named.Statement.{statement}

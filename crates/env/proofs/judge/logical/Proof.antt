@@ -1,6 +1,7 @@
 use mathlib.Core.Path.{refl}
+use borrow.Author.Needs.{needs}
 use Rattle.rules.specs.Asking.{Boolean, code}
-use Rattle.env.proofs.Judging.{left-wrong, right-wrong, both-fine, or-unknown, logical-is}
+use Rattle.env.proofs.Judging.{both-judged, or-unknown, logical-is}
 use Rattle.env.proofs.judge.logical.Statement.{statement}
 use Rattle.env.proofs.judge.logical.Tie as tie
 
@@ -9,6 +10,5 @@ unfolding code
 logical-spec =
     tie.close
     (tie.spec
-    (λ c. left-wrong logical-is _ _ _ _ _ (or-unknown Boolean _ 2 refl) (c .if1 .taken))
-    (λ c. right-wrong logical-is _ _ _ _ _ (or-unknown Boolean _ 2 refl) _ (or-unknown Boolean _ 2 refl) (c .before .if1 .left) (c .if2 .taken))
-    (λ c. both-fine logical-is _ _ _ _ _ (or-unknown Boolean _ 2 refl) _ (or-unknown Boolean _ 2 refl) (c .before .if1 .left) (c .if2 .left)))
+    (λ c κs. search needs)
+    (λ c. both-judged logical-is _ _ _ _ _ _ _ (or-unknown Boolean _ 2 refl) (or-unknown Boolean _ 2 refl) (c .both .ensures)))
