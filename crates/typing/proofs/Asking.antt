@@ -23,13 +23,14 @@ use Rattle.rules.proofs.Exprs.{line-at, dot-at, Wrapped, wrap-at}
 use Rattle.rules.proofs.Standing.{row-first}
 use Rattle.declared.specs.Codes.{tyFrom}
 use Rattle.declared.specs.declared.refusal.Refusal.{Refusal}
+use Rattle.declared.proofs.Codes.{code-of, code-is, from-code, told, untold}
 use Rattle.env.specs.Answers.{typedOf, Valid}
 use Rattle.env.specs.Force.{envOf, laterNames, ExprIn}
 use Rattle.env.specs.declared.env.Env.{Env}
 use Rattle.env.specs.declared.judge.Typed.{Typed}
 use Rattle.env.specs.declared.judge.Typed.the-variants.{Is, Refused}
 use Rattle.typing.specs.Asks.{answerMark, Asks, AsksAgain, AsksAt, AsksLeaf, Types, TypesLeaf}
-use Rattle.typing.proofs.Onward.{code-of, code-is, from-code, told, untold, mark-code}
+use Rattle.typing.proofs.Onward.{mark-code}
 
 -- a typing leaves as many marks as there were
 pub types-length : (s : List ℕ) (p : Rule Ty) (T : Table) (a : Typed) (U : Table) → Types s p T a U → length U ≡ length T

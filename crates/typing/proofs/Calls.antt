@@ -28,7 +28,9 @@ use Rattle.declared.specs.declared.model.Found.{Found}
 use Rattle.declared.specs.declared.refusal.Refusal.{Refusal}
 use Rattle.declared.specs.declared.refusal.Done.{Done}
 use Rattle.declared.specs.declared.refusal.Done.the-variants.{Fine, Refused}
-use Rattle.env.specs.Answers.{typedOf, Answers}
+use Rattle.declared.proofs.Codes.{code-is, from-code}
+use Rattle.declared.specs.Answers.{Answers}
+use Rattle.env.specs.Answers.{typedOf}
 use Rattle.env.specs.Calls.{keyedOf, KeyedOf, Callee, JudgesOp, TypesCall}
 use Rattle.env.specs.Force.{envOf, InForce, ExprIn, Ready}
 use Rattle.env.specs.declared.env.Env.{Env}
@@ -36,7 +38,7 @@ use Rattle.env.specs.declared.judge.Typed.{Typed}
 use Rattle.env.specs.declared.judge.Typed.the-variants.{Is, Refused as No}
 use Rattle.typing.specs.Asks.{calleeAt, argsAt, typeKeyed, typeArgs, Asks, AsksAt, AsksAll, AsksCall, Types, Does}
 use Rattle.typing.proofs.Asking.{types-length}
-use Rattle.typing.proofs.Onward.{code-is, from-code, Onward, onward}
+use Rattle.typing.proofs.Onward.{Onward, onward}
 use Rattle.typing.proofs.Operators.{gave}
 
 pub does-length : (s : List ℕ) (p : Rule Unit) (T : Table) (d : Done) (U : Table) → Does s p T d U → length U ≡ length T

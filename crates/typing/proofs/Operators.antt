@@ -22,14 +22,15 @@ use Rattle.declared.specs.Codes.{tyFrom}
 use Rattle.declared.specs.Lines.{ExprAt}
 use Rattle.declared.specs.Refusal.{refusalOf}
 use Rattle.declared.specs.declared.refusal.Refusal.{Refusal}
+use Rattle.declared.proofs.Codes.{code-of}
 use Rattle.env.specs.Answers.{typedOf, Valid, Judged, JudgedIn, Operands}
-use Rattle.env.specs.Force.{envOf, IsCode}
+use Rattle.env.specs.Force.{envOf}
 use Rattle.env.specs.declared.env.Env.{Env}
 use Rattle.env.specs.declared.judge.Typed.{Typed}
 use Rattle.env.specs.declared.judge.Typed.the-variants.{Is, Refused}
 use Rattle.typing.specs.Asks.{Asks, AsksAt, Types}
 use Rattle.typing.proofs.Asking.{types-length}
-use Rattle.typing.proofs.Onward.{code-of, Onward, onward}
+use Rattle.typing.proofs.Onward.{Onward, onward}
 
 -- What an asking gave.
 module _ (s : List ℕ) (p : Rule Ty) (T : Table) (a : Typed) (U : Table) (k : Types s p T a U) where

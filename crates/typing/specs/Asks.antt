@@ -17,9 +17,10 @@ use Rattle.rules.specs.Standing.{exprAt, exprsAt, Here, Row}
 use Rattle.declared.specs.Refusal.{doneOf}
 use Rattle.declared.specs.declared.model.Found.{Found}
 use Rattle.declared.specs.declared.refusal.Done.{Done}
+use Rattle.declared.specs.Codes.{IsCode}
 use Rattle.env.specs.Answers.{typedOf, Valid}
 use Rattle.env.specs.Calls.{KeyedOf}
-use Rattle.env.specs.Force.{IsCode, laterNames, Ready}
+use Rattle.env.specs.Force.{laterNames, Ready}
 use Rattle.env.specs.declared.env.Env.{Env as CodeEnv}
 use Rattle.env.specs.declared.judge.Typed.{Typed}
 use Rattle.env.specs.declared.judge.Typed.the-variants.{Is, Refused}

@@ -12,11 +12,11 @@ use Rattle.rules.specs.Typing.{typing, tyOfLeaf, tyOfIdent}
 use Rattle.rules.specs.Standing.{exprAt}
 use Rattle.rules.proofs.Exprs.{leafAt, leaf-at}
 use Rattle.rules.proofs.Parts.{stop, _also_, pick}
+use Rattle.declared.proofs.Codes.{code-is, from-code}
 use Rattle.env.specs.Answers.{typedOf}
 use Rattle.env.specs.Force.{envOf, Ready}
 use Rattle.env.specs.declared.env.Env.{Env}
 use Rattle.typing.specs.Asks.{leafCodes, AsksLeaf, TypesLeaf}
-use Rattle.typing.proofs.Onward.{code-is, from-code}
 use Rattle.typing.proofs.typing.ty_of_leaf.Statement.{statement}
 use Rattle.typing.proofs.typing.ty_of_leaf.Tie as tie
 
