@@ -95,7 +95,7 @@ unfolding nodeKind
 root (held h y r) (formed.formed a p fs) = (h, omega (arith, a .0, a .1))
 
 -- the items of a sheet
-items-at : {s S : List ℕ} → Loaded s S → (modelIn s ≡ build (map itemOf (nodesAt s (entry S 0 5) 1))) × Row S grammar.Item (entry S 0 5) 1
+pub items-at : {s S : List ℕ} → Loaded s S → (modelIn s ≡ build (map itemOf (nodesAt s (entry S 0 5) 1))) × Row S grammar.Item (entry S 0 5) 1
 unfolding modelIn modelOf contractOf nodeAt treesFrom without nodeKind
 items-at {s} {S} d =
     let r = root (d .holding .held) (d .holding .formed) in

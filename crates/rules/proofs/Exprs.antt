@@ -3,21 +3,20 @@ use mathlib.Core.Path.{_≡_, refl, sym, ap, _∙_}
 use mathlib.Core.List.{List, [], _∷_, append-nil}
 use mathlib.Core.Bool.{Bool, true, false, cond}
 use mathlib.Core.Option.{some, none}
-use Prim.Native.Nat.{ℕ, zero, suc, _+_, _-_, _/_, _<_, _≤_}
+use Prim.Native.Nat.{ℕ, suc, _-_, _<_, _≤_}
 use package.native.Mathlib.Omega.{arith}
 use lib.Dec.{eqb, ltb}
-use lib.ListN.{length, getD}
+use lib.ListN.{getD}
 use borrow.Author.Tests.{ltb-true, ltb-false, ne-eqb}
 use Rattle.sheet.specs.Grammar as grammar
 use Rattle.sheet.specs.Load.{times, sorts}
-use Rattle.sheet.specs.Tree.{node, takeNodes}
 use Rattle.sheet.specs.Scratch.{entry, kindAt, opAt, endAt, nameAt}
 use Rattle.sheet.specs.Say.{spanAt, nspanAt}
 use Rattle.sheet.proofs.Due.{length-times}
-use Rattle.rules.specs.Ast.{UnaryOp, Neg, unaryOps, BinOp, Shr, binOps, Leaf, int, id, date, str, caller, native, inasset, now, Wrap, Checked, Wrapping, Expr, leaf, unary, binary, field, call, wrap, Exprs, more, line, leafOf, exprOf, exprsOf, spanOf}
+use Rattle.rules.specs.Ast.{Neg, unaryOps, Shr, binOps, Leaf, int, id, date, str, caller, native, inasset, now, Wrap, Checked, Wrapping, Expr, leaf, unary, binary, field, call, wrap, more, line, leafOf, exprOf, exprsOf, spanOf}
 use Rattle.rules.specs.Declared.{literal, intOf}
 use Rattle.rules.specs.Typing.{identLeaf, identOf, dotOf}
-use Rattle.rules.specs.Standing.{treesFrom, nodeAt, exprAt, exprsAt, Loaded, Here, Row}
+use Rattle.rules.specs.Standing.{exprAt, exprsAt, Loaded, Here, Row}
 use Rattle.rules.proofs.Parts.{stop, _also_, pick, parts}
 use Rattle.rules.proofs.Standing.{Stands, stands, exprs-next, parts-behind, row-behind, row-first, row-rest}
 

@@ -1,7 +1,7 @@
 -- What is known of the lines of a sheet that is loaded. Assumes nothing.
 use mathlib.Core.Path.{_≡_, refl, sym, ap, _∙_}
-use mathlib.Core.List.{List, [], _∷_, _++_}
-use Prim.Native.Nat.{ℕ, zero, suc, _+_, _-_, _/_, _*_, _<_, _≤_}
+use mathlib.Core.List.{List, _∷_, _++_}
+use Prim.Native.Nat.{ℕ, zero, suc, _+_, _-_, _/_, _<_, _≤_}
 use native.Mathlib.Omega.{arith}
 use mathlib.Core.Option.{some}
 use lib.ListN.{length, getElem?}
@@ -9,10 +9,10 @@ use Rattle.sheet.specs.Grammar.{Sort}
 use Rattle.sheet.specs.Line.{Line}
 use Rattle.sheet.specs.Load.{sorts, times}
 use Rattle.sheet.specs.Tree.{Node, node, Nodes, nil, more, takeNodes, build as trees}
-use Rattle.sheet.specs.Scratch.{kindAt, endAt, skip}
-use Rattle.sheet.specs.Held.{Says, Held, held, HeldAll, no-tree, tree, Every, every, EveryOf, no-more, and-more, Spells, Among, Parted, Formed, formed, FormedAll, none-due, one-due, Holding}
+use Rattle.sheet.specs.Scratch.{endAt, skip}
+use Rattle.sheet.specs.Held.{Says, Held, held, HeldAll, no-tree, tree, every, EveryOf, no-more, and-more, Spells, Parted, formed, FormedAll, none-due, one-due}
 use Rattle.sheet.proofs.Holds.{all-le}
-use Rattle.rules.specs.Ast.{more as moreExprs, nodes, exprOf, exprsOf}
+use Rattle.rules.specs.Ast.{more as moreExprs, nodes, exprsOf}
 use Rattle.rules.specs.Standing.{linesIn, before, without, treesFrom, nodeAt, nodesAt, exprAt, exprsAt, Loaded, Here, Row, stop, next}
 
 -- the trees from line i on: what their records are, where they stand and what they say
@@ -181,7 +181,11 @@ unfolding times skip
 rest-of σ zero os {ps = ps} f h = (ps, f, h)
 rest-of σ (suc k) os (one-due f fs) (tree h hs) = rest-of σ k os fs hs
 
--- the parts of a second and a third group
+-- the parts of the first, a second and a third group
+pub row-group : {s S : List ℕ} {i : ℕ} (g : ℕ × Sort) (gs : List (ℕ × Sort)) (t : Stands s S i) → t .line .parts ≡ g ∷ gs → Row S (g .1) (g .0) (suc i)
+unfolding sorts
+row-group g gs t e = row-of (g .0) (sorts gs) refl (rw e at (t .formed)) (t .held)
+
 pub row-second : {s S : List ℕ} {i : ℕ} (g h : ℕ × Sort) (gs : List (ℕ × Sort)) (t : Stands s S i) → t .line .parts ≡ g ∷ h ∷ gs → Row S (h .1) (h .0) (skip S (g .0) (suc i))
 unfolding sorts
 row-second g h gs t e =

@@ -1,22 +1,20 @@
 -- `ty_of`, `ty_again` and `typing`: what each return and each call needs. Assumes nothing.
 use mathlib.Core.Logic.{_≢_}
 use mathlib.Core.Path.{_≡_, refl, sym, ap, _∙_}
-use mathlib.Core.List.{List, [], _∷_}
-use mathlib.Core.Bool.{Bool, true, false, _&&_, _||_}
-use mathlib.Core.Option.{none, some}
-use Prim.Native.Nat.{ℕ, zero, suc, _+_, _*_, _-_, _/_, _<_, _≤_}
+use mathlib.Core.List.{List}
+use mathlib.Core.Bool.{Bool, true, false, _&&_}
+use Prim.Native.Nat.{ℕ, _+_, _-_, _<_, _≤_}
 use native.Mathlib.Numerals.{add-one}
 use native.Mathlib.Omega.{arith}
 use borrow.Author.Needs.{needs}
 use lib.Dec.{leb}
 use lib.ListN.{length, getD, set}
-use Rattle.sheet.specs.Grammar as grammar
 use Rattle.sheet.specs.Scratch.{kindAt, nameAt}
 use Rattle.rules.specs.Ast.{Wrap, line}
-use Rattle.rules.specs.Asking.{Ty, code, ok, refused, ret, Rule}
+use Rattle.rules.specs.Asking.{Ty, code, ok, Rule}
 use Rattle.rules.specs.Kept.{Table, kept, retyped}
 use Rattle.rules.specs.Typing.{stale, asked, typing, askOf, tyOf, tyOfDot}
-use Rattle.rules.specs.Standing.{exprAt, Loaded, Here}
+use Rattle.rules.specs.Standing.{exprAt}
 use Rattle.rules.proofs.AnyTable.{from-table, again, first-time}
 use Rattle.rules.proofs.Binding.{kept-length}
 use Rattle.rules.proofs.Exprs.{line-at, dot-at, Wrapped, wrap-at}
@@ -24,7 +22,7 @@ use Rattle.rules.proofs.Standing.{row-first}
 use Rattle.declared.specs.Codes.{tyFrom}
 use Rattle.declared.specs.declared.refusal.Refusal.{Refusal}
 use Rattle.declared.proofs.Codes.{code-of, code-is, from-code, told, untold}
-use Rattle.env.specs.Answers.{typedOf, Valid}
+use Rattle.env.specs.Answers.{typedOf}
 use Rattle.env.specs.Force.{envOf, laterNames, ExprIn}
 use Rattle.env.specs.declared.env.Env.{Env}
 use Rattle.env.specs.declared.judge.Typed.{Typed}

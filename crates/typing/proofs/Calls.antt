@@ -1,28 +1,26 @@
 -- `type_call`, `type_args`, `type_keyed` and `ask_each`: what each return and each call needs. Assumes nothing.
 use mathlib.Core.Logic.{_≢_}
 use mathlib.Core.Path.{_≡_, refl, sym, ap, _∙_}
-use mathlib.Core.List.{List, [], _∷_}
-use Prim.Native.Nat.{ℕ, zero, suc, _+_, _*_, _-_, _/_, _<_, _≤_}
+use mathlib.Core.List.{List, []}
+use Prim.Native.Nat.{ℕ, suc, _+_, _*_, _-_, _/_, _<_}
 use native.Mathlib.Numerals.{add-one}
 use native.Mathlib.Omega.{arith}
 use borrow.Author.Needs.{needs}
 use lib.ListN.{length}
 use Rattle.sheet.specs.Grammar as grammar
-use Rattle.sheet.specs.Scratch.{entry, kindAt, endAt}
+use Rattle.sheet.specs.Scratch.{entry, endAt}
 use Rattle.sheet.specs.Say.{spanAt}
 use Rattle.sheet.specs.Tree.{takeNodes}
 use Rattle.rules.specs.Ast.{call, more, exprsOf}
-use Rattle.rules.specs.Asking.{Ty, code, ok, refused, Rule, ret, _>>=_, _>>_}
+use Rattle.rules.specs.Asking.{Ty, code, ok, refused, Rule, ret, _>>_}
 use Rattle.rules.specs.Kept.{Table, kept}
-use Rattle.rules.specs.Typing as rule
 use Rattle.rules.specs.Typing.{asked, askOf, tyOf, typing, typings, typeCall, askEach, checkKeyedCall, expectAssetReceiver, expectKeyedOp, isPool, fieldOf, keyedField, tyOfCall}
-use Rattle.rules.specs.Standing.{exprAt, exprsAt, Loaded, Here, Row}
+use Rattle.rules.specs.Standing.{exprAt, exprsAt, Row}
 use Rattle.rules.proofs.Binding.{kept-length, then-ok, then-refused}
 use Rattle.rules.proofs.Exprs.{call-at}
 use Rattle.rules.proofs.Standing.{exprs-next, row-first, row-rest}
 use Rattle.declared.specs.Codes.{tyFrom}
-use Rattle.declared.specs.Found.{foundField, Of}
-use Rattle.declared.specs.Lines.{ExprAt}
+use Rattle.declared.specs.Found.{foundField}
 use Rattle.declared.specs.Refusal.{refusalOf, doneOf}
 use Rattle.declared.specs.declared.model.Found.{Found}
 use Rattle.declared.specs.declared.refusal.Refusal.{Refusal}
@@ -32,7 +30,7 @@ use Rattle.declared.proofs.Codes.{code-is, from-code}
 use Rattle.declared.specs.Answers.{Answers}
 use Rattle.env.specs.Answers.{typedOf}
 use Rattle.env.specs.Calls.{keyedOf, KeyedOf, Callee, JudgesOp, TypesCall}
-use Rattle.env.specs.Force.{envOf, InForce, ExprIn, Ready}
+use Rattle.env.specs.Force.{envOf, ExprIn}
 use Rattle.env.specs.declared.env.Env.{Env}
 use Rattle.env.specs.declared.judge.Typed.{Typed}
 use Rattle.env.specs.declared.judge.Typed.the-variants.{Is, Refused as No}

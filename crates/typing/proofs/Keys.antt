@@ -18,17 +18,17 @@ use Rattle.sheet.specs.Scratch.{entry, kindAt, endAt, nameAt}
 use Rattle.sheet.specs.Say.{nspanAt}
 use Rattle.sheet.specs.Tree.{takeNodes}
 use Rattle.rules.specs.Text.{Name, is, isOne}
-use Rattle.rules.specs.Ast.{Type', Expr, Field, Exprs, nil, more, exprsOf}
-use Rattle.rules.specs.Asking.{Ty, code, ok, refused, Rule, ret, _>>=_, _>>_, when, ifSome}
+use Rattle.rules.specs.Ast.{Type', Expr, Field, more, exprsOf}
+use Rattle.rules.specs.Asking.{Ty, code, ok, Rule, _>>=_, _>>_, when, ifSome}
 use Rattle.rules.specs.Kept.{Table, Kept, kept}
 use Rattle.rules.specs.Declared.{declaredArg}
 use Rattle.rules.specs.Typing.{Env as Environment, Asked, Dot, asked, askOf, tyOf, typings, dotOf, keyedField, fieldOf, expected, checkAmount, checkKeys, judgeKey, isNameParam, checkKeyedCall}
-use Rattle.rules.specs.Standing.{exprAt, exprsAt, fieldAt, typeAt, Loaded, Here, Row}
+use Rattle.rules.specs.Standing.{exprAt, exprsAt, fieldAt, typeAt, Loaded, Row}
 use Rattle.rules.proofs.Binding.{then-ok, then-refused}
 use Rattle.rules.proofs.Exprs.{is-dot-at}
 use Rattle.rules.proofs.Standing.{exprs-next, row-first, row-rest}
 use Rattle.declared.specs.Codes.{tyFrom}
-use Rattle.declared.specs.Found.{foundField, Of}
+use Rattle.declared.specs.Found.{foundField}
 use Rattle.declared.specs.Lines.{Typed as TypeAt}
 use Rattle.declared.specs.Refusal.{dotAt, refusalOf, doneOf}
 use Rattle.declared.specs.declared.model.Found.{Found}
@@ -38,12 +38,12 @@ use Rattle.declared.specs.declared.refusal.Done.{Done}
 use Rattle.declared.specs.declared.refusal.Done.the-variants.{Fine, Refused}
 use Rattle.env.proofs.Lookups.{TypeBehind, behind as type-behind}
 use Rattle.env.specs.Answers.{typedOf, JudgesAmount, JudgesKey}
-use Rattle.env.specs.Calls.{wantsOf, keyedOf, KeyedOf}
+use Rattle.env.specs.Calls.{wantsOf, keyedOf}
 use Rattle.env.specs.Force.{envOf, ExprIn}
 use Rattle.env.specs.declared.env.Env.{Env}
 use Rattle.env.specs.declared.judge.Typed.{Typed}
 use Rattle.env.specs.declared.judge.Typed.the-variants.{Is, Refused as No}
-use Rattle.typing.specs.Asks.{calleeAt, argsAt, methodAt, amountRule, wanted, keysRule, Asks, AsksAt, AsksAll, AsksCall, AsksMethod, AsksKeys, Types, Does}
+use Rattle.typing.specs.Asks.{calleeAt, argsAt, methodAt, amountRule, wanted, keysRule, Asks, AsksCall, AsksMethod, AsksKeys, Types, Does}
 use Rattle.typing.proofs.Asking.{types-length}
 use Rattle.typing.proofs.Onward.{Onward, onward}
 use Rattle.typing.proofs.Operators.{gave, gave-code}

@@ -1,29 +1,27 @@
 -- `ty_of_unary` and `ty_of_binary`: what each return and each call needs. Assumes nothing.
-use mathlib.Core.Logic.{_≢_}
 use mathlib.Core.Path.{_≡_, refl, sym, ap, _∙_}
-use mathlib.Core.List.{List, [], _∷_}
-use Prim.Native.Nat.{ℕ, zero, suc, _+_, _*_, _-_, _/_, _<_, _≤_}
+use mathlib.Core.List.{List}
+use Prim.Native.Nat.{ℕ, suc, _+_, _*_, _-_, _/_, _<_}
 use native.Mathlib.Numerals.{add-one}
 use native.Mathlib.Omega.{arith}
 use borrow.Author.Needs.{needs}
 use lib.ListN.{length, getD}
 use Rattle.sheet.specs.Grammar as grammar
-use Rattle.sheet.specs.Scratch.{kindAt, opAt, endAt}
+use Rattle.sheet.specs.Scratch.{opAt, endAt}
 use Rattle.sheet.specs.Say.{spanAt}
 use Rattle.rules.specs.Ast.{Neg, Shr, unaryOps, binOps, unary, binary}
 use Rattle.rules.specs.Asking.{Ty, code, ok, Rule, _>>=_}
 use Rattle.rules.specs.Kept.{Table, kept}
 use Rattle.rules.specs.Typing.{asked, askOf, tyOf, typing, judgeUnary, judgeBinary, tyOfUnary, tyOfBinary}
-use Rattle.rules.specs.Standing.{exprAt, Loaded, Row}
+use Rattle.rules.specs.Standing.{exprAt, Row}
 use Rattle.rules.proofs.Binding.{then-ok, then-refused}
 use Rattle.rules.proofs.Exprs.{un-at, bin-at}
 use Rattle.rules.proofs.Standing.{row-first, row-rest}
 use Rattle.declared.specs.Codes.{tyFrom}
-use Rattle.declared.specs.Lines.{ExprAt}
 use Rattle.declared.specs.Refusal.{refusalOf}
 use Rattle.declared.specs.declared.refusal.Refusal.{Refusal}
 use Rattle.declared.proofs.Codes.{code-of}
-use Rattle.env.specs.Answers.{typedOf, Valid, Judged, JudgedIn, Operands}
+use Rattle.env.specs.Answers.{typedOf, Judged, JudgedIn, Operands}
 use Rattle.env.specs.Force.{envOf}
 use Rattle.env.specs.declared.env.Env.{Env}
 use Rattle.env.specs.declared.judge.Typed.{Typed}

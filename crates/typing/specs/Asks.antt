@@ -9,7 +9,7 @@ use Rattle.sheet.specs.Grammar as grammar
 use Rattle.sheet.specs.Scratch.{entry, kindAt, endAt, nameAt}
 use Rattle.rules.specs.Text.{Name, isOne}
 use Rattle.rules.specs.Ast.{Type', Expr, Exprs, Field}
-use Rattle.rules.specs.Asking.{Ty, Res, Rule, ret, _>>=_, when}
+use Rattle.rules.specs.Asking.{Ty, Rule, ret, _>>=_, when}
 use Rattle.rules.specs.Kept.{Table, kept}
 use Rattle.rules.specs.Declared.{declaredArg}
 use Rattle.rules.specs.Typing.{Env, stale, askEach, checkAmount, checkKeyedCall, checkKeys, tyOfCall, typings}

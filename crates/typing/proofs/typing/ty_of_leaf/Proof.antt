@@ -6,7 +6,7 @@ use native.Mathlib.Omega.{arith}
 use borrow.Author.Needs.{needs}
 use lib.ListN.{getD}
 use Rattle.sheet.specs.Scratch.{kindAt, nameAt}
-use Rattle.rules.specs.Asking.{Ty, code, Rule, ret}
+use Rattle.rules.specs.Asking.{code}
 use Rattle.rules.specs.Kept.{Table, kept}
 use Rattle.rules.specs.Typing.{typing, tyOfLeaf, tyOfIdent}
 use Rattle.rules.specs.Standing.{exprAt}
