@@ -4,7 +4,7 @@ use mathlib.Core.List.{List, [], _∷_, _++_}
 use Prim.Native.Nat.{ℕ, zero, suc, _+_, _-_, _/_, _*_, _<_, _≤_}
 use native.Mathlib.Omega.{arith}
 use mathlib.Core.Option.{some}
-use lib.ListN.{length, getElem?, take}
+use lib.ListN.{length, getElem?, take, length-take}
 use Rattle.sheet.specs.Grammar.{Sort}
 use Rattle.sheet.specs.Line.{Line}
 use Rattle.sheet.specs.Load.{lines, load, sorts, times}
@@ -16,9 +16,9 @@ use Rattle.sheet.specs.Scan.{scanAll}
 use Rattle.sheet.specs.declared.loader.Answer.{Answer}
 use Rattle.sheet.specs.declared.loader.Answer.the-variants.{Lines}
 use Rattle.sheet.proofs.Holds.{all-le}
-use Rattle.sheet.proofs.Loaded.{whole, loaded, left-size, left-room, left-few, answer-lines}
+use Rattle.sheet.proofs.Loaded.{whole, loaded, left-size, left-few, answer-lines}
 use Rattle.rules.specs.Ast.{more as moreExprs, nodes, exprOf, exprsOf}
-use Rattle.rules.specs.Standing.{readLines, linesIn, before, without, treesFrom, nodeAt, nodesAt, exprAt, exprsAt, Loaded, Here, Row, stop, next}
+use Rattle.rules.specs.Standing.{readLines, linesIn, before, without, treesFrom, nodeAt, nodesAt, exprAt, exprsAt, Loaded, LoadedIn, Here, Row, stop, next}
 
 -- the trees from line i on: what their records are, where they stand and what they say
 record Trees (s S : List ℕ) (n i : ℕ) (ns : Nodes) : Type 0 where
@@ -238,19 +238,10 @@ by-load s types S ls e =
     record { root = d .0; one = rw (lines-in s ls (whole s types S ls e .1)) (d .1); holding = rw c (d .2) }
 
 -- ... where it answers that there are n lines, and leaves U for S
-pub record Answered (s S U : List ℕ) (n : ℕ) : Type 0 where
-  pub loaded : Loaded s (take (8 * n) U)
-  pub size : length (take (8 * n) U) ≡ 8 * n
-  pub room : 8 * n ≤ length S
-  pub few : n ≤ 1024
-
-pub by-answer : (s S U : List ℕ) (types n : ℕ) (r : Answer) → r ≡ answer (load s types (length S)) → r ≡ Lines n → U ≡ scratchAfter s types S → Answered s S U n
+pub by-answer : (s S U : List ℕ) (types n : ℕ) (r : Answer) → r ≡ answer (load s types (length S)) → r ≡ Lines n → U ≡ scratchAfter s types S → LoadedIn s U n
 by-answer s S U types n r a e u =
     let l = answer-lines (load s types (length S)) (sym e ∙ a) in
-    rw (u, l .2)
-    (record {
-      loaded = by-load s types S (l .0) (l .1);
-      size = left-size s types S (l .0) (l .1);
-      room = left-room s types S (l .0) (l .1);
-      few = left-few s types S (l .0) (l .1);
-    })
+    let X = scratchAfter s types S in
+    let k = 8 * length (l .0) in
+    let h : k ≤ length X = omega (arith, left-size s types S (l .0) (l .1), length-take k X) in
+    rw (u, l .2) (record { loaded = by-load s types S (l .0) (l .1); entries = h; few = left-few s types S (l .0) (l .1) })

@@ -24,7 +24,7 @@ use Rattle.sheet.proofs.ReadAs.{ReadAs, read-sound, sound-small, piece-
 use Rattle.sheet.proofs.Holds.{judged-lines, scan-due, holds, one-tree, all-first, all-none, length-written, length-closed}
 use Rattle.sheet.proofs.Forms.{scan-formed, formed-one}
 use Rattle.sheet.proofs.Scanning.{line-part}
-use Rattle.sheet.proofs.Loading.{scan-length, room, passed, loads, loaded-whole}
+use Rattle.sheet.proofs.Loading.{scan-length, passed, loads, loaded-whole}
 
 -- a line that the entries can say, and that they then spell with the sheet's bytes
 record Sayable (s : List ℕ) (l : Line) : Type 0 where
@@ -140,9 +140,6 @@ module _ (s : List ℕ) (types : ℕ) (S : List ℕ) (ls : List Line) (e : load 
   -- eight entries a line, of no more than 1,024 lines
   pub left-size : length (take (8 * length ls) (scratchAfter s types S)) ≡ 8 * length ls
   left-size = rw left (length-closed (length ls) _ ∙ length-written ls T 0 ∙ size)
-
-  pub left-room : 8 * length ls ≤ length S
-  left-room = room s types S _ (length ls) refl (whole .0) count
 
   pub left-few : length ls ≤ 1024
   left-few = rw count (passes .few)
