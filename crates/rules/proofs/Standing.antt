@@ -4,16 +4,21 @@ use mathlib.Core.List.{List, _∷_, _++_}
 use Prim.Native.Nat.{ℕ, zero, suc, _+_, _-_, _/_, _<_, _≤_}
 use native.Mathlib.Omega.{arith}
 use mathlib.Core.Option.{some}
-use lib.ListN.{length, getElem?}
+use lib.ListN.{length, getElem?, take, length-take}
 use Rattle.sheet.specs.Grammar.{Sort}
 use Rattle.sheet.specs.Line.{Line}
-use Rattle.sheet.specs.Load.{sorts, times}
+use Rattle.sheet.specs.Load.{lines, load, sorts, times}
 use Rattle.sheet.specs.Tree.{Node, node, Nodes, nil, more, takeNodes, build as trees}
 use Rattle.sheet.specs.Scratch.{endAt, skip}
 use Rattle.sheet.specs.Held.{Says, Held, held, HeldAll, no-tree, tree, every, EveryOf, no-more, and-more, Spells, Parted, formed, FormedAll, none-due, one-due}
+use Rattle.sheet.specs.Promise.{answer, scratchAfter}
+use Rattle.sheet.specs.Scan.{scanAll}
+use Rattle.sheet.specs.declared.loader.Answer.{Answer}
+use Rattle.sheet.specs.declared.loader.Answer.the-variants.{Lines}
 use Rattle.sheet.proofs.Holds.{all-le}
+use Rattle.sheet.proofs.Loaded.{whole, loaded, left-size, left-few, answer-lines}
 use Rattle.rules.specs.Ast.{more as moreExprs, nodes, exprsOf}
-use Rattle.rules.specs.Standing.{linesIn, before, without, treesFrom, nodeAt, nodesAt, exprAt, exprsAt, Loaded, Here, Row, stop, next}
+use Rattle.rules.specs.Standing.{readLines, linesIn, before, without, treesFrom, nodeAt, nodesAt, exprAt, exprsAt, Loaded, LoadedIn, Here, Row, stop, next}
 
 -- the trees from line i on: what their records are, where they stand and what they say
 record Trees (s S : List ℕ) (n i : ℕ) (ns : Nodes) : Type 0 where
@@ -222,3 +227,25 @@ pub nodes-length : {s S : List ℕ} {σ : Sort} {m i : ℕ} → Loaded s S → R
 unfolding nodesAt takeNodes nodes
 nodes-length d stop = refl
 nodes-length {m = suc m} {i} d (next x r) = rw (nodes-next d m i (x .within)) (ap suc (nodes-length d r))
+
+-- ------------------------------------------------------------ the loader
+
+lines-in : (s : List ℕ) (ls : List Line) → scanAll s ≡ lines ls → linesIn s ≡ ls
+unfolding linesIn readLines
+lines-in s ls e = rw e refl
+
+-- what `load` leaves of a sheet that it reads
+pub by-load : (s : List ℕ) (types : ℕ) (S : List ℕ) (ls : List Line) → load s types (length S) ≡ lines ls → Loaded s (take (8 * length ls) (scratchAfter s types S))
+by-load s types S ls e =
+    let d = loaded s types S ls e in
+    let c : length (take (8 * length ls) (scratchAfter s types S)) / 8 ≡ length ls = omega (arith, left-size s types S ls e) in
+    record { root = d .0; one = rw (lines-in s ls (whole s types S ls e .1)) (d .1); holding = rw c (d .2) }
+
+-- ... where it answers that there are n lines, and leaves U for S
+pub by-answer : (s S U : List ℕ) (types n : ℕ) (r : Answer) → r ≡ answer (load s types (length S)) → r ≡ Lines n → U ≡ scratchAfter s types S → LoadedIn s U n
+by-answer s S U types n r a e u =
+    let l = answer-lines (load s types (length S)) (sym e ∙ a) in
+    let X = scratchAfter s types S in
+    let k = 8 * length (l .0) in
+    let h : k ≤ length X = omega (arith, left-size s types S (l .0) (l .1), length-take k X) in
+    rw (u, l .2) (record { loaded = by-load s types S (l .0) (l .1); entries = h; few = left-few s types S (l .0) (l .1) })

@@ -1,8 +1,8 @@
 -- What stands at a line of a sheet: the tree of its record, told from the sheet's bytes alone.
-use Prim.Native.Nat.{ℕ, zero, suc, _/_, _<_}
+use Prim.Native.Nat.{ℕ, zero, suc, _*_, _/_, _<_, _≤_}
 use mathlib.Core.List.{List, []}
 use mathlib.Core.Path.{_≡_}
-use lib.ListN.{length}
+use lib.ListN.{length, take}
 use Rattle.sheet.specs.Grammar.{Sort}
 use Rattle.sheet.specs.Held.{Among, Holding}
 use Rattle.sheet.specs.Line.{Line}
@@ -77,6 +77,12 @@ pub record Loaded (s S : List ℕ) : Type 0 where
   pub root : Node
   pub one : trees 0 (linesIn s) ≡ more root nil
   pub holding : Holding s S (length S / 8) root
+
+-- the scratch U starts with the entries of the sheet s, which is read and has n lines
+pub record LoadedIn (s U : List ℕ) (n : ℕ) : Type 0 where
+  pub loaded : Loaded s (take (8 * n) U)
+  pub entries : 8 * n ≤ length U
+  pub few : n ≤ 1024
 
 -- at line i stands a record that may stand where the sort σ is due
 pub record Here (S : List ℕ) (σ : Sort) (i : ℕ) : Type 0 where

@@ -12,13 +12,14 @@ use Rattle.text.proofs.Pieces.{piece-first}
 use Rattle.sheet.specs.Field.{fieldAt}
 use Rattle.sheet.specs.Grammar.{Sort}
 use Rattle.sheet.specs.Line.{Line, readLine, fieldsOf}
-use Rattle.sheet.specs.Load.{lines, linesOf, scan, unended, early, load}
+use Rattle.sheet.specs.Load.{Loaded as Read, lines, refused, linesOf, scan, unended, early, load}
 use Rattle.sheet.specs.Tree.{Node, node, Nodes, nil, more, takeNodes, dropNodes, grow, build}
 use Rattle.sheet.specs.Scratch.{nameAt, written, closed}
 use Rattle.sheet.specs.Say.{numberAt, spanAt, nspanAt}
 use Rattle.sheet.specs.Held.{Says, Held, held, HeldAll, no-tree, tree, Sound, Each, none, one, Every, every, EveryOf, no-more, and-more, Spells, Holding}
 use Rattle.sheet.specs.Scan.{Whole, linesFrom, scanAll}
-use Rattle.sheet.specs.Promise.{laid, scratchAfter}
+use Rattle.sheet.specs.Promise.{answer, laid, scratchAfter}
+use Rattle.sheet.specs.declared.loader.Answer.the-variants.{Lines}
 use Rattle.sheet.proofs.ReadAs.{ReadAs, read-sound, sound-small, piece-within, stands-within, SpanAt}
 use Rattle.sheet.proofs.Holds.{judged-lines, scan-due, holds, one-tree, all-first, all-none, length-written, length-closed}
 use Rattle.sheet.proofs.Forms.{scan-formed, formed-one}
@@ -118,7 +119,7 @@ module _ (s : List ℕ) (types : ℕ) (S : List ℕ) (ls : List Line) (e : load 
   abbrev T : List ℕ
   T = take (8 * length ls) S
 
-  whole : (early s types (length S) ≡ 0) × (scanAll s ≡ lines ls)
+  pub whole : (early s types (length S) ≡ 0) × (scanAll s ≡ lines ls)
   whole = loaded-whole s types (length S) ls e
 
   count : length ls ≡ length (linesOf s)
@@ -136,6 +137,13 @@ module _ (s : List ℕ) (types : ℕ) (S : List ℕ) (ls : List Line) (e : load 
       rw (← loads s types S _ (length ls) refl (whole .0) count _ _ refl refl .1, whole .1)
       (take-at _ _ _ (length-closed (length ls) _ ∙ length-written ls T 0 ∙ size))
 
+  -- eight entries a line, of no more than 1,024 lines
+  pub left-size : length (take (8 * length ls) (scratchAfter s types S)) ≡ 8 * length ls
+  left-size = rw left (length-closed (length ls) _ ∙ length-written ls T 0 ∙ size)
+
+  pub left-few : length ls ≤ 1024
+  left-few = rw count (passes .few)
+
   -- it holds its tree
   pub loaded : (t : Node) × (build 0 ls ≡ more t nil) × Holding s (take (8 * length ls) (scratchAfter s types S)) (length ls) t
   loaded =
@@ -145,3 +153,9 @@ module _ (s : List ℕ) (types : ℕ) (S : List ℕ) (ls : List Line) (e : load 
       let h = all-first (rw (q .1) at (holds T size refl (sounds r) d)) in
       let f = formed-one (rw (q .1) at (scan-formed (linesOf s) 1 0 0 _ ls (whole .1))) in
       (q .0, q .1, rw left (record { formed = f; held = h .0; all = all-none (h .1); spells = spelt (h .0) (every-first (rw (q .1) at (built r)) .0) }))
+
+-- where the answer is the number of lines, there are lines
+pub answer-lines : {n : ℕ} (r : Read) → Lines n ≡ answer r → (ls : List Line) × (r ≡ lines ls) × (n ≡ length ls)
+unfolding answer
+answer-lines (lines ls) e = (ls, refl, cc)
+answer-lines (refused m i) e = absurd (let z : _≡_ {A = ℕ} 0 1 = cc in omega arith)
