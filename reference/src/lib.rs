@@ -8,6 +8,7 @@ pub mod answer;
 pub mod askings;
 pub mod case;
 pub mod cases;
+pub mod compare;
 pub mod damage;
 pub mod fields;
 pub mod generate;

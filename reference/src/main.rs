@@ -1,6 +1,7 @@
 //! The program: see `HELP`.
 
 use reference::case::Case;
+use reference::compare::compare;
 use reference::generate::case;
 use reference::reader::Spans;
 use reference::stored::{answer_line, files};
@@ -21,6 +22,9 @@ reference generate --seed S --index I
     The sheet of a generated case.
 reference coverage --seed S --count N
     How often each number comes in the cases 0 to N - 1.
+reference compare --seed S --count N PROGRAM
+    Runs PROGRAM, which answers frames as crates/replay_typing does, on those of the cases 0 to
+    N - 1 whose types are compared: how many agree, or the first that doesn't.
 reference stored DIR
     Writes the stored answers into the repository at DIR.
 FILE is standard input if it isn't given.
@@ -57,6 +61,7 @@ fn run(args: &[String]) -> Outcome<Vec<u8>> {
         "lines" => lines(&args),
         "generate" => Ok(case(args.needed("--seed")?, args.needed("--index")?).sheet),
         "coverage" => Ok(coverage(args.needed("--seed")?, args.needed("--count")?)),
+        "compare" => compared(&args),
         "stored" => store(&args),
         _ => Err(format!("{command}: no such command\n{HELP}")),
     }
@@ -144,6 +149,13 @@ fn coverage(seed: u64, count: u64) -> Vec<u8> {
     }
     let rows = times.iter().enumerate();
     rows.flat_map(|(number, times)| format!("{number:2} {times}\n").into_bytes()).collect()
+}
+
+fn compared(args: &Args) -> Outcome<Vec<u8>> {
+    let [program] = args.paths[..] else {
+        return Err(format!("one PROGRAM is wanted\n{HELP}"));
+    };
+    Ok(compare(program, args.needed("--seed")?, args.needed("--count")?)?.into())
 }
 
 fn store(args: &Args) -> Outcome<Vec<u8>> {

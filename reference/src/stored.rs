@@ -25,6 +25,7 @@ pub type File = (&'static str, Vec<u8>);
 pub fn files() -> Vec<File> {
     let answers = answer_cases();
     let readings = reader_cases();
+    let (typings, typed) = typing_cases(&answers);
     vec![
         ("reference/stored/answers.sheets", frames(&answers)),
         (
@@ -33,10 +34,12 @@ pub fn files() -> Vec<File> {
         ),
         ("crates/replay_reader/stdin", frames(&readings)),
         ("crates/replay_reader/stdout", expected(&readings, reading_line)),
+        ("crates/replay_typing/stdin", frames(&typings)),
+        ("crates/replay_typing/stdout", typed.into_bytes()),
     ]
 }
 
-fn frames(cases: &[Case]) -> Vec<u8> {
+pub fn frames(cases: &[Case]) -> Vec<u8> {
     let mut out = Vec::new();
     for case in cases {
         let Case { sheet, scratch_len, types_len, message_len } = case;
@@ -54,16 +57,36 @@ fn expected(cases: &[Case], line: impl Fn(&Case) -> String) -> Vec<u8> {
 
 /// `number,place,count,length;types;message`.
 pub fn answer_line(answer: &Answer) -> String {
-    let codes = answer.types.iter().flatten().map(u8::to_string);
     format!(
         "{},{},{},{};{};{}",
         answer.number,
         answer.places[0],
         answer.count,
         answer.message.len(),
-        codes.collect::<Vec<_>>().join(" "),
+        codes(answer.types.as_deref().unwrap_or_default()),
         answer.written(),
     )
+}
+
+fn codes(types: &[u8]) -> String {
+    types.iter().map(u8::to_string).collect::<Vec<_>>().join(" ")
+}
+
+/// `number,place` of the reader's refusal, or `number;types`. None where the replaying program, which only types, asks
+/// less or more than the pass: where a check refuses that is no typing, or a `let` is bound.
+pub fn typing_line(case: &Case) -> Option<String> {
+    let answer = case.answer();
+    match (answer.number, &answer.types) {
+        (number @ 1..=11, _) => Some(format!("{number},{}", answer.places[0])),
+        (number @ (0 | 30..=42), Some(types)) if !binds(&case.sheet) => {
+            Some(format!("{number};{}", codes(types)))
+        }
+        _ => None,
+    }
+}
+
+fn binds(sheet: &[u8]) -> bool {
+    sheet.split(|&byte| byte == b'\n').any(|line| line.starts_with(b"let,"))
 }
 
 /// `number,place`, or `0,LINES;` and `word:depth:end` for each line.
@@ -95,6 +118,12 @@ fn answer_cases() -> Vec<Case> {
         (answer.places.len() == 1).then_some(answer.number)
     }));
     cases
+}
+
+/// The cases that have a typing line, and these lines.
+fn typing_cases(cases: &[Case]) -> (Vec<Case>, String) {
+    let compared = |case: &Case| Some((case.clone(), typing_line(case)? + "\n"));
+    cases.iter().filter_map(compared).unzip()
 }
 
 fn reader_cases() -> Vec<Case> {

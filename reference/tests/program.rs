@@ -50,6 +50,13 @@ fn lines() {
 }
 
 #[test]
+fn compare_tells_the_first_difference() {
+    let told = run(&["compare", "--seed", "1", "--count", "5", "cat"], "");
+    assert!(!told.status.success());
+    assert!(told.stderr.starts_with(b"0 agree; seed 1 index "));
+}
+
+#[test]
 fn what_it_does_not_know() {
     assert!(!run(&["verdict"], "").status.success());
     assert!(!run(&["answer", "--table", "1"], "").status.success());

@@ -8,6 +8,8 @@ const COMMITTED: &[(&str, &[u8])] = &[
     ("reference/stored/answers.expected", include_bytes!("../stored/answers.expected")),
     ("crates/replay_reader/stdin", include_bytes!("../../crates/replay_reader/stdin")),
     ("crates/replay_reader/stdout", include_bytes!("../../crates/replay_reader/stdout")),
+    ("crates/replay_typing/stdin", include_bytes!("../../crates/replay_typing/stdin")),
+    ("crates/replay_typing/stdout", include_bytes!("../../crates/replay_typing/stdout")),
 ];
 
 fn committed(name: &str) -> &'static [u8] {
@@ -24,7 +26,7 @@ fn expected(name: &str) -> Vec<&'static str> {
 fn times(lines: &[&str]) -> [usize; 47] {
     let mut times = [0; 47];
     for line in lines {
-        let number = line.split(',').next().and_then(|text| text.parse::<usize>().ok());
+        let number = line.split([',', ';']).next().and_then(|text| text.parse::<usize>().ok());
         times[number.expect("a number")] += 1;
     }
     times
@@ -61,10 +63,21 @@ fn readings_hold_every_refusal_and_word() {
 }
 
 #[test]
+fn typings_hold_every_number_that_is_compared() {
+    let lines = expected("crates/replay_typing/stdout");
+    assert!(lines.len() >= 300);
+    let times = times(&lines);
+    for number in (0..=11).chain(30..=42) {
+        assert!(times[number] >= if number == 1 { 3 } else { 5 }, "{number}: {}", times[number]);
+    }
+}
+
+#[test]
 fn frames_are_whole() {
     for (sheets, lines) in [
         ("reference/stored/answers.sheets", expected("reference/stored/answers.expected")),
         ("crates/replay_reader/stdin", expected("crates/replay_reader/stdout")),
+        ("crates/replay_typing/stdin", expected("crates/replay_typing/stdout")),
     ] {
         let mut rest = committed(sheets);
         let mut frames = 0;

@@ -1,0 +1,27 @@
+use mathlib.Core.Path.{_≡_}
+use lib.ListN.{length}
+use borrow.Author.Needs.{needs}
+use Rattle.replay_typing.proofs.main.Statement.{statement}
+use Rattle.replay_typing.proofs.main.Tie as tie
+
+abbrev Inv-loop : tie.InvT-loop
+Inv-loop text₀ scratch₀ left₀ text scratch left = (length text ≡ 32768) × (length scratch ≡ 32768)
+
+abbrev μ-loop : tie.MeasureT-loop
+μ-loop text₀ scratch₀ left₀ text scratch left = left
+
+pub main-spec : {M : Type 1} → statement M
+main-spec =
+    tie.close
+    (tie.spec
+    Inv-loop
+    μ-loop
+    (λ c. search needs)
+    (λ c. search needs)
+    (λ c. search needs)
+    (λ c κs. search needs)
+    (λ c. search needs)
+    (λ c. search needs)
+    (λ c. search needs)
+    (λ c. search needs)
+    (λ c. search needs))
