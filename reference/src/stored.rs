@@ -72,21 +72,15 @@ fn codes(types: &[u8]) -> String {
     types.iter().map(u8::to_string).collect::<Vec<_>>().join(" ")
 }
 
-/// `number,place` of the reader's refusal, or `number;types`. None where the replaying program, which only types, asks
-/// less or more than the pass: where a check refuses that is no typing, or a `let` is bound.
+/// `number,place` of the reader's refusal, or `number;types`. None where a check refuses that is no typing: the replaying
+/// program, which only types, goes on there.
 pub fn typing_line(case: &Case) -> Option<String> {
     let answer = case.answer();
     match (answer.number, &answer.types) {
         (number @ 1..=11, _) => Some(format!("{number},{}", answer.places[0])),
-        (number @ (0 | 30..=42), Some(types)) if !binds(&case.sheet) => {
-            Some(format!("{number};{}", codes(types)))
-        }
+        (number @ (0 | 30..=42), Some(types)) => Some(format!("{number};{}", codes(types))),
         _ => None,
     }
-}
-
-fn binds(sheet: &[u8]) -> bool {
-    sheet.split(|&byte| byte == b'\n').any(|line| line.starts_with(b"let,"))
 }
 
 /// `number,place`, or `0,LINES;` and `word:depth:end` for each line.

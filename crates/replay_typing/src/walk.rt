@@ -1,16 +1,17 @@
 // The askings of `check` without its own tests: the expressions whose types it asks, in its order, up to the first refusal.
-// No `let` is bound, so sheets without one are compared.
 use declared::Done;
 use env::Env;
+use env::Typed;
 use sheet::end;
 use sheet::first;
 use sheet::kind;
 use sheet::second;
 use sheet::third;
 use typing::ask_each;
+use typing::ty_of;
 ghost use mathlib.Core.Path.{_≡_};
 ghost use lib.ListN.{length};
-ghost use Rattle.replay_typing.specs.Walk.{EntryAt, ItemAt, ItemsAt, named, RecordAt, RecordsAt, SheetReady};
+ghost use Rattle.replay_typing.specs.Walk.{BodyAt, EntryAt, ItemAt, ItemsAt, named, RecordAt, RecordsAt, SheetReady, StmtAt, StmtTyped, withLocals};
 ghost use Rattle.sheet.specs.Scratch.{skip};
 
 // `count` parameters from line `params` on, and no locals.
@@ -88,6 +89,70 @@ fn after(lines: &[u16], from: usize, count: usize) -> usize
     at
 }
 
+// `count` parameters from line `params` on; the `let`s among the first `bound` statements from line body on are locals.
+fn locals(params: usize, count: usize, body: usize, bound: usize) -> Env
+    ensures { λ r. ⌜ r ≡ withLocals params count body bound ⌝ }
+{
+    Env {
+        params,
+        count,
+        body,
+        bound,
+        own: 0,
+        later: 0,
+        genesis: false,
+    }
+}
+
+// The expressions of a statement of an entry.
+fn type_stmt(sheet: &[u8], lines: &[u16], env: Env, table: &mut [u8], i: usize) -> Done
+    requires { ⌜ StmtAt (now sheet) (now lines) env (now table) i ⌝ }
+    ensures { λ r. ⌜ StmtTyped (now (sheet .entry)) (now (lines .entry)) env i r (now (table .exit)) ⌝ }
+{
+    if kind(lines, i) != 16 {
+        return ask_each(sheet, lines, env, table, i + 1, first(lines, i));
+    }
+    match ty_of(sheet, lines, env, table, i + 1) {
+        Typed::Is(_) => Done::Fine,
+        Typed::Refused(r) => Done::Refused(r),
+    }
+}
+
+// The last `left` of `total` statements from line body on, of which the first stands at line at.
+fn type_body(
+    sheet: &[u8],
+    lines: &[u16],
+    table: &mut [u8],
+    params: usize,
+    count: usize,
+    body: usize,
+    total: usize,
+    at: usize,
+    left: usize,
+) -> Done
+    requires { ⌜ BodyAt (now sheet) (now lines) (now table) params count body total at left ⌝ }
+    ensures { λ r. ⌜ length (now (table .exit)) ≡ length (now (table .entry)) ⌝ }
+{
+    if left == 0 {
+        return Done::Fine;
+    }
+    let env = locals(params, count, body, total - left);
+    match type_stmt(sheet, lines, env, table, at) {
+        Done::Fine => type_body(
+            sheet,
+            lines,
+            table,
+            params,
+            count,
+            body,
+            total,
+            end(lines, at),
+            left - 1,
+        ),
+        Done::Refused(r) => Done::Refused(r),
+    }
+}
+
 // The clauses of the entry at line i, then its statements.
 fn type_entry(sheet: &[u8], lines: &[u16], table: &mut [u8], i: usize) -> Done
     requires { ⌜ EntryAt (now sheet) (now lines) (now table) i ⌝ }
@@ -98,7 +163,10 @@ fn type_entry(sheet: &[u8], lines: &[u16], table: &mut [u8], i: usize) -> Done
     let clauses = after(lines, i + 1, count);
     let body = after(lines, clauses, second(lines, i));
     match type_records(sheet, lines, env, table, clauses, second(lines, i)) {
-        Done::Fine => type_records(sheet, lines, env, table, body, third(lines, i)),
+        Done::Fine => {
+            let total = third(lines, i);
+            type_body(sheet, lines, table, i + 1, count, body, total, body, total)
+        }
         Done::Refused(r) => Done::Refused(r),
     }
 }

@@ -1,6 +1,6 @@
 -- What is known of the lines of a sheet that is loaded. Assumes nothing.
 use mathlib.Core.Path.{_≡_, refl, sym, ap, _∙_}
-use mathlib.Core.List.{List, _∷_, _++_}
+use mathlib.Core.List.{List, [], _∷_, _++_}
 use Prim.Native.Nat.{ℕ, zero, suc, _+_, _-_, _*_, _/_, _<_, _≤_}
 use native.Mathlib.Omega.{arith}
 use mathlib.Core.Option.{some}
@@ -217,11 +217,27 @@ row-nth zero h (next x r) = x
 row-nth (suc k) h (next x r) = row-nth k (omega arith) r
 row-nth k h stop = absurd (omega arith)
 
+-- the first k of them
+pub row-take : {S : List ℕ} {σ : Sort} {m i : ℕ} (k : ℕ) → k ≤ m → Row S σ m i → Row S σ k i
+row-take zero h r = stop
+row-take (suc k) h (next x r) = next x (row-take k (omega arith) r)
+row-take (suc k) h stop = absurd (omega arith)
+
+pub skip-next : (S : List ℕ) (k i : ℕ) → skip S (suc k) i ≡ endAt S (skip S k i)
+unfolding skip
+skip-next S zero i = refl
+skip-next S (suc k) i = skip-next S k (endAt S i)
+
 pub node-nth : {s S : List ℕ} {σ : Sort} {m i : ℕ} (k : ℕ) → Loaded s S → k < m → Row S σ m i → getElem? (nodesAt s m i) k ≡ some (nodeAt s (skip S k i))
 unfolding skip
 node-nth {m = suc m} {i} zero d h (next x r) = rw (nodes-next d m i (x .within)) refl
 node-nth {m = suc m} {i} (suc k) d h (next x r) = rw (nodes-next d m i (x .within)) (node-nth k d (omega arith) r)
 node-nth k d h stop = absurd (omega arith)
+
+pub nodes-last : {s S : List ℕ} {σ : Sort} (k : ℕ) {i : ℕ} → Loaded s S → Row S σ (suc k) i → nodesAt s (suc k) i ≡ nodesAt s k i ++ (nodeAt s (skip S k i) ∷ [])
+unfolding skip nodesAt takeNodes nodes
+nodes-last zero {i} d (next x r) = nodes-next d 0 i (x .within)
+nodes-last {s} (suc k) {i} d (next x r) = rw (nodes-next d (suc k) i (x .within), nodes-next d k i (x .within)) (ap (λ ts. nodeAt s i ∷ ts) (nodes-last k d r))
 
 pub nodes-length : {s S : List ℕ} {σ : Sort} {m i : ℕ} → Loaded s S → Row S σ m i → length (nodesAt s m i) ≡ m
 unfolding nodesAt takeNodes nodes

@@ -9,17 +9,18 @@ use native.Mathlib.Omega.{arith}
 use borrow.Author.Needs.{needs}
 use lib.Dec.{leb}
 use lib.ListN.{length, getD, set}
+use lib.Seq.{getD-set-same}
 use Rattle.sheet.specs.Scratch.{kindAt, nameAt}
 use Rattle.rules.specs.Ast.{Wrap, line}
-use Rattle.rules.specs.Asking.{Ty, code, ok, Rule}
+use Rattle.rules.specs.Asking.{Ty, code, codeR, ok, Rule}
 use Rattle.rules.specs.Kept.{Table, kept, retyped}
 use Rattle.rules.specs.Typing.{stale, asked, typing, askOf, tyOf, tyOfDot}
 use Rattle.rules.specs.Standing.{exprAt}
 use Rattle.rules.proofs.AnyTable.{from-table, again, first-time}
-use Rattle.rules.proofs.Binding.{kept-length}
+use Rattle.rules.proofs.Binding.{kept-length, kept-holds}
 use Rattle.rules.proofs.Exprs.{line-at, dot-at, Wrapped, wrap-at}
 use Rattle.rules.proofs.Standing.{row-first}
-use Rattle.declared.specs.Codes.{tyFrom}
+use Rattle.declared.specs.Codes.{tyFrom, IsCode}
 use Rattle.declared.specs.declared.refusal.Refusal.{Refusal}
 use Rattle.declared.proofs.Codes.{code-of, code-is, from-code, told, untold}
 use Rattle.env.specs.Answers.{typedOf}
@@ -69,6 +70,30 @@ module _ (s S : List ℕ) (env : Env) (T : Table) (i : ℕ) (h : Asks s S env T 
   module _ (a : Typed) (U : Table) (k : Types s (typing (envOf s T env) (exprAt s i)) T a U) where
     pub fresh-room : i < length U
     fresh-room = omega (arith, of-room, types-length s _ T a U k)
+
+-- a line whose type was answered has a type in the table
+pub leaves-type : (s S : List ℕ) (env : Env) (T : Table) (i : ℕ) (a : Typed) (U : Table) (c : ℕ) → Asks s S env T i
+    → Types s (tyOf (envOf s T env) (exprAt s i)) T a U → a ≡ Is c → IsCode (getD U i 0)
+unfolding typedOf codeR
+leaves-type s S env T i a U c h k e = go (leb 1 (getD T i 0) && leb (getD T i 0) 10) refl
+  where
+    o : kept (tyOf (envOf s T env) (exprAt s i)) T ≡ record { res = ok (tyFrom c); table = U }
+    o = k .gives ∙ rw e refl
+
+    left : U ≡ kept (tyOf (envOf s T env) (exprAt s i)) T .table
+    left = sym (ap (λ x. x .table) o)
+
+    go : (b : Bool) → (leb 1 (getD T i 0) && leb (getD T i 0) 10) ≡ b → IsCode (getD U i 0)
+    go true q =
+        let y = told (getD T i 0) q in
+        rw (left, kept-holds _ T (tyFrom c) i _ (code-of (getD T i 0) y .0) (ap (λ x. x .res) o)) y
+    go false q =
+        let f = first-time (envOf s T env) (exprAt s i) T (rw (here s S env T i h) (untold (getD T i 0) q)) in
+        let r : kept (typing (envOf s T env) (exprAt s i)) T .res ≡ ok (tyFrom c) = sym (ap (λ x. x .res) f) ∙ ap (λ x. x .res) o in
+        let X = kept (typing (envOf s T env) (exprAt s i)) T .table in
+        let g : getD U i 0 ≡ code (tyFrom c) =
+        ap (λ W. getD W i 0) (left ∙ ap (λ x. x .table) f) ∙ rw (here s S env T i h, r) (getD-set-same X i (code (tyFrom c)) 0 (rw (kept-length (typing (envOf s T env) (exprAt s i)) T) (of-room s S env T i h))) in
+        rw g (code-is (tyFrom c))
 
 -- typed again
 module _ (s S : List ℕ) (env : Env) (T : Table) (i : ℕ) (h : AsksAgain s S env T i) where

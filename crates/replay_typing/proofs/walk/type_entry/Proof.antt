@@ -18,7 +18,9 @@ type-entry-spec =
     (λ c κs. search (needs, entry-clauses))
     (λ c. search needs)
     (λ c κs. search needs)
-    (λ c κs. entry-body _ _ _ _ (c .before .before .before .before .before .before .before .before .before .before .before .before .before .before .before .before .before .pre) _ _ _ (c .before .before .before .before .before .before .before .before .before .before .before .before .names .ensures) (c .before .before .before .before .before .before .before .before .before .before .before .before .before .first .ensures) (c .before .before .before .before .before .before .before .before .before .before .before .after .ensures) _ _ _ _ (c .before .before .before .before .before .before .before .before .before .after2 .ensures) (c .before .before .before .before .before .before .before .before .before .before .second .ensures) (c .third .ensures) (c .before .before .before .before .before .before .type-records .ensures))
+    (λ c. search needs)
+    (λ c κs.
+    entry-body _ _ _ _ (c .before .before .before .before .before .before .before .before .before .before .before .before .before .before .before .before .before .pre) _ _ _ (c .before .before .before .before .before .before .before .before .before .before .before .before .names .ensures) (c .before .before .before .before .before .before .before .before .before .before .before .before .before .first .ensures) (c .before .before .before .before .before .before .before .before .before .before .before .after .ensures) _ _ _ _ (c .before .before .before .before .before .before .before .before .before .after2 .ensures) (c .before .before .before .before .before .before .before .before .before .before .second .ensures) (c .before .third .ensures) (c .before .before .before .before .before .before .type-records .ensures))
     (λ c. search needs)
     (λ c. search needs)
     (λ c. search needs)
