@@ -20,10 +20,10 @@ use Rattle.rules.specs.Text.{Name, lastNamed}
 use Rattle.rules.specs.Ast.{Field, itemOf, fieldOf, contractOf, nodes}
 use Rattle.rules.specs.Model.{itemModel, joined, build, fieldNamed}
 use Rattle.rules.specs.Verdict.{modelOf}
-use Rattle.rules.specs.Standing.{treesFrom, without, nodeAt, nodesAt, fieldAt, modelIn, Loaded, Here, Row, stop, next}
+use Rattle.rules.specs.Standing.{nodeName, treesFrom, without, nodeAt, nodesAt, fieldAt, modelIn, Loaded, Here, Row, stop, next}
 use Rattle.rules.proofs.Parts.{stop as end, _also_, pick, parts}
 use Rattle.rules.proofs.Standing.{Stands, stands, nodes-next, parts-behind, row-behind, row-first, row-rest}
-use Rattle.declared.specs.Found.{nodeName, nodeKind, ofKind, foundNode, foundField, orElse, itemFields, Stretch, Of, Last, ItemAt, Newest, FieldNamed}
+use Rattle.declared.specs.Found.{nodeKind, ofKind, foundNode, foundField, orElse, itemFields, Stretch, Of, Last, ItemAt, Newest, FieldNamed}
 use Rattle.declared.specs.declared.model.Found.{Found}
 use Rattle.declared.specs.declared.model.Found.the-variants.{At, Nothing}
 use Rattle.declared.proofs.Finding.{last-turn, or-none}

@@ -13,9 +13,9 @@ use Rattle.sheet.specs.Scratch.{kindAt, nameAt, endAt}
 use Rattle.sheet.specs.Tree.{Node, takeNodes}
 use Rattle.rules.specs.Text.{Name, lastNamed}
 use Rattle.rules.specs.Ast.{nodes}
-use Rattle.rules.specs.Standing.{nodeAt, nodesAt, Row}
+use Rattle.rules.specs.Standing.{nodeName, nodeAt, nodesAt, Row}
 use Rattle.rules.proofs.Standing.{stands, nodes-next, row-first, row-rest}
-use Rattle.declared.specs.Found.{nodeName, nodeKind, ofKind, foundNode, newest, orElse, Stretch, Of, Last}
+use Rattle.declared.specs.Found.{nodeKind, ofKind, foundNode, newest, orElse, Stretch, Of, Last}
 use Rattle.declared.specs.declared.model.Found.{Found}
 use Rattle.declared.specs.declared.model.Found.the-variants.{At, Nothing}
 

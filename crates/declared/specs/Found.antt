@@ -14,12 +14,9 @@ use Rattle.text.specs.Text.{same}
 use Rattle.rules.specs.Text.{Name, lastNamed}
 use Rattle.rules.specs.Ast.{Field, nodes}
 use Rattle.rules.specs.Model.{fieldNamed}
-use Rattle.rules.specs.Standing.{nodeAt, nodesAt, fieldAt, modelIn, Loaded, Here, Row}
+use Rattle.rules.specs.Standing.{nodeName, nodeAt, nodesAt, fieldAt, modelIn, Loaded, Here, Row}
 use Rattle.declared.specs.declared.model.Found.{Found}
 use Rattle.declared.specs.declared.model.Found.the-variants.{At, Nothing}
-
-unfoldable pub nodeName : Node → Name
-nodeName (node i l ps) = l .name
 
 unfoldable pub nodeKind : Node → ℕ
 nodeKind (node i l ps) = l .kind

@@ -1,8 +1,11 @@
 -- What the code asks of the lines that it is given.
-use Prim.Native.Nat.{ℕ}
+use Prim.Native.Nat.{ℕ, _/_, _<_}
 use mathlib.Core.List.{List}
+use mathlib.Core.Path.{_≡_}
+use lib.ListN.{length}
 use Rattle.sheet.specs.Grammar as grammar
-use Rattle.rules.specs.Standing.{Loaded, Here}
+use Rattle.sheet.specs.Scratch.{kindAt}
+use Rattle.rules.specs.Standing.{Loaded, Here, Row}
 
 -- a `type` record stands at line i
 pub record Typed (s S : List ℕ) (i : ℕ) : Type 0 where
@@ -13,3 +16,19 @@ pub record Typed (s S : List ℕ) (i : ℕ) : Type 0 where
 pub record ExprAt (s S : List ℕ) (i : ℕ) : Type 0 where
   pub loaded : Loaded s S
   pub here : Here S grammar.Expr i
+
+-- a record of the sort σ stands at line i
+pub record RecordAt (σ : grammar.Sort) (s S : List ℕ) (i : ℕ) : Type 0 where
+  pub loaded : Loaded s S
+  pub here : Here S σ i
+
+-- m such records, one behind another, the first at line i
+pub record RecordsAt (σ : grammar.Sort) (s S : List ℕ) (m i : ℕ) : Type 0 where
+  pub loaded : Loaded s S
+  pub row : Row S σ m i
+
+-- an entry stands at line i
+pub record EntryAt (s S : List ℕ) (i : ℕ) : Type 0 where
+  pub loaded : Loaded s S
+  pub within : i < length S / 8
+  pub kind : kindAt S i ≡ 5

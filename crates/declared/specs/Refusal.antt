@@ -6,11 +6,17 @@ use Rattle.rules.specs.Text.{Name, lit}
 use Rattle.rules.specs.Ast.{span, typeName, typeSpan}
 use Rattle.rules.specs.Asking.{Refusal as Ruled, Res, ok, refused}
 use Rattle.rules.specs.Declarations.{guardianText, innerText, onlyTypesText, arityText, arityOf, unknownText, noArgumentsText, nameText, digestText}
-use Rattle.rules.specs.Standing.{exprAt, typeAt, paramAt, fieldAt}
+use Rattle.rules.specs.Standing.{exprAt, typeAt, paramAt, fieldAt, namedAt, placeAt}
 use Rattle.rules.specs.Typing.{Dot, dotOf, straightText, byNameText, holdsText, amountText, keyedOpText, receiverText, notText, negText, logicalText, arithmeticText, orderingText, namesText, comparedText}
+use Rattle.rules.specs.Declared.{parseU128}
+use Rattle.rules.specs.Statements.{emitText, addressText, wrappingText, literalText, assetSlotText, slotText, predicateText, recipientText}
+use Rattle.rules.specs.Assets.{droppedText, reachesText, fieldSlot, valuesSlot, eventSlot}
+use Rattle.rules.specs.Arithmetic.{overflowText}
+use Rattle.rules.specs.KeyKinds.{keyKindsText}
+use Rattle.rules.specs.Check.{localText, defaultText}
 use Rattle.declared.specs.Codes.{tyFrom}
 use Rattle.declared.specs.declared.refusal.Refusal.{Refusal}
-use Rattle.declared.specs.declared.refusal.Refusal.the-variants.{NameStored, Arity, OnlyTypes, Inner, UnknownType, NoArguments, Digest, Guardian, Receiver, KeyedOp, Amount, Straight, ByName, Holds, Not, Neg, Logical, Arithmetic, Ordering, Names, Compared}
+use Rattle.declared.specs.declared.refusal.Refusal.the-variants.{NameStored, Arity, OnlyTypes, Inner, UnknownType, NoArguments, Digest, Default, Guardian, Predicate, ReachesField, ReachesValues, ReachesEvent, Local, AssetSlot, NameIntoAddress, WrappingIntoNarrow, LiteralIntoNarrow, Slot, Recipient, Receiver, KeyedOp, Amount, Straight, ByName, Holds, Not, Neg, Logical, Arithmetic, Ordering, Names, Compared, EmitField, Dropped, Overflow, KeyKinds}
 use Rattle.declared.specs.declared.refusal.Done.{Done}
 use Rattle.declared.specs.declared.refusal.Done.the-variants.{Fine, Refused}
 
@@ -21,6 +27,10 @@ dotAt s i = elim (dotOf (exprAt s i)) [ some d ↦ d | none ↦ record { base = 
 -- how many arguments a Map or Registry takes
 unfoldable pub arity : Name → ℕ
 arity x = elim (arityOf x) [ some n ↦ n | none ↦ 0 ]
+
+-- the number of the literal at a line
+unfoldable pub literalAt : List ℕ → ℕ → ℕ
+literalAt s i = elim (parseU128 (namedAt s i)) [ some n ↦ n | none ↦ 0 ]
 
 unfoldable pub refusalOf : List ℕ → Refusal → Ruled
 refusalOf s (NameStored ty) = record { number = 12; place = typeSpan (typeAt s ty); text = nameText }
@@ -33,7 +43,25 @@ refusalOf s (UnknownType ty) = record { number = 16; place = typeSpan (typeAt s 
 refusalOf s (NoArguments ty) = record { number = 17; place = typeSpan (typeAt s ty); text = noArgumentsText (typeAt s ty) }
 refusalOf s (Digest named) =
     record { number = 18; place = typeSpan (typeAt s (suc named)); text = digestText (paramAt s named .name) }
+refusalOf s (Default field value) = record { number = 19; place = span (exprAt s value); text = defaultText (fieldAt s field .ty) }
 refusalOf s (Guardian ty) = record { number = 20; place = typeSpan (typeAt s ty); text = guardianText }
+refusalOf s (Predicate e) = record { number = 21; place = span (exprAt s e); text = predicateText }
+refusalOf s (ReachesField target value) =
+    record { number = 22; place = span (exprAt s value); text = reachesText (fieldSlot (namedAt s target)) }
+refusalOf s (ReachesValues map value) =
+    record { number = 22; place = span (exprAt s value); text = reachesText (valuesSlot (namedAt s map)) }
+refusalOf s (ReachesEvent emit value) =
+    record { number = 22; place = span (exprAt s value); text = reachesText (eventSlot (namedAt s emit)) }
+refusalOf s (Local value) = record { number = 23; place = span (exprAt s value); text = localText }
+refusalOf s (AssetSlot target) = record { number = 24; place = placeAt s target; text = assetSlotText }
+refusalOf s (NameIntoAddress target value) = record { number = 25; place = span (exprAt s value); text = addressText (namedAt s target) }
+refusalOf s (WrappingIntoNarrow target value) =
+    record { number = 26; place = span (exprAt s value); text = wrappingText (namedAt s target) }
+refusalOf s (LiteralIntoNarrow target value max) =
+    record { number = 27; place = span (exprAt s value); text = literalText (namedAt s target) (literalAt s value) max }
+refusalOf s (Slot value slot given) =
+    record { number = 28; place = span (exprAt s value); text = slotText (tyFrom slot) (tyFrom given) }
+refusalOf s (Recipient arg) = record { number = 29; place = span (exprAt s arg); text = recipientText }
 refusalOf s (Receiver callee) = record { number = 30; place = span (dotAt s callee .base); text = receiverText (dotAt s callee .name) }
 refusalOf s (KeyedOp callee field) =
     record { number = 31; place = dotAt s callee .nspan; text = keyedOpText (dotAt s callee .name) (fieldAt s field) }
@@ -50,6 +78,11 @@ refusalOf s (Ordering operand) = record { number = 40; place = span (exprAt s op
 refusalOf s (Names left) = record { number = 41; place = span (exprAt s left); text = namesText }
 refusalOf s (Compared right l r) =
     record { number = 42; place = span (exprAt s right); text = comparedText (tyFrom l) (tyFrom r) }
+refusalOf s (EmitField arg param got) =
+    record { number = 43; place = span (exprAt s arg); text = emitText (paramAt s param) (tyFrom got) }
+refusalOf s (Dropped made) = record { number = 44; place = placeAt s made; text = droppedText }
+refusalOf s (Overflow assign) = record { number = 45; place = placeAt s assign; text = overflowText (namedAt s (suc assign)) }
+refusalOf s (KeyKinds map key) = record { number = 46; place = span (exprAt s key); text = keyKindsText (namedAt s map) }
 
 -- what a rule that gives no value answers
 unfoldable pub doneOf : List ℕ → Done → Res Unit

@@ -26,13 +26,13 @@ use Rattle.rules.specs.Declared.{tyOfDecl, eqTy}
 use Rattle.rules.specs.Check.{paramTypes}
 use Rattle.rules.specs.Typing as typing
 use Rattle.rules.specs.Typing.{identOf, tyOfIdent, isNameParam, keyedField, isPool}
-use Rattle.rules.specs.Standing.{nodeAt, nodesAt, exprAt, typeAt, fieldAt, paramAt, Loaded}
+use Rattle.rules.specs.Standing.{nodeName, nodeAt, nodesAt, exprAt, typeAt, fieldAt, paramAt, Loaded}
 use Rattle.rules.proofs.Keeps.{code-marks}
 use Rattle.rules.proofs.Exprs.{ident-at}
 use Rattle.rules.proofs.Parts.{stop, _also_, pick, parts}
 use Rattle.rules.proofs.Standing.{Stands, stands, nodes-next, parts-behind, row-behind, row-first}
 use Rattle.declared.specs.Codes.{IsCode, tyFrom}
-use Rattle.declared.specs.Found.{nodeName, ofKind, foundNode, foundField, Of, Last, FieldNamed}
+use Rattle.declared.specs.Found.{ofKind, foundNode, foundField, Of, Last, FieldNamed}
 use Rattle.declared.specs.Lines.{Typed}
 use Rattle.declared.specs.declared.model.Found.{Found}
 use Rattle.declared.specs.declared.model.Found.the-variants.{At, Nothing}

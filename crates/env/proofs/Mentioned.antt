@@ -20,10 +20,10 @@ use Rattle.sheet.proofs.Holds.{all-le}
 use Rattle.rules.specs.Text.{Name, among, lastNamed}
 use Rattle.rules.specs.Ast.{exprOf, exprsOf, nodes}
 use Rattle.rules.specs.Typing.{identLeaf, isSome, leafHas, has, hasAny, stale}
-use Rattle.rules.specs.Standing.{before, treesFrom, nodeAt, nodesAt, exprAt, Loaded, Here}
+use Rattle.rules.specs.Standing.{nodeName, before, treesFrom, nodeAt, nodesAt, exprAt, Loaded, Here}
 use Rattle.rules.proofs.Parts.{stop, _also_, pick, parts}
 use Rattle.rules.proofs.Standing.{stands}
-use Rattle.declared.specs.Found.{nodeName, ofKind, foundNode, Stretch, Last}
+use Rattle.declared.specs.Found.{ofKind, foundNode, Stretch, Last}
 use Rattle.declared.specs.declared.model.Found.{Found}
 use Rattle.declared.specs.declared.model.Found.the-variants.{At, Nothing}
 use Rattle.declared.proofs.Tables.{or-false}

@@ -15,9 +15,9 @@ use Rattle.rules.specs.Declared.{tyOfDecl}
 use Rattle.rules.specs.Model.{fieldNamed}
 use Rattle.rules.specs.Typing as typing
 use Rattle.rules.specs.Check.{paramTypes}
-use Rattle.rules.specs.Standing.{nodesAt, exprAt, modelIn, Loaded, Here, Row}
+use Rattle.rules.specs.Standing.{nodeName, nodesAt, exprAt, modelIn, Loaded, Here, Row}
 use Rattle.declared.specs.Codes.{IsCode, tyFrom}
-use Rattle.declared.specs.Found.{nodeName, ofKind, foundField, Of}
+use Rattle.declared.specs.Found.{ofKind, foundField, Of}
 use Rattle.declared.specs.declared.model.Found.{Found}
 use Rattle.env.specs.declared.env.Env.{Env}
 

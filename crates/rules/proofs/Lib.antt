@@ -14,3 +14,5 @@ pub mod Checked
 pub mod Standing
 pub mod Binding
 pub mod Exprs
+pub mod Forest
+pub mod Records

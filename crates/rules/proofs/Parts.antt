@@ -6,7 +6,7 @@ use native.Mathlib.Omega.{arith}
 use Rattle.sheet.specs.Grammar.{Sort, rowOf}
 use Rattle.sheet.specs.Line.{Line}
 use Rattle.sheet.specs.Table.{sortsIn, toldSorts, groupSorts}
-use Rattle.sheet.specs.Held.{Parted}
+use Rattle.sheet.specs.Held.{Parted, Flagged}
 
 infixr 5 _also_
 -- P of each of the n numbers from i on
@@ -41,3 +41,7 @@ parts l k p e =
     let g = p .always in
     let q : sortsIn (rowOf k .always ++ g .0) ≡ groupSorts (rowOf k) = rw (← e, ← g .1) (p .sorts) in
     rw (← told-sorts (rowOf k .always) (g .0) (toldSorts (rowOf k .rules)) q) (groups (g .0) (λ gs. l .parts ≡ rowOf k .always ++ gs) (rw (← e) (g .1)))
+
+-- ... of which its FLAGs tell none or one
+pub flags : (l : Line) (k : ℕ) → Parted l → l .kind ≡ k → (gs : List (ℕ × Sort)) × (l .parts ≡ rowOf k .always ++ gs) × Flagged (rowOf k .rules) gs
+flags l k p e = rw (← e) (p .always)

@@ -5,7 +5,7 @@ use mathlib.Core.Bool.{Bool, true, false, not, _&&_, _||_}
 use mathlib.Core.Option.{Option, none, some, Option·map}
 use lib.Dec.{eqb}
 use Rattle.text.specs.Text.{same}
-use Rattle.rules.specs.Text.{Name, is, among, get, lit, raw}
+use Rattle.rules.specs.Text.{Name, is, among, get, Piece, lit, raw}
 use Rattle.rules.specs.Ast.{BinOp, Or, And, Eq, Ne, Lt, Gt, Le, Ge, Add, Sub, Mul, Div, Rem, Shr, AssignOp, Set, AddTo, SubFrom, Expr, leaf, unary, binary, field, call, wrap, Exprs, nil, more, Param, Clause, limits, denies, mints, after, Entry, Stmt, guard, bind, emit, assign, do'}
 use Rattle.rules.specs.Asking.{Ty, Rule, ret, expect, ifSome, forEach}
 use Rattle.rules.specs.Declared.{intOf}
@@ -161,6 +161,9 @@ bounded entry addend =
     boundedAddend addend (assetParams (entry .params))
     || (any isMints (entry .clauses) && isMintedAmount addend entry)
 
+abbrev pub overflowText : Name → List Piece
+overflowText name = lit "unchecked overflow: `" ∷ raw name ∷ lit "` grows by unbounded input with no limits clause; add a bound or make wrapping explicit" ∷ []
+
 unfoldable pub checkSum : Entry → List (Name × Ty) → Stmt → Rule Unit
 checkSum entry params (guard e) = ret tt
 checkSum entry params (bind x e) = ret tt
@@ -168,8 +171,7 @@ checkSum entry params (emit x es) = ret tt
 checkSum entry params (assign s op target value) =
     ifSome (elim (acknowledged value) [ true ↦ none | false ↦ addends op target value ]) λ terms.
     ifSome (identOf target) λ name.
-    expect (isSome (get name params) || not (any (λ t. not (bounded entry t)) terms) || limitsBound entry name) 45 s
-    (lit "unchecked overflow: `" ∷ raw name ∷ lit "` grows by unbounded input with no limits clause; add a bound or make wrapping explicit" ∷ [])
+    expect (isSome (get name params) || not (any (λ t. not (bounded entry t)) terms) || limitsBound entry name) 45 s (overflowText name)
 checkSum entry params (do' e) = ret tt
 
 unfoldable pub checkArithmetic : Entry → List (Name × Ty) → Rule Unit

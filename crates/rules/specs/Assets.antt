@@ -18,6 +18,9 @@ use Rattle.rules.specs.Statements.{narrowField}
 unfoldable pub makesAsset : (callee : Expr) → Bool
 makesAsset callee = elim (dotOf callee) [ some d ↦ is (d .name) "split" | none ↦ identIs callee "mint" ]
 
+abbrev pub droppedText : List Piece
+droppedText = lit "an asset made here would be dropped; bind it with `let` or pass it straight to send, merge or credit" ∷ []
+
 unfoldable mutual
   pub noAssetCall : Expr → Rule Unit
   noAssetCall (leaf l s k) = ret tt
@@ -25,10 +28,7 @@ unfoldable mutual
   noAssetCall (binary l s o a b) = noAssetCall a >> noAssetCall b
   noAssetCall (field l s e n m) = noAssetCall e
   noAssetCall (call l s c es) =
-      expect (not (makesAsset c)) 44 s
-      (lit "an asset made here would be dropped; bind it with `let` or pass it straight to send, merge or credit" ∷ [])
-      >> noAssetCall c
-      >> noAssetCalls es
+      expect (not (makesAsset c)) 44 s droppedText >> noAssetCall c >> noAssetCalls es
   noAssetCall (wrap l s w e) = noAssetCall e
 
   pub noAssetCalls : Exprs → Rule Unit
@@ -63,12 +63,24 @@ unfoldable mutual
   wrapsAny xs nil = false
   wrapsAny xs (more e es) = wraps xs e || wrapsAny xs es
 
+abbrev pub reachesText : (slot : List Piece) → List Piece
+reachesText slot =
+    lit "a `wrapping` value reaches the narrow " ∷ (slot
+    ++ (lit ", which reverts at its maximum rather than wrapping; widen it to u64 or mask the value explicitly" ∷ []))
+
+abbrev pub fieldSlot : Name → List Piece
+fieldSlot x = lit "field `" ∷ raw x ∷ lit "`" ∷ []
+
+abbrev pub valuesSlot : Name → List Piece
+valuesSlot x = lit "values of `" ∷ raw x ∷ lit "`" ∷ []
+
+abbrev pub eventSlot : Name → List Piece
+eventSlot x = lit "event field of `" ∷ raw x ∷ lit "`" ∷ []
+
 -- the value goes to a slot with this largest number, if it is narrow
 unfoldable pub reaches : (wrapped : List Name) → Option ℕ → Expr → (slot : List Piece) → Rule Unit
 reaches wrapped narrow value slot =
-    expect (not (isSome narrow && wraps wrapped value)) 22 (span value)
-    (lit "a `wrapping` value reaches the narrow " ∷ (slot
-    ++ (lit ", which reverts at its maximum rather than wrapping; widen it to u64 or mask the value explicitly" ∷ [])))
+    expect (not (isSome narrow && wraps wrapped value)) 22 (span value) (reachesText slot)
 
 unfoldable pub narrowArg : Option Arg → Option ℕ
 narrowArg none = none
@@ -87,7 +99,7 @@ narrowSet m wrapped e =
     when (is (d .name) "set") (
     ifSome (identOf (d .base)) λ map.
     ifSome (getElem? (list (c .args)) 1) λ value.
-    reaches wrapped (narrowValues m map) value (lit "values of `" ∷ raw map ∷ lit "`" ∷ []))
+    reaches wrapped (narrowValues m map) value (valuesSlot map))
 
 unfoldable pub narrowStmt : Model → (wrapped : List Name) → Stmt → Rule Unit
 narrowStmt m wrapped (guard e) = ret tt
@@ -95,10 +107,10 @@ narrowStmt m wrapped (bind x value) = ret tt
 narrowStmt m wrapped (emit x es) =
     ifSome (eventNamed m x) λ e.
     forEach (zip es (e .params)) λ p.
-    reaches wrapped (narrowMax (typeName (p .1 .ty))) (p .0) (lit "event field of `" ∷ raw x ∷ lit "`" ∷ [])
+    reaches wrapped (narrowMax (typeName (p .1 .ty))) (p .0) (eventSlot x)
 narrowStmt m wrapped (assign s op target value) =
     ifSome (identOf target) λ x.
-    reaches wrapped (narrowField m x) value (lit "field `" ∷ raw x ∷ lit "`" ∷ [])
+    reaches wrapped (narrowField m x) value (fieldSlot x)
 narrowStmt m wrapped (do' e) = narrowSet m wrapped e
 
 -- the names that hold wrapping values after a statement; a second `let` doesn't take one away

@@ -165,7 +165,7 @@ unaryOps = Not ∷ Neg ∷ []
 abbrev pub binOps : List BinOp
 binOps = Or ∷ And ∷ Eq ∷ Ne ∷ Lt ∷ Gt ∷ Le ∷ Ge ∷ Add ∷ Sub ∷ Mul ∷ Div ∷ Rem ∷ Shr ∷ []
 
-abbrev assignOps : List AssignOp
+abbrev pub assignOps : List AssignOp
 assignOps = Set ∷ AddTo ∷ SubFrom ∷ []
 
 -- expressions, kinds 20 to 33: line i, what it says, and its parts
@@ -256,6 +256,9 @@ stmtKinds =
 unfoldable pub stmtOf : Node → Stmt
 stmtOf (node i l ns) = getD stmtKinds (l .kind - 15) (λ l ns. do' blank) l (nodes ns)
 
+unfoldable pub eventOf : Node → Event
+eventOf (node i l ns) = record { name = l .name; params = map paramOf (nodes ns) }
+
 abbrev entryFrom : Line → List Node → Entry
 entryFrom l ns =
     record {
@@ -263,6 +266,9 @@ entryFrom l ns =
       clauses = map clauseOf (take (count l 1) (drop (count l 0) ns));
       body = map stmtOf (drop (count l 0 + count l 1) ns);
     }
+
+unfoldable pub entryOf : Node → Entry
+entryOf (node i l ns) = entryFrom l (nodes ns)
 
 -- items, kinds 1 to 5
 abbrev itemKinds : List (Line → List Node → Item)

@@ -2,8 +2,8 @@
 use Prim.Native.Nat.{ℕ}
 use mathlib.Core.List.{List, [], _∷_, map}
 use mathlib.Core.Bool.{true, false, not}
-use Rattle.rules.specs.Text.{Name, isOne, lit, raw}
-use Rattle.rules.specs.Ast.{Set, id, Expr, leaf, Field, Param, Clause, limits, denies, mints, after, Entry, Stmt, guard, bind, emit, assign, do', span, typeName, typeSpan}
+use Rattle.rules.specs.Text.{Name, isOne, Piece, lit, raw}
+use Rattle.rules.specs.Ast.{Type', Set, id, Expr, leaf, Field, Param, Clause, limits, denies, mints, after, Entry, Stmt, guard, bind, emit, assign, do', span, typeName, typeSpan}
 use Rattle.rules.specs.Asking.{Ty, Collection, Rule, ret, _>>=_, _>>_, expect, ifSome, forEach}
 use Rattle.rules.specs.Declared.{tyOfDecl, eqTy}
 use Rattle.rules.specs.Declarations.{guardianFits, guardianBound, storable, eventFieldType, refuseWord64AsDigest}
@@ -22,10 +22,12 @@ clausePredicate Γ (denies e) = expectPredicate Γ e
 clausePredicate Γ mints = ret tt
 clausePredicate Γ (after target from') = ret tt
 
+abbrev pub localText : List Piece
+localText = lit "a map, registry or guardian set cannot be bound to a local" ∷ []
+
 unfoldable pub checkLocal : (value : Expr) → Ty → Rule Unit
 checkLocal value ty =
-    expect (not (eqTy ty Collection)) 23 (span value)
-    (lit "a map, registry or guardian set cannot be bound to a local" ∷ [])
+    expect (not (eqTy ty Collection)) 23 (span value) localText
 
 unfoldable pub checkBody : Env → List Stmt → Rule Unit
 checkBody Γ [] = ret tt
@@ -72,10 +74,12 @@ checkEntry m entry = do
 unfoldable pub madeUp : Env → Field → Asked
 madeUp Γ f = record { expr = leaf 0 (f .nspan) (id (f .name)); ty = ret (tyOfIdent Γ (f .name)) }
 
+abbrev pub defaultText : Type' → List Piece
+defaultText ty = lit "a " ∷ raw (typeName ty) ∷ lit " field cannot take a default value" ∷ []
+
 unfoldable pub checkDefault : Env → Field → Expr → Rule Unit
 checkDefault Γ f value = do
-  expect (not (isOne (typeName (f .ty)) ("Map" ∷ "Registry" ∷ "GuardianSet" ∷ "Q_Asset" ∷ []))) 19 (span value)
-      (lit "a " ∷ raw (typeName (f .ty)) ∷ lit " field cannot take a default value" ∷ [])
+  expect (not (isOne (typeName (f .ty)) ("Map" ∷ "Registry" ∷ "GuardianSet" ∷ "Q_Asset" ∷ []))) 19 (span value) (defaultText (f .ty))
   checkAssign Γ Set (madeUp Γ f) (askOf Γ value)
 
 unfoldable pub checkField : Env → Field → Rule Unit

@@ -4,7 +4,7 @@ use mathlib.Core.List.{List, [], _∷_, _++_}
 use mathlib.Core.Bool.{Bool, true, false, not, _&&_, Bool·beq}
 use mathlib.Core.Option.{Option, none, some}
 use Rattle.text.specs.Text.{same}
-use Rattle.rules.specs.Text.{Name, is, isOne, among, lit, raw}
+use Rattle.rules.specs.Text.{Name, is, isOne, among, Piece, lit, raw}
 use Rattle.rules.specs.Ast.{Expr, leaf, unary, binary, field, call, wrap, Exprs, nil, more, Param, Clause, limits, denies, mints, after, Entry, Stmt, guard, bind, emit, assign, do', span, typeName}
 use Rattle.rules.specs.Asking.{Rule, ret, _>>=_, _>>_, expect}
 use Rattle.rules.specs.Model.{Model, fieldNamed}
@@ -103,12 +103,15 @@ uses m (e ∷ es) = usesOf m (nameParams (e .params)) (keyedIn (entryExprs e)) +
 unfoldable pub differs : Use → Use → Bool
 differs u v = same (u .map) (v .map) && not (Bool·beq (u .isName) (v .isName))
 
+abbrev pub keyKindsText : Name → List Piece
+keyKindsText map =
+    lit "`" ∷ raw map ∷ lit "` is keyed by a name in one place and by another value in another, so a caller could reach a name's row without the name checks; key each map by one kind of value" ∷ []
+
 -- the first use that differs from one before it
 unfoldable pub checkUses : (seen : List Use) → List Use → Rule Unit
 checkUses seen [] = ret tt
 checkUses seen (u ∷ us) = do
-  expect (not (any (differs u) seen)) 46 (u .at)
-      (lit "`" ∷ raw (u .map) ∷ lit "` is keyed by a name in one place and by another value in another, so a caller could reach a name's row without the name checks; key each map by one kind of value" ∷ [])
+  expect (not (any (differs u) seen)) 46 (u .at) (keyKindsText (u .map))
   checkUses (u ∷ seen) us
 
 unfoldable pub checkKeyKinds : Model → Rule Unit

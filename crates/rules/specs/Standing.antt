@@ -1,6 +1,6 @@
 -- What stands at a line of a sheet: the tree of its record, told from the sheet's bytes alone.
 use Prim.Native.Nat.{ℕ, zero, suc, _*_, _/_, _<_, _≤_}
-use mathlib.Core.List.{List, []}
+use mathlib.Core.List.{List, [], map}
 use mathlib.Core.Path.{_≡_}
 use lib.ListN.{length, take}
 use Rattle.sheet.specs.Grammar.{Sort}
@@ -10,7 +10,8 @@ use Rattle.sheet.specs.Load.{Loaded as Read, lines, refused}
 use Rattle.sheet.specs.Scan.{scanAll}
 use Rattle.sheet.specs.Scratch.{kindAt, endAt}
 use Rattle.sheet.specs.Tree.{Node, node, Nodes, nil, more, takeNodes, build as trees}
-use Rattle.rules.specs.Ast.{Type', Arg, Expr, Exprs, Field, Param, blankNode, nodes, argOf, typeOf, exprOf, exprsOf, fieldOf, paramOf}
+use Rattle.rules.specs.Ast.{Type', Arg, Expr, Exprs, Field, Param, Clause, Stmt, Entry, Event, blankNode, nodes, spanOf, argOf, typeOf, exprOf, exprsOf, fieldOf, paramOf, clauseOf, stmtOf, entryOf, eventOf}
+use Rattle.rules.specs.Text.{Name}
 use Rattle.rules.specs.Model.{Model}
 use Rattle.rules.specs.Verdict.{modelOf}
 
@@ -69,6 +70,40 @@ fieldAt s i = fieldOf (nodeAt s i)
 
 unfoldable pub paramAt : List ℕ → ℕ → Param
 paramAt s i = paramOf (nodeAt s i)
+
+unfoldable pub paramsAt : List ℕ → ℕ → ℕ → List Param
+paramsAt s k i = map paramOf (nodesAt s k i)
+
+unfoldable pub clauseAt : List ℕ → ℕ → Clause
+clauseAt s i = clauseOf (nodeAt s i)
+
+unfoldable pub clausesAt : List ℕ → ℕ → ℕ → List Clause
+clausesAt s k i = map clauseOf (nodesAt s k i)
+
+unfoldable pub stmtAt : List ℕ → ℕ → Stmt
+stmtAt s i = stmtOf (nodeAt s i)
+
+unfoldable pub stmtsAt : List ℕ → ℕ → ℕ → List Stmt
+stmtsAt s k i = map stmtOf (nodesAt s k i)
+
+unfoldable pub eventAt : List ℕ → ℕ → Event
+eventAt s i = eventOf (nodeAt s i)
+
+unfoldable pub entryAt : List ℕ → ℕ → Entry
+entryAt s i = entryOf (nodeAt s i)
+
+unfoldable pub nodeName : Node → Name
+nodeName (node i l ps) = l .name
+
+unfoldable pub nodeSpan : Node → ℕ
+nodeSpan (node i l ps) = spanOf l
+
+-- the NAME or TEXT of the record at line i, and its SPAN or a field's NSPAN
+unfoldable pub namedAt : List ℕ → ℕ → Name
+namedAt s i = nodeName (nodeAt s i)
+
+unfoldable pub placeAt : List ℕ → ℕ → ℕ
+placeAt s i = nodeSpan (nodeAt s i)
 
 -- ------------------------------------------------------------ lines that are loaded
 

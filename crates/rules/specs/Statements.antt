@@ -5,7 +5,7 @@ use mathlib.Core.Bool.{Bool, true, false, not, _&&_, _||_}
 use mathlib.Core.Option.{Option, none, some}
 use lib.Dec.{leb}
 use lib.ListN.{getElem?}
-use Rattle.rules.specs.Text.{Name, is, pick, lit, raw, dec}
+use Rattle.rules.specs.Text.{Name, is, pick, Piece, lit, raw, dec}
 use Rattle.rules.specs.Ast.{AssignOp, Set, AddTo, SubFrom, Wrap, Checked, Wrapping, Expr, leaf, unary, binary, field, call, wrap, Param, Stmt, guard, bind, emit, assign, do', span, list, typeName}
 use Rattle.rules.specs.Asking.{Ty, Boolean, Address, Asset, TName, Collection, Unknown, Rule, ret, _>>=_, _>>_, expect, ifSome, forEach}
 use Rattle.rules.specs.Declared.{parseU128, intOf, narrowMax, tyOfDecl, eqTy, isTy, describe, numeric, oneWord, compatible}
@@ -22,12 +22,15 @@ emitMismatch Γ arg want got =
       | false ↦ isTy got (TName ∷ Collection ∷ []) || eqTy want Collection || (eqTy got Address && oneWord want)
     ]
 
+abbrev pub emitText : Param → (got : Ty) → List Piece
+emitText f got =
+    lit "the event field `" ∷ raw (f .name) ∷ lit "` is declared " ∷ (typeText (f .ty)
+    ++ (lit ", so it cannot carry a " ∷ lit (describe got) ∷ lit " value; declare a name field as Q_Name and pass a name parameter" ∷ []))
+
 unfoldable pub checkEmitField : Env → (arg : Expr) → Param → Rule Unit
 checkEmitField Γ arg f = do
   got ← tyOf Γ arg
-  expect (not (emitMismatch Γ arg (tyOfDecl (f .ty)) got)) 43 (span arg)
-      (lit "the event field `" ∷ raw (f .name) ∷ lit "` is declared " ∷ (typeText (f .ty)
-      ++ (lit ", so it cannot carry a " ∷ lit (describe got) ∷ lit " value; declare a name field as Q_Name and pass a name parameter" ∷ [])))
+  expect (not (emitMismatch Γ arg (tyOfDecl (f .ty)) got)) 43 (span arg) (emitText f got)
 
 unfoldable pub checkEmitFields : Env → Name → List Expr → Rule Unit
 checkEmitFields Γ name args =
@@ -48,10 +51,12 @@ isSet SubFrom = false
 unfoldable pub isAddressField : Model → Name → Bool
 isAddressField m x = elim (fieldNamed m x) [ none ↦ false | some f ↦ is (typeName (f .ty)) "Q_Address" ]
 
+abbrev pub addressText : Name → List Piece
+addressText x = lit "a name cannot become an address; `" ∷ raw x ∷ lit "` authorises signatures and receives sends, and a name window is not a key anyone holds" ∷ []
+
 unfoldable pub nameIntoAddress : Env → AssignOp → Name → Expr → (slot given : Ty) → Rule Unit
 nameIntoAddress Γ op x value slot given =
-    expect (not (isSet op && eqTy given TName && eqTy slot Address && isAddressField (Γ .model) x)) 25 (span value)
-    (lit "a name cannot become an address; `" ∷ raw x ∷ lit "` authorises signatures and receives sends, and a name window is not a key anyone holds" ∷ [])
+    expect (not (isSet op && eqTy given TName && eqTy slot Address && isAddressField (Γ .model) x)) 25 (span value) (addressText x)
 
 unfoldable pub isChecked : Wrap → Bool
 isChecked Checked = true
@@ -65,18 +70,22 @@ isWrapping (field l s e n m) = false
 isWrapping (call l s c es) = false
 isWrapping (wrap l s w e) = not (isChecked w)
 
+abbrev pub wrappingText : Name → List Piece
+wrappingText x = lit "`wrapping` on the narrow field `" ∷ raw x ∷ lit "` reverts at its maximum rather than wrapping; widen the field to u64 or mask the value explicitly" ∷ []
+
 unfoldable pub wrappingIntoNarrow : Env → Name → Expr → Rule Unit
 wrappingIntoNarrow Γ x value =
-    expect (not (isSome (narrowField (Γ .model) x) && isWrapping value)) 26 (span value)
-    (lit "`wrapping` on the narrow field `" ∷ raw x ∷ lit "` reverts at its maximum rather than wrapping; widen the field to u64 or mask the value explicitly" ∷ [])
+    expect (not (isSome (narrowField (Γ .model) x) && isWrapping value)) 26 (span value) (wrappingText x)
+
+abbrev pub literalText : Name → (literal max : ℕ) → List Piece
+literalText x literal max = dec literal ∷ lit " does not fit `" ∷ raw x ∷ lit "`, whose largest value is " ∷ dec max ∷ []
 
 unfoldable pub literalIntoNarrow : Env → Name → Expr → Rule Unit
 literalIntoNarrow Γ x value =
     ifSome (intOf value) λ text.
     ifSome (narrowField (Γ .model) x) λ max.
     ifSome (parseU128 text) λ literal.
-    expect (leb literal max) 27 (span value)
-    (dec literal ∷ lit " does not fit `" ∷ raw x ∷ lit "`, whose largest value is " ∷ dec max ∷ [])
+    expect (leb literal max) 27 (span value) (literalText x literal max)
 
 unfoldable pub fromDeployParams : Env → Expr → Bool
 fromDeployParams Γ value = Γ .genesis && elim (dotOf value) [ none ↦ false | some d ↦ identIs (d .base) "deploy_params" ]
@@ -87,15 +96,19 @@ slotFits Γ Set value slot given =
 slotFits Γ AddTo value slot given = numeric slot && numeric given
 slotFits Γ SubFrom value slot given = numeric slot && numeric given
 
+abbrev pub assetSlotText : List Piece
+assetSlotText = lit "an asset field changes only by merge, split or send; assigning it would discard what it already holds" ∷ []
+
+abbrev pub slotText : (slot given : Ty) → List Piece
+slotText slot given = lit "a " ∷ lit (describe given) ∷ lit " value cannot be stored in a " ∷ lit (describe slot) ∷ lit " slot" ∷ []
+
 unfoldable pub judgeAssign : Env → AssignOp → (target value : Expr) → (slot given : Ty) → Rule Unit
 judgeAssign Γ op target value slot given = do
-  expect (not (eqTy slot Asset)) 24 (span target)
-      (lit "an asset field changes only by merge, split or send; assigning it would discard what it already holds" ∷ [])
+  expect (not (eqTy slot Asset)) 24 (span target) assetSlotText
   ifSome (identOf target) λ x. nameIntoAddress Γ op x value slot given
   ifSome (identOf target) λ x. wrappingIntoNarrow Γ x value
   ifSome (identOf target) λ x. literalIntoNarrow Γ x value
-  expect (slotFits Γ op value slot given) 28 (span value)
-      (lit "a " ∷ lit (describe given) ∷ lit " value cannot be stored in a " ∷ lit (describe slot) ∷ lit " slot" ∷ [])
+  expect (slotFits Γ op value slot given) 28 (span value) (slotText slot given)
 
 unfoldable pub checkAssign : Env → AssignOp → (target value : Asked) → Rule Unit
 checkAssign Γ op target value = do
@@ -118,10 +131,13 @@ checkStmtTypes Γ (do' e) = do
 
 -- ------------------------------------------------------------ expect_predicate, refuse_name_recipient
 
+abbrev pub predicateText : List Piece
+predicateText = lit "this clause must be a boolean condition" ∷ []
+
 unfoldable pub expectPredicate : Env → Expr → Rule Unit
 expectPredicate Γ e = do
   ty ← tyOf Γ e
-  expect (isTy ty (Boolean ∷ Unknown ∷ [])) 21 (span e) (lit "this clause must be a boolean condition" ∷ [])
+  expect (isTy ty (Boolean ∷ Unknown ∷ [])) 21 (span e) predicateText
 
 unfoldable pub positions : (callee : Expr) → List ℕ
 positions callee =
@@ -131,11 +147,13 @@ positions callee =
           pick x (("send", 0 ∷ []) ∷ ("mint_asset", 0 ∷ []) ∷ ("send_asset", 0 ∷ 1 ∷ []) ∷ []) []
     ]
 
+abbrev pub recipientText : List Piece
+recipientText = lit "a name cannot receive funds or issue an asset; pass the address it resolves to" ∷ []
+
 unfoldable pub refuseNameRecipient : Env → Expr → Rule Unit
 refuseNameRecipient Γ e =
     ifSome (callOf e) λ c.
     forEach (positions (c .callee)) λ index.
     ifSome (getElem? (list (c .args)) index) λ arg. do
       ty ← tyOf Γ arg
-      expect (not (eqTy ty TName)) 29 (span arg)
-          (lit "a name cannot receive funds or issue an asset; pass the address it resolves to" ∷ [])
+      expect (not (eqTy ty TName)) 29 (span arg) recipientText

@@ -20,7 +20,7 @@ use Rattle.text.proofs.Fields.{number-most}
 use Rattle.text.proofs.Pieces.{upto-front, piece-first}
 use Rattle.sheet.specs.Field.{fieldAt}
 use Rattle.sheet.specs.Grammar.{Sort, Rule, span, name, text, assignOp, unOp, binOp, count, flag, assignOps, unOps, binOps, none, rowOf, kindFor}
-use Rattle.sheet.specs.Held.{Parted}
+use Rattle.sheet.specs.Held.{Flagged, Parted}
 use Rattle.sheet.specs.Line.{Line, begun, when, onNumber, readField, andThen, readFields, good, bad, orTen, readAs, readPieces}
 use Rattle.sheet.specs.Say.{pieceAt}
 use Rattle.sheet.specs.Scratch.{Small}
@@ -131,9 +131,9 @@ spans-kept (count s ∷ rs) a (f ∷ fs) l m v vs e p = on-number _ _ _ m _ e (�
 spans-kept (flag s ∷ rs) a (f ∷ fs) l m v vs e p = on-number _ _ _ m _ e (λ u q w. spans-kept rs _ fs _ m v vs w p)
 
 -- fields add parts behind those that are there
-parts-kept : (rs : List Rule) (a : ℕ) (fs : List (List ℕ)) (l m : Line) → readFields rs a fs l ≡ some m → (gs : List (ℕ × Sort)) × (m .parts ≡ l .parts ++ gs)
+parts-kept : (rs : List Rule) (a : ℕ) (fs : List (List ℕ)) (l m : Line) → readFields rs a fs l ≡ some m → (gs : List (ℕ × Sort)) × (m .parts ≡ l .parts ++ gs) × Flagged rs gs
 unfolding readFields readField
-parts-kept [] a fs l m e = let q : l ≡ m = cc in rw q ([], sym (append-nil (m .parts)))
+parts-kept [] a fs l m e = let q : l ≡ m = cc in rw q ([], sym (append-nil (m .parts)), tt)
 parts-kept (r ∷ rs) a [] l m e = absurd (let z : _≡_ {A = ℕ} 0 1 = cc in omega arith)
 parts-kept (span ∷ rs) a (f ∷ fs) l m e = on-number _ _ _ m _ e (λ v q w. parts-kept rs _ fs _ m w)
 parts-kept (name ∷ rs) a (f ∷ fs) l m e = on-test _ _ _ m _ e (λ q w. parts-kept rs _ fs _ m w)
@@ -142,9 +142,9 @@ parts-kept (assignOp ∷ rs) a (f ∷ fs) l m e = on-test _ _ _ m _ e (λ q w. p
 parts-kept (unOp ∷ rs) a (f ∷ fs) l m e = on-test _ _ _ m _ e (λ q w. parts-kept rs _ fs _ m w)
 parts-kept (binOp ∷ rs) a (f ∷ fs) l m e = on-test _ _ _ m _ e (λ q w. parts-kept rs _ fs _ m w)
 parts-kept (count s ∷ rs) a (f ∷ fs) l m e =
-    on-number _ _ _ m _ e (λ v q w. let r = parts-kept rs _ fs _ m w in ((v, s) ∷ r .0, r .1 ∙ append-assoc (l .parts) ((v, s) ∷ []) (r .0)))
+    on-number _ _ _ m _ e (λ v q w. let r = parts-kept rs _ fs _ m w in ((v, s) ∷ r .0, r .1 ∙ append-assoc (l .parts) ((v, s) ∷ []) (r .0), r .2))
 parts-kept (flag s ∷ rs) a (f ∷ fs) l m e =
-    on-number _ _ _ m _ e (λ v q w. let r = parts-kept rs _ fs _ m w in ((v, s) ∷ r .0, r .1 ∙ append-assoc (l .parts) ((v, s) ∷ []) (r .0)))
+    on-number _ _ _ m _ e (λ v q w. let r = parts-kept rs _ fs _ m w in ((v, s) ∷ r .0, r .1 ∙ append-assoc (l .parts) ((v, s) ∷ []) (r .0), (number-most 1 v f q, r .2)))
 
 module _ (at : ℕ) (y : List ℕ) where
   -- the SPAN v starts at a

@@ -68,10 +68,24 @@ pub record Spells (s S : List ℕ) (i : ℕ) (l : line.Line) : Type 0 where
 abbrev pub Among : grammar.Sort → ℕ → Type 0
 Among s k = (grammar.first s ≤ k) × (k < grammar.first s + length (grammar.rows s))
 
+-- a FLAG tells no part or one
+abbrev pub Flagged : List grammar.Rule → List (ℕ × grammar.Sort) → Type 0
+Flagged [] gs = Unit
+Flagged (grammar.span ∷ rs) gs = Flagged rs gs
+Flagged (grammar.name ∷ rs) gs = Flagged rs gs
+Flagged (grammar.text ∷ rs) gs = Flagged rs gs
+Flagged (grammar.assignOp ∷ rs) gs = Flagged rs gs
+Flagged (grammar.unOp ∷ rs) gs = Flagged rs gs
+Flagged (grammar.binOp ∷ rs) gs = Flagged rs gs
+Flagged (grammar.count s ∷ rs) [] = Unit
+Flagged (grammar.count s ∷ rs) (g ∷ gs) = Flagged rs gs
+Flagged (grammar.flag s ∷ rs) [] = Unit
+Flagged (grammar.flag s ∷ rs) (g ∷ gs) = (g .0 ≤ 1) × Flagged rs gs
+
 -- the parts of a line: those that its record always has, and those that its fields tell
 pub record Parted (l : line.Line) : Type 0 where
   pub sorts : sortsIn (l .parts) ≡ groupSorts (grammar.rowOf (l .kind))
-  pub always : (gs : List (ℕ × grammar.Sort)) × (l .parts ≡ grammar.rowOf (l .kind) .always ++ gs)
+  pub always : (gs : List (ℕ × grammar.Sort)) × (l .parts ≡ grammar.rowOf (l .kind) .always ++ gs) × Flagged (grammar.rowOf (l .kind) .rules) gs
 
 mutual
   -- a tree where a sort is due: its record may stand there, and its parts are of the sorts that the record tells
