@@ -1,0 +1,4 @@
+pub mod Behind
+pub mod Consuming
+pub mod Rows
+pub mod Walk

@@ -1,0 +1,155 @@
+-- Calls that make an asset, line by line. Assumes nothing.
+use mathlib.Core.Logic.{_≢_}
+use mathlib.Core.Path.{_≡_, refl, sym, ap, _∙_}
+use mathlib.Core.List.{List}
+use mathlib.Core.Bool.{Bool, true, false, cond, not, _&&_, _||_}
+use mathlib.Core.Option.{none, some}
+use Prim.Native.Nat.{ℕ, suc, _+_, _<_, _≤_}
+use native.Mathlib.Numerals.{add-one}
+use native.Mathlib.Omega.{arith}
+use lib.Dec.{eqb}
+use borrow.Author.Tests.{ne-eqb, eqb-true}
+use Rattle.text.specs.Text.{bytes, same}
+use Rattle.sheet.specs.Grammar as grammar
+use Rattle.sheet.specs.Scratch.{entry, kindAt, endAt, nameAt}
+use Rattle.sheet.specs.Say.{spanAt}
+use Rattle.rules.specs.Text.{Name, is}
+use Rattle.rules.specs.Ast.{Expr, leaf, unary, binary, field, call, wrap, Exprs, nil, more, leafOf}
+use Rattle.rules.specs.Asking.{refused, ret, _>>=_, _>>_, expect}
+use Rattle.rules.specs.Kept.{Table, kept}
+use Rattle.rules.specs.Typing.{identLeaf, identIs, identOf, dotOf, callOf}
+use Rattle.rules.specs.Assets.{makesAsset, droppedText, noAssetCall, noAssetCalls}
+use Rattle.rules.specs.Standing.{exprAt, exprsAt, Loaded, Here}
+use Rattle.rules.proofs.Exprs.{leafAt, by-kind, call-at}
+use Rattle.rules.proofs.Forest.{joined, partsOf, Left, At, left-one, left-over, left-at}
+use Rattle.rules.proofs.Parts.{stop, _also_, pick}
+use Rattle.rules.proofs.Records.{placed}
+use Rattle.rules.proofs.Standing.{row-first}
+use Rattle.declared.specs.Answers.{Answers}
+use Rattle.declared.specs.Lines.{RecordAt}
+use Rattle.declared.specs.Refusal.{refusalOf, doneOf}
+use Rattle.declared.specs.declared.refusal.Refusal.the-variants.{Dropped}
+use Rattle.declared.specs.declared.refusal.Done.the-variants.{Fine, Refused}
+use Rattle.declared.proofs.Answers.{misfits, then-refused}
+use Rattle.declared.proofs.Tables.{or-false}
+use Rattle.assets.specs.Made.{isAssetCall}
+use Rattle.assets.proofs.Behind.{then-same, then-then, then-done}
+
+-- ------------------------------------------------------------ expressions one behind another
+
+joined-walked : (es fs : Exprs) (T : Table) → kept (noAssetCalls (joined es fs)) T ≡ kept (noAssetCalls es >> noAssetCalls fs) T
+unfolding joined noAssetCalls _>>_ _>>=_
+joined-walked nil fs T = refl
+joined-walked (more e es) fs T =
+    then-same (noAssetCall e) (noAssetCalls (joined es fs)) (noAssetCalls es >> noAssetCalls fs) (joined-walked es fs) T
+    ∙ sym (then-then (noAssetCall e) (noAssetCalls es) (noAssetCalls fs) T)
+
+-- what is walked behind an expression that is no asset call: its parts, and then the rest
+walked-in : (e : Expr) (rest : Exprs) → isAssetCall e ≡ false → (T : Table) → kept (noAssetCalls (more e rest)) T ≡ kept (noAssetCalls (joined (partsOf e) rest)) T
+unfolding joined partsOf noAssetCall noAssetCalls _>>_ _>>=_ isAssetCall callOf expect
+walked-in (leaf l s k) rest h T = refl
+walked-in (unary l s o e) rest h T = refl
+walked-in (binary l s o a b) rest h T = then-then (noAssetCall a) (noAssetCall b) (noAssetCalls rest) T
+walked-in (field l s e n m) rest h T = refl
+walked-in (call l s c es) rest h T =
+    rw h (then-then (noAssetCall c) (noAssetCalls es) (noAssetCalls rest) T
+    ∙ then-same (noAssetCall c) (noAssetCalls es >> noAssetCalls rest) (noAssetCalls (joined es rest)) (λ U. sym (joined-walked es rest U)) T)
+walked-in (wrap l s w e) rest h T = refl
+
+dropped : (l s : ℕ) (c : Expr) (es : Exprs) → makesAsset c ≡ true → Answers (noAssetCall (call l s c es)) (refused (record { number = 44; place = s; text = droppedText }))
+unfolding noAssetCall
+dropped l s c es h = then-refused _ _ _ (then-refused _ _ _ (misfits (not (makesAsset c)) 44 s droppedText (rw h refl)))
+
+-- ------------------------------------------------------------ one line
+
+module _ {s S : List ℕ} (d : Loaded s S) {i : ℕ} (h : Here S grammar.Expr i) where
+  -- `Expr::Call` by the line's kind
+  pub is-call-at : callOf (exprAt s i) ≡ cond (eqb (kindAt S i) 31) (some (record { callee = exprAt s (suc i); args = exprsAt s (entry S i 6) (endAt S (suc i)) })) none
+  unfolding callOf
+  is-call-at =
+      by-kind d h (λ k e. callOf e ≡ cond (eqb k 31) (some (record { callee = exprAt s (suc i); args = exprsAt s (entry S i 6) (endAt S (suc i)) })) none)
+      (λ k a b. rw (ne-eqb k 31 (omega arith)) refl)
+      refl refl refl refl
+      (λ k w a. rw (ne-eqb k 31 (omega arith)) refl)
+
+-- What `makes_asset` meets: a callee of kind k, and whether its name is either word.
+pub makes-asset : (s S : List ℕ) (i k : ℕ) (x : Name) (v w : Bool) → RecordAt grammar.Expr s S i → k ≡ kindAt S i → x ≡ nameAt s S i → v ≡ same x (bytes "split") → w ≡ same x (bytes "mint")
+    → ((eqb k 30 && v) || (eqb k 21 && w)) ≡ makesAsset (exprAt s i)
+unfolding makesAsset identIs identOf leafOf identLeaf dotOf is
+makes-asset s S i k x v w h e n f g =
+    rw e
+    (by-kind (h .loaded) (h .here) (λ k e. ((eqb k 30 && v) || (eqb k 21 && w)) ≡ makesAsset e)
+    (λ k a b.
+    pick {P = λ k. ((eqb k 30 && v) || (eqb k 21 && w)) ≡ makesAsset (leaf i (spanAt s S i) (leafAt k (nameAt s S i)))} {i = 20} {n = 8} k
+    (refl also (g ∙ ap (λ y. same y (bytes "mint")) n) also refl also refl also refl also refl also refl also refl also stop) a b)
+    refl refl
+    (or-false v ∙ f ∙ ap (λ y. same y (bytes "split")) n)
+    refl
+    (λ k w a. rw (ne-eqb k 30 (omega arith), ne-eqb k 21 (omega arith)) refl))
+
+-- What `is_asset_call` meets: a line of kind k.
+module _ (s S : List ℕ) (i k : ℕ) (h : RecordAt grammar.Expr s S i) (e : k ≡ kindAt S i) where
+  pub no-call : k ≢ 31 → false ≡ isAssetCall (exprAt s i)
+  unfolding isAssetCall
+  no-call q = rw (isAssetCall, is-call-at (h .loaded) (h .here), ← e, ne-eqb k 31 q) refl
+
+  pub callee-here : k ≡ 31 → RecordAt grammar.Expr s S (i + 1)
+  callee-here q = record { loaded = h .loaded; here = rw add-one (row-first (call-at (h .loaded) (h .here) (sym e ∙ q) .1)) }
+
+  pub a-call : (r : Bool) → k ≡ 31 → r ≡ makesAsset (exprAt s (i + 1)) → r ≡ isAssetCall (exprAt s i)
+  unfolding isAssetCall
+  a-call r q f = f ∙ rw (isAssetCall, is-call-at (h .loaded) (h .here), ← e, q, add-one) refl
+
+-- an asset call is refused, and is a `call` record
+refused-here : (s S : List ℕ) (i : ℕ) → RecordAt grammar.Expr s S i → isAssetCall (exprAt s i) ≡ true → Answers (noAssetCall (exprAt s i)) (doneOf s (Refused (Dropped i)))
+unfolding doneOf refusalOf isAssetCall callOf
+refused-here s S i h q = go (eqb (kindAt S i) 31) refl
+  where
+    go : (b : Bool) → eqb (kindAt S i) 31 ≡ b → Answers (noAssetCall (exprAt s i)) (doneOf s (Refused (Dropped i)))
+    go true f =
+        let e = eqb-true (kindAt S i) 31 f in
+        let c = call-at (h .loaded) (h .here) e in
+        rw (c .0, placed (h .loaded) (h .here .within) 31 _ e refl) (dropped i (spanAt s S i) (exprAt s (suc i)) _ (rw (c .0) at q))
+    go false f = absurd (let z : _≡_ {A = Bool} true false = sym q ∙ rw (isAssetCall, is-call-at (h .loaded) (h .here), f) refl in (let y : _≡_ {A = ℕ} 0 1 = cc in omega arith))
+
+-- ------------------------------------------------------------ the walk
+
+-- the expressions es in the lines from at up to end are left of the one at line i
+pub record Walking (s S : List ℕ) (i end at : ℕ) : Type 0 where
+  pub loaded : Loaded s S
+  pub exprs : Exprs
+  pub left : Left s S at end exprs
+  pub whole : (T : Table) → kept (noAssetCall (exprAt s i)) T ≡ kept (noAssetCalls exprs) T
+
+pub walk-start : (s S : List ℕ) (i end : ℕ) → RecordAt grammar.Expr s S i → end ≡ endAt S i → Walking s S i end i
+unfolding noAssetCalls
+walk-start s S i end h e =
+    rw e (record { loaded = h .loaded; exprs = more (exprAt s i) nil; left = left-one (h .loaded) (h .here); whole = λ T. sym (then-done (noAssetCall (exprAt s i)) T) })
+
+module _ (s S : List ℕ) (i end at : ℕ) (w : Walking s S i end at) where
+  pub walk-over : end ≤ at → Answers (noAssetCall (exprAt s i)) (doneOf s Fine)
+  unfolding noAssetCalls doneOf kept
+  walk-over h = record { answers = λ T. w .whole T ∙ rw (left-over (w .loaded) (w .left) h) refl }
+
+  module _ (h : at < end) where
+    here : At (w .loaded) at end (w .exprs)
+    here = left-at (w .loaded) (w .left) h
+
+    pub walk-here : RecordAt grammar.Expr s S at
+    walk-here = record { loaded = w .loaded; here = here .here }
+
+    module _ (b : Bool) (e : b ≡ isAssetCall (exprAt s at)) where
+      pub walk-found : b ≡ true → Answers (noAssetCall (exprAt s i)) (doneOf s (Refused (Dropped at)))
+      unfolding noAssetCalls doneOf
+      walk-found q =
+          let r = then-refused (noAssetCall (exprAt s at)) (noAssetCalls (here .rest)) (refusalOf s (Dropped at)) (refused-here s S at walk-here (sym e ∙ q)) in
+          record { answers = λ T. w .whole T ∙ rw (here .is) (r .answers T) }
+
+      pub walk-next : b ≡ false → Walking s S i end (at + 1)
+      walk-next q =
+          record {
+            loaded = w .loaded;
+            exprs = joined (partsOf (exprAt s at)) (here .rest);
+            left = rw add-one (here .inside);
+            whole = λ T. w .whole T ∙ ap (λ es. kept (noAssetCalls es) T) (here .is) ∙ walked-in (exprAt s at) (here .rest) (sym e ∙ q) T;
+          }
