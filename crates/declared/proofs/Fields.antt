@@ -23,7 +23,8 @@ use Rattle.rules.specs.Verdict.{modelOf}
 use Rattle.rules.specs.Standing.{nodeName, treesFrom, without, nodeAt, nodesAt, fieldAt, modelIn, Loaded, Here, Row, stop, next}
 use Rattle.rules.proofs.Parts.{stop as end, _also_, pick, parts}
 use Rattle.rules.proofs.Standing.{Stands, stands, nodes-next, parts-behind, row-behind, row-first, row-rest}
-use Rattle.declared.specs.Found.{nodeKind, ofKind, foundNode, foundField, orElse, itemFields, Stretch, Of, Last, ItemAt, Newest, FieldNamed}
+use Rattle.declared.specs.Found.{nodeKind, ofKind, foundNode, foundField, orElse, itemFields, modelAt, Stretch, Of, Last, ItemAt, Newest, FieldsNamed, FieldNamed}
+use Rattle.declared.specs.Lines.{RecordsAt}
 use Rattle.declared.specs.declared.model.Found.{Found}
 use Rattle.declared.specs.declared.model.Found.the-variants.{At, Nothing}
 use Rattle.declared.proofs.Finding.{last-turn, or-none}
@@ -69,16 +70,22 @@ map-append : {A B : Type 0} (f : A → B) (as' bs : List A) → map f (as' ++ bs
 map-append f [] bs = refl
 map-append f (a ∷ as') bs = ap (λ cs. f a ∷ cs) (map-append f as' bs)
 
-row-fields : {s S : List ℕ} {m i : ℕ} → Loaded s S → Row S grammar.Item m i → build (map itemOf (nodesAt s m i)) .fields ≡ map fieldOf (allFields (nodesAt s m i))
-unfolding nodesAt takeNodes nodes build joined nodeKind
-row-fields d stop = refl
-row-fields {s} {S} {m = suc m} {i} d (next h r) =
+-- ... which the item at a line declares
+pub item-here : {s S : List ℕ} {i : ℕ} → Loaded s S → Here S grammar.Item i → itemModel (itemOf (nodeAt s i)) .fields ≡ map fieldOf (itemFields (nodeAt s i))
+unfolding nodeKind
+item-here {s} {S} {i} d h =
     let t = stands d i (h .within) in
     let k : nodeKind (nodeAt s i) ≡ kindAt S i = rw (t .here) (sym (t .says .kind)) in
+    item-fields (nodeAt s i) (omega (arith, k, h .kind .0)) (omega (arith, k, h .kind .1))
+
+row-fields : {s S : List ℕ} {m i : ℕ} → Loaded s S → Row S grammar.Item m i → build (map itemOf (nodesAt s m i)) .fields ≡ map fieldOf (allFields (nodesAt s m i))
+unfolding nodesAt takeNodes nodes build joined
+row-fields d stop = refl
+row-fields {s} {S} {m = suc m} {i} d (next h r) =
     rw (
       nodes-next d m i (h .within),
       map-append fieldOf (itemFields (nodeAt s i)) (allFields (nodesAt s m (endAt S i))),
-      ← item-fields (nodeAt s i) (omega (arith, k, h .kind .0)) (omega (arith, k, h .kind .1)),
+      ← item-here d h,
       ← row-fields d r,
     )
     refl
@@ -125,31 +132,39 @@ its-fields : {s S : List ℕ} {i : ℕ} (t : Stands s S i) → t .line .kind ≡
 unfolding itemFields
 its-fields t e = rw (t .here, itemFields, e) refl
 
-module _ (s S : List ℕ) (x : Name) (i : ℕ) (f : Found) (h : ItemAt s S i) (k : ℕ) (e : k ≡ kindAt S i) where
+module _ (s S : List ℕ) (i : ℕ) (h : ItemAt s S i) (k : ℕ) (e : k ≡ kindAt S i) where
   t : Stands s S i
   t = stands (h .loaded) i (h .here .within)
 
   kind-is : t .line .kind ≡ k
   kind-is = sym (e ∙ t .says .kind)
 
+  pub not-state : k ≢ 1 → itemFields (nodeAt s i) ≡ []
+  unfolding nodeKind
+  not-state q = no-fields (nodeAt s i) (rw (t .here, kind-is) q)
+
+  pub of-state : (m j : ℕ) → k ≡ 1 → m ≡ entry S i 5 → j ≡ i + 1 → (itemFields (nodeAt s i) ≡ nodesAt s m j) × Row S grammar.Field m j
+  of-state m j q c y =
+      let p = parts (t .line) 1 (t .parted) (kind-is ∙ q) in
+      let o = one-sort (p .0) t (p .1) in
+      let z : j ≡ suc i = omega arith in
+      let b : m ≡ p .0 = c ∙ o .2 in
+      rw (z, b) (its-fields t (kind-is ∙ q) ∙ o .0, o .1)
+
+module _ (s S : List ℕ) (x : Name) (i : ℕ) (f : Found) (h : ItemAt s S i) (k : ℕ) (e : k ≡ kindAt S i) where
   pub other : k ≢ 1 → Newest s S x i f f
-  unfolding lastNamed orElse nodeKind
-  other q = record { found = rw (no-fields (nodeAt s i) (rw (t .here, kind-is) q)) refl; kind = λ o. o }
+  unfolding lastNamed orElse
+  other q = record { found = rw (not-state s S i h k e q) refl; kind = λ o. o }
 
   module _ (m j : ℕ) (q : k ≡ 1) (c : m ≡ entry S i 5) (y : j ≡ i + 1) where
-    g : (nodes (t .parts) ≡ nodesAt s m j) × Row S grammar.Field m j
-    g =
-        let p = parts (t .line) 1 (t .parted) (kind-is ∙ q) in
-        let o = one-sort (p .0) t (p .1) in
-        let z : j ≡ suc i = omega arith in
-        let b : m ≡ p .0 = c ∙ o .2 in
-        rw (z, b) (o .0, o .1)
+    abbrev g : (itemFields (nodeAt s i) ≡ nodesAt s m j) × Row S grammar.Field m j
+    g = of-state s S i h k e m j q c y
 
     pub fields-behind : Stretch s S m j
     fields-behind = record { loaded = h .loaded; sort = grammar.Field; row = g .1 }
 
     fields-are : itemFields (nodeAt s i) ≡ ofKind 6 (nodesAt s m j)
-    fields-are = its-fields t (kind-is ∙ q) ∙ g .0 ∙ sym (all-kind 6 (λ a b. omega (arith, b .kind .0, b .kind .1)) (h .loaded) (g .1))
+    fields-are = g .0 ∙ sym (all-kind 6 (λ a b. omega (arith, b .kind .0, b .kind .1)) (h .loaded) (g .1))
 
     module _ (r : Found) (l : Last s S 6 x m j r) where
       pub newer : (a : ℕ) → r ≡ At a → Newest s S x i f (At a)
@@ -162,41 +177,44 @@ module _ (s S : List ℕ) (x : Name) (i : ℕ) (f : Found) (h : ItemAt s S i) (k
 
 -- ------------------------------------------------------------ item by item
 
-as-field : (s : List ℕ) (r : Found) → foundField s r ≡ Option·map fieldOf (foundNode s r)
+pub as-field : (s : List ℕ) (r : Found) → foundField s r ≡ Option·map fieldOf (foundNode s r)
 unfolding foundField foundNode fieldAt
 as-field s (At i) = refl
 as-field s Nothing = refl
 
-field-name : (t : Node) → fieldOf t .name ≡ nodeName t
+pub field-name : (t : Node) → fieldOf t .name ≡ nodeName t
 unfolding fieldOf nodeName
 field-name (node i l ps) = refl
 
 -- what is found so far, with left items to go from line at on
-pub record FieldsGoing (s S : List ℕ) (x : Name) (left at : ℕ) (f : Found) : Type 0 where
-  pub loaded : Loaded s S
+pub record FieldsGoing (s S : List ℕ) (x : Name) (m i left at : ℕ) (f : Found) : Type 0 where
+  pub items : RecordsAt grammar.Item s S m i
   pub row : Row S grammar.Item left at
-  pub rest : lastNamed nodeName x (allFields (nodesAt s (entry S 0 5) 1)) ≡ orElse (lastNamed nodeName x (allFields (nodesAt s left at))) (foundNode s f)
+  pub rest : lastNamed nodeName x (allFields (nodesAt s m i)) ≡ orElse (lastNamed nodeName x (allFields (nodesAt s left at))) (foundNode s f)
   pub kind : Of S 6 f
 
-pub fields-start : (s S : List ℕ) (x : Name) (m : ℕ) → Loaded s S → m ≡ entry S 0 5 → FieldsGoing s S x m 1 Nothing
+pub fields-start : (s S : List ℕ) (x : Name) (m i : ℕ) → RecordsAt grammar.Item s S m i → FieldsGoing s S x m i m i Nothing
 unfolding foundNode
-fields-start s S x m d e = rw e (record { loaded = d; row = items-at d .1; rest = sym (or-none _); kind = tt })
+fields-start s S x m i h = record { items = h; row = h .row; rest = sym (or-none _); kind = tt }
 
-module _ (s S : List ℕ) (x : Name) (left at : ℕ) (f : Found) (g : FieldsGoing s S x left at f) where
+module _ (s S : List ℕ) (x : Name) (m i left at : ℕ) (f : Found) (g : FieldsGoing s S x m i left at f) where
+  abbrev d : Loaded s S
+  d = g .items .loaded
+
   row : 0 < left → Row S grammar.Item (suc (left - 1)) at
   row h = rw (let y : suc (left - 1) ≡ left = omega arith in y) (g .row)
 
   pub fields-item : 0 < left → ItemAt s S at
-  fields-item h = record { loaded = g .loaded; here = row-first (row h) }
+  fields-item h = record { loaded = d; here = row-first (row h) }
 
-  pub fields-turn : (at' : ℕ) (f' : Found) → 0 < left → Newest s S x at f f' → at' ≡ endAt S at → FieldsGoing s S x (left - 1) at' f'
+  pub fields-turn : (at' : ℕ) (f' : Found) → 0 < left → Newest s S x at f f' → at' ≡ endAt S at → FieldsGoing s S x m i (left - 1) at' f'
   fields-turn at' f' h e q =
       let r = row h in
       let list : nodesAt s left at ≡ nodeAt s at ∷ nodesAt s (left - 1) (endAt S at) =
-      ap (λ y. nodesAt s y at) (let y : left ≡ suc (left - 1) = omega arith in y) ∙ nodes-next (g .loaded) (left - 1) at (row-first r .within) in
+      ap (λ y. nodesAt s y at) (let y : left ≡ suc (left - 1) = omega arith in y) ∙ nodes-next d (left - 1) at (row-first r .within) in
       rw q
       (record {
-        loaded = g .loaded;
+        items = g .items;
         row = row-rest r;
         rest =
             g .rest
@@ -204,16 +222,24 @@ module _ (s S : List ℕ) (x : Name) (left at : ℕ) (f : Found) (g : FieldsGoin
         kind = e .kind (g .kind);
       })
 
-  pub fields-over : left ≤ 0 → FieldNamed s S x f
-  unfolding nodesAt takeNodes nodes lastNamed orElse fieldNamed
+  pub fields-over : left ≤ 0 → FieldsNamed s S x m i f
+  unfolding nodesAt takeNodes nodes lastNamed orElse fieldNamed modelAt
   fields-over h =
-      let e = items-at (g .loaded) in
-      let all = lastNamed nodeName x (allFields (nodesAt s (entry S 0 5) 1)) in
+      let all = lastNamed nodeName x (allFields (nodesAt s m i)) in
       let last : foundNode s f ≡ all = sym (g .rest ∙ rw (let y : left ≡ 0 = omega arith in y) refl) in
       record {
         found =
             as-field s f
             ∙ ap (Option·map fieldOf) last
-            ∙ sym (rw (e .0, row-fields (g .loaded) (e .1)) (last-map fieldOf (λ y. y .name) nodeName x field-name (allFields (nodesAt s (entry S 0 5) 1))));
+            ∙ sym (rw (row-fields d (g .items .row)) (last-map fieldOf (λ y. y .name) nodeName x field-name (allFields (nodesAt s m i))));
         kind = g .kind;
       }
+
+-- ------------------------------------------------------------ all items
+
+pub all-items : (s S : List ℕ) (m : ℕ) → Loaded s S → m ≡ entry S 0 5 → RecordsAt grammar.Item s S m 1
+all-items s S m d e = rw e (record { loaded = d; row = items-at d .1 })
+
+pub all-fields : (s S : List ℕ) (x : Name) (m : ℕ) (r : Found) → Loaded s S → m ≡ entry S 0 5 → FieldsNamed s S x m 1 r → FieldNamed s S x r
+unfolding modelAt
+all-fields s S x m r d e f = record { found = rw (items-at d .0, ← e) (f .found); kind = f .kind }

@@ -1,7 +1,7 @@
 -- What a search by name finds among loaded lines.
 use Prim.Native.Nat.{ℕ, _/_, _<_}
 use mathlib.Core.Bool.{true, false, cond}
-use mathlib.Core.List.{List, [], _∷_}
+use mathlib.Core.List.{List, [], _∷_, map}
 use mathlib.Core.Option.{Option, none, some}
 use mathlib.Core.Path.{_≡_}
 use lib.Dec.{eqb}
@@ -12,8 +12,8 @@ use Rattle.sheet.specs.Scratch.{kindAt, nameAt}
 use Rattle.sheet.specs.Tree.{Node, node}
 use Rattle.text.specs.Text.{same}
 use Rattle.rules.specs.Text.{Name, lastNamed}
-use Rattle.rules.specs.Ast.{Field, nodes}
-use Rattle.rules.specs.Model.{fieldNamed}
+use Rattle.rules.specs.Ast.{Field, itemOf, nodes}
+use Rattle.rules.specs.Model.{Model, build, fieldNamed}
 use Rattle.rules.specs.Standing.{nodeName, nodeAt, nodesAt, fieldAt, modelIn, Loaded, Here, Row}
 use Rattle.declared.specs.declared.model.Found.{Found}
 use Rattle.declared.specs.declared.model.Found.the-variants.{At, Nothing}
@@ -70,6 +70,15 @@ orElse (some a) o = some a
 pub record Newest (s S : List ℕ) (x : Name) (i : ℕ) (f r : Found) : Type 0 where
   pub found : foundNode s r ≡ orElse (lastNamed nodeName x (itemFields (nodeAt s i))) (foundNode s f)
   pub kind : Of S 6 f → Of S 6 r
+
+-- the model of m items, the first at line i
+unfoldable pub modelAt : List ℕ → ℕ → ℕ → Model
+modelAt s m i = build (map itemOf (nodesAt s m i))
+
+-- r is the last field of the name x that m items from line i on declare
+pub record FieldsNamed (s S : List ℕ) (x : Name) (m i : ℕ) (r : Found) : Type 0 where
+  pub found : foundField s r ≡ fieldNamed (modelAt s m i) x
+  pub kind : Of S 6 r
 
 -- r is the last state field of the name x
 pub record FieldNamed (s S : List ℕ) (x : Name) (r : Found) : Type 0 where

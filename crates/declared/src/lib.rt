@@ -10,6 +10,7 @@ pub use declared::numeric;
 pub use declared::ty_of_decl;
 pub use model::Found;
 pub use model::field_named;
+pub use model::fields_named;
 pub use model::last_named;
 pub use refusal::Done;
 pub use refusal::Refusal;

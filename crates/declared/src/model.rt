@@ -5,7 +5,9 @@ use sheet::kind;
 use sheet::name;
 use text::is_word;
 ghost use mathlib.Core.Path.{_≡_};
-ghost use Rattle.declared.specs.Found.{FieldNamed, ItemAt, Last, Newest, Stretch};
+ghost use Rattle.sheet.specs.Grammar.{Item};
+ghost use Rattle.declared.specs.Found.{FieldNamed, FieldsNamed, ItemAt, Last, Newest, Stretch};
+ghost use Rattle.declared.specs.Lines.{RecordsAt};
 ghost use Rattle.rules.specs.Standing.{Loaded};
 ghost use Rattle.declared.specs.Found.{newest as newestOf};
 
@@ -65,13 +67,13 @@ fn newest_field(sheet: &[u8], lines: &[u16], x: &[u8], item: usize, found: Found
     }
 }
 
-// `model.state.get(x)`: the last state field of the name x.
-pub fn field_named(sheet: &[u8], lines: &[u16], x: &[u8]) -> Found
-    requires { ⌜ Loaded (now sheet) (now lines) ⌝ }
-    ensures { λ r. ⌜ FieldNamed (now (sheet .entry)) (now (lines .entry)) (now (x .entry)) r ⌝ }
+// The last state field of the name x among those of count items, the first of which stands at line from.
+pub fn fields_named(sheet: &[u8], lines: &[u16], x: &[u8], from: usize, count: usize) -> Found
+    requires { ⌜ RecordsAt Item (now sheet) (now lines) count from ⌝ }
+    ensures { λ r. ⌜ FieldsNamed (now (sheet .entry)) (now (lines .entry)) (now (x .entry)) count from r ⌝ }
 {
-    let mut at = 1;
-    let mut left = first(lines, 0);
+    let mut at = from;
+    let mut left = count;
     let mut found = Found::Nothing;
     while 0 < left {
         found = newest_field(sheet, lines, x, at, found);
@@ -79,4 +81,12 @@ pub fn field_named(sheet: &[u8], lines: &[u16], x: &[u8]) -> Found
         left -= 1;
     }
     found
+}
+
+// `model.state.get(x)`: the last state field of the name x.
+pub fn field_named(sheet: &[u8], lines: &[u16], x: &[u8]) -> Found
+    requires { ⌜ Loaded (now sheet) (now lines) ⌝ }
+    ensures { λ r. ⌜ FieldNamed (now (sheet .entry)) (now (lines .entry)) (now (x .entry)) r ⌝ }
+{
+    fields_named(sheet, lines, x, 1, first(lines, 0))
 }
