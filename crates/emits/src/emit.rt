@@ -22,8 +22,8 @@ ghost use Rattle.env.specs.Force.{envOf, ExprIn};
 ghost use Rattle.typing.specs.Asks.{Does};
 ghost use Rattle.emits.specs.Emit.{EmitIn, emitRule, FieldIn, FieldsIn, fieldsRule, JudgesField, Mismatches};
 
-// `emit_mismatch` by codes: an argument of the type got doesn't fit a parameter of the type want. `straight`: the argument
-// is the bare name of a Q_Name parameter.
+// `mismatch` by codes: an argument of the type got doesn't fit a parameter of the type want. `straight`: the argument is
+// the bare name of a Q_Name parameter.
 fn mismatch(want: u8, got: u8, straight: bool) -> bool
     ensures { λ r. ⌜ Mismatches want got straight r ⌝ }
 {

@@ -1,4 +1,4 @@
-// `model.event(x)`: a search by name, the first one winning.
+// The event of a name: a search among the items, the first one winning.
 use declared::Found;
 use sheet::end;
 use sheet::first;

@@ -30,9 +30,9 @@ met t =
     (λ c κs. search (needs, fields-first))
     (λ c. search needs)
     (λ c κs. search needs)
-    (λ c. search (needs, some-args))
+    (λ c. search (needs, some-args, some-params))
     (λ c κs. search needs)
-    (λ c. search (needs, some-params))
+    (λ c. search (needs, some-args, some-params))
     (λ c κs.
     let told = c .before .before .before in
     let done = told .before .before .before .before in
