@@ -15,14 +15,15 @@ use Rattle.sheet.specs.Grammar as grammar
 use Rattle.sheet.specs.Scratch.{entry, kindAt, endAt, nameAt}
 use Rattle.sheet.specs.Tree.{takeNodes}
 use Rattle.rules.specs.Text.{Name}
-use Rattle.rules.specs.Ast.{Expr, Exprs, nil, more, Param, list, span, exprsOf}
+use Rattle.rules.specs.Ast.{Expr, Exprs, nil, more, Param, Stmt, emit, list, span, exprsOf}
+use Rattle.rules.specs.Check.{checkBody}
 use Rattle.rules.specs.Asking.{Ty, code, Res, ok, refused, Rule, ret, _>>=_, _>>_, expect, ifSome, forEach}
 use Rattle.rules.specs.Kept.{Table, kept}
 use Rattle.rules.specs.Declared.{eqTy, isTy, oneWord, tyOfDecl}
 use Rattle.rules.specs.Typing.{Env as Environment, asked, askOf, tyOf, typings, askEach, isNameParam}
 use Rattle.rules.specs.Statements.{emitMismatch, emitText, checkEmitField, checkEmitFields}
 use Rattle.rules.specs.Standing.{eventAt, exprAt, exprsAt, paramAt, paramsAt, typeAt, Here, Row}
-use Rattle.rules.proofs.Binding.{then-ok, then-refused}
+use Rattle.rules.proofs.Binding.{andThen, kept-bind, then-ok, then-refused}
 use Rattle.rules.proofs.Parts.{parts}
 use Rattle.rules.proofs.Records.{event-at, param-at, params-next, no-params}
 use Rattle.rules.proofs.Standing.{stands, exprs-next, row-first, row-rest}
@@ -268,3 +269,21 @@ module _ (s S : List ℕ) (env : Env) (T : Table) (i : ℕ) (h : EmitIn s S env 
             → Does s (emitRule (envOf s T env) (nameAt s S i) (list es)) T r W
         unfolding emitRule
         emit-ok r W g = goes-on s all Emits T d U asks r W e (rw (← on-emit .same) (g .gives))
+
+-- ------------------------------------------------------------ in a body
+
+kept-assoc : (p q r : Rule Unit) (T : Table) → kept ((p >>= λ _. q) >>= λ _. r) T ≡ kept (p >>= λ _. (q >>= λ _. r)) T
+kept-assoc p q r T = go (kept p T .res) (kept p T .table) refl
+  where
+    go : (x : Res Unit) (U : Table) → kept p T ≡ record { res = x; table = U } → kept ((p >>= λ _. q) >>= λ _. r) T ≡ kept (p >>= λ _. (q >>= λ _. r)) T
+    go (ok a) U e =
+        kept-bind (p >>= λ _. q) (λ _. r) T
+        ∙ ap (λ o. andThen o (λ b W. kept r W)) (then-ok p (λ _. q) T U a (kept q U) e refl)
+        ∙ sym (kept-bind q (λ _. r) U)
+        ∙ sym (then-ok p (λ _. (q >>= λ _. r)) T U a _ e refl)
+    go (refused y) U e = then-refused (p >>= λ _. q) (λ _. r) T U y (then-refused p (λ _. q) T U y e) ∙ sym (then-refused p (λ _. (q >>= λ _. r)) T U y e)
+
+-- the `emit` clause of `checkBody` is this rule, then the rest of the body
+pub emit-clause : (Γ : Environment) (x : Name) (as' : List Expr) (ss : List Stmt) (T : Table) → kept (emitRule Γ x as' >>= λ _. checkBody Γ ss) T ≡ kept (checkBody Γ (emit x as' ∷ ss)) T
+unfolding emitRule checkBody _>>_
+emit-clause Γ x as' ss T = kept-assoc (forEach as' λ arg. tyOf Γ arg >> ret tt) (checkEmitFields Γ x as') (checkBody Γ ss) T
