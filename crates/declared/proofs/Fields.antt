@@ -16,6 +16,7 @@ use Rattle.sheet.specs.Load.{sorts}
 use Rattle.sheet.specs.Scratch.{kindAt, endAt, entry}
 use Rattle.sheet.specs.Tree.{Node, node, nil, more, takeNodes}
 use Rattle.sheet.proofs.Due.{length-times}
+use Rattle.text.proofs.Words.{same-is}
 use Rattle.rules.specs.Text.{Name, lastNamed}
 use Rattle.rules.specs.Ast.{Field, itemOf, fieldOf, contractOf, nodes}
 use Rattle.rules.specs.Model.{itemModel, joined, build, fieldNamed}
@@ -23,7 +24,7 @@ use Rattle.rules.specs.Verdict.{modelOf}
 use Rattle.rules.specs.Standing.{nodeName, treesFrom, without, nodeAt, nodesAt, fieldAt, modelIn, Loaded, Here, Row, stop, next}
 use Rattle.rules.proofs.Parts.{stop as end, _also_, pick, parts}
 use Rattle.rules.proofs.Standing.{Stands, stands, nodes-next, parts-behind, row-behind, row-first, row-rest}
-use Rattle.declared.specs.Found.{nodeKind, ofKind, foundNode, foundField, orElse, itemFields, Stretch, Of, Last, ItemAt, Newest, FieldNamed}
+use Rattle.declared.specs.Found.{nodeKind, ofKind, foundNode, foundField, orElse, itemFields, allFields, Stretch, Of, Last, ItemAt, Newest, FieldNamed}
 use Rattle.declared.specs.declared.model.Found.{Found}
 use Rattle.declared.specs.declared.model.Found.the-variants.{At, Nothing}
 use Rattle.declared.proofs.Finding.{last-turn, or-none}
@@ -53,10 +54,6 @@ last-map {A} {B} g f h x e (a ∷ as') = go (lastNamed h x as') (same x (h a)) _
     go none false l' b' p q = rw (p, q) refl
 
 -- ------------------------------------------------------------ the fields of a model
-
-abbrev allFields : List Node → List Node
-allFields [] = []
-allFields (t ∷ ts) = itemFields t ++ allFields ts
 
 item-fields : (t : Node) → 1 ≤ nodeKind t → nodeKind t < 6 → itemModel (itemOf t) .fields ≡ map fieldOf (itemFields t)
 unfolding nodeKind itemModel itemOf itemFields
@@ -215,5 +212,36 @@ module _ (s S : List ℕ) (x : Name) (left at : ℕ) (f : Found) (g : FieldsGoin
             as-field s f
             ∙ ap (Option·map fieldOf) last
             ∙ sym (rw (e .0, row-fields (g .loaded) (e .1)) (last-map fieldOf (λ y. y .name) nodeName x field-name (allFields (nodesAt s (entry S 0 5) 1))));
+        node = last;
         kind = g .kind;
       }
+
+-- ------------------------------------------------------------ the line and the name of a field
+
+last-same : {A : Type 0} (f : A → Name) (x : Name) (as' : List A) (a : A) → lastNamed f x as' ≡ some a → same x (f a) ≡ true
+unfolding lastNamed
+last-same f x [] a e = absurd (let z : _≡_ {A = ℕ} 0 1 = cc in omega arith)
+last-same {A} f x (b ∷ as') a e = go (lastNamed f x as') (same x (f b)) refl (last-same f x as' a) e
+  where
+    go : (o : Option A) (t : Bool) → same x (f b) ≡ t → (o ≡ some a → same x (f a) ≡ true)
+        → elim o as (λ _. Option A) [ some y ↦ some y | none ↦ elim t as (λ _. Option A) [ true ↦ some b | false ↦ none ] ] ≡ some a → same x (f a) ≡ true
+    go (some y) t q h z = h z
+    go none true q h z = let w : b ≡ a = cc in rw (← w) q
+    go none false q h z = absurd (let w : _≡_ {A = ℕ} 0 1 = cc in omega arith)
+
+module _ {s S : List ℕ} (d : Loaded s S) where
+  -- one name, one line
+  pub one-line : {x : Name} {i j : ℕ} → FieldNamed s S x (At i) → FieldNamed s S x (At j) → i ≡ j
+  unfolding foundNode
+  one-line {x} {i} {j} a b =
+      let t = stands d i (a .kind .0) in
+      let u = stands d j (b .kind .0) in
+      let e : some (nodeAt s i) ≡ some (nodeAt s j) = a .node ∙ sym (b .node) in
+      cc (e, t .here, u .here)
+
+  -- one line, one name
+  pub one-name : {x y : Name} {i : ℕ} → FieldNamed s S x (At i) → FieldNamed s S y (At i) → x ≡ y
+  unfolding foundNode
+  one-name {x} {y} {i} a b =
+      same-is x (nodeName (nodeAt s i)) (last-same nodeName x _ _ (sym (a .node)))
+      ∙ sym (same-is y (nodeName (nodeAt s i)) (last-same nodeName y _ _ (sym (b .node))))

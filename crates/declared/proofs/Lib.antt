@@ -2,5 +2,6 @@ pub mod Answers
 pub mod Codes
 pub mod Fields
 pub mod Finding
+pub mod Items
 pub mod Tables
 pub mod Types
