@@ -49,11 +49,11 @@ entryUses s e = usesOf (modelIn s) (namesAt s e) (keyedIn (entryExprs (entryAt s
 unfoldable pub itemUses : (s S : List ℕ) → ℕ → List Use
 itemUses s S i = cond (eqb (kindAt S i) 5) (entryUses s i) []
 
--- r is the Map or Registry of the name x
 abbrev pub isFound : Found → Bool
 isFound (At i) = true
 isFound Nothing = false
 
+-- r is the field of the name x where that is a Map or Registry
 pub record MapNamed (s S : List ℕ) (x : Name) (r : Found) : Type 0 where
   pub keyed : isKeyed (modelIn s) x ≡ isFound r
   pub field : (f : ℕ) → r ≡ At f → FieldNamed s S x (At f)
