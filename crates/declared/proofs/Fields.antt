@@ -16,6 +16,7 @@ use Rattle.sheet.specs.Load.{sorts}
 use Rattle.sheet.specs.Scratch.{kindAt, endAt, entry}
 use Rattle.sheet.specs.Tree.{Node, node, nil, more, takeNodes}
 use Rattle.sheet.proofs.Due.{length-times}
+use Rattle.text.proofs.Words.{same-is}
 use Rattle.rules.specs.Text.{Name, lastNamed}
 use Rattle.rules.specs.Ast.{Field, itemOf, fieldOf, contractOf, nodes}
 use Rattle.rules.specs.Model.{itemModel, joined, build, fieldNamed}
@@ -23,7 +24,7 @@ use Rattle.rules.specs.Verdict.{modelOf}
 use Rattle.rules.specs.Standing.{nodeName, treesFrom, without, nodeAt, nodesAt, fieldAt, modelIn, Loaded, Here, Row, stop, next}
 use Rattle.rules.proofs.Parts.{stop as end, _also_, pick, parts}
 use Rattle.rules.proofs.Standing.{Stands, stands, nodes-next, parts-behind, row-behind, row-first, row-rest}
-use Rattle.declared.specs.Found.{nodeKind, ofKind, foundNode, foundField, orElse, itemFields, modelAt, Stretch, Of, Last, ItemAt, Newest, FieldsNamed, FieldNamed}
+use Rattle.declared.specs.Found.{nodeKind, ofKind, foundNode, foundField, orElse, itemFields, allFields, modelAt, Stretch, Of, Last, ItemAt, Newest, FieldsNamed, FieldNamed}
 use Rattle.declared.specs.Lines.{RecordsAt}
 use Rattle.declared.specs.declared.model.Found.{Found}
 use Rattle.declared.specs.declared.model.Found.the-variants.{At, Nothing}
@@ -54,10 +55,6 @@ last-map {A} {B} g f h x e (a ∷ as') = go (lastNamed h x as') (same x (h a)) _
     go none false l' b' p q = rw (p, q) refl
 
 -- ------------------------------------------------------------ the fields of a model
-
-abbrev allFields : List Node → List Node
-allFields [] = []
-allFields (t ∷ ts) = itemFields t ++ allFields ts
 
 item-fields : (t : Node) → 1 ≤ nodeKind t → nodeKind t < 6 → itemModel (itemOf t) .fields ≡ map fieldOf (itemFields t)
 unfolding nodeKind itemModel itemOf itemFields
@@ -232,6 +229,7 @@ module _ (s S : List ℕ) (x : Name) (m i left at : ℕ) (f : Found) (g : Fields
             as-field s f
             ∙ ap (Option·map fieldOf) last
             ∙ sym (rw (row-fields d (g .items .row)) (last-map fieldOf (λ y. y .name) nodeName x field-name (allFields (nodesAt s m i))));
+        node = last;
         kind = g .kind;
       }
 
@@ -242,4 +240,34 @@ all-items s S m d e = rw e (record { loaded = d; row = items-at d .1 })
 
 pub all-fields : (s S : List ℕ) (x : Name) (m : ℕ) (r : Found) → Loaded s S → m ≡ entry S 0 5 → FieldsNamed s S x m 1 r → FieldNamed s S x r
 unfolding modelAt
-all-fields s S x m r d e f = record { found = rw (items-at d .0, ← e) (f .found); kind = f .kind }
+all-fields s S x m r d e f = record { found = rw (items-at d .0, ← e) (f .found); node = rw (← e) (f .node); kind = f .kind }
+
+-- ------------------------------------------------------------ the line and the name of a field
+
+last-same : {A : Type 0} (f : A → Name) (x : Name) (as' : List A) (a : A) → lastNamed f x as' ≡ some a → same x (f a) ≡ true
+unfolding lastNamed
+last-same f x [] a e = absurd (let z : _≡_ {A = ℕ} 0 1 = cc in omega arith)
+last-same {A} f x (b ∷ as') a e = go (lastNamed f x as') (same x (f b)) refl (last-same f x as' a) e
+  where
+    go : (o : Option A) (t : Bool) → same x (f b) ≡ t → (o ≡ some a → same x (f a) ≡ true)
+        → elim o as (λ _. Option A) [ some y ↦ some y | none ↦ elim t as (λ _. Option A) [ true ↦ some b | false ↦ none ] ] ≡ some a → same x (f a) ≡ true
+    go (some y) t q h z = h z
+    go none true q h z = let w : b ≡ a = cc in rw (← w) q
+    go none false q h z = absurd (let w : _≡_ {A = ℕ} 0 1 = cc in omega arith)
+
+module _ {s S : List ℕ} (d : Loaded s S) where
+  -- one name, one line
+  pub one-line : {x : Name} {i j : ℕ} → FieldNamed s S x (At i) → FieldNamed s S x (At j) → i ≡ j
+  unfolding foundNode
+  one-line {x} {i} {j} a b =
+      let t = stands d i (a .kind .0) in
+      let u = stands d j (b .kind .0) in
+      let e : some (nodeAt s i) ≡ some (nodeAt s j) = a .node ∙ sym (b .node) in
+      cc (e, t .here, u .here)
+
+  -- one line, one name
+  pub one-name : {x y : Name} {i : ℕ} → FieldNamed s S x (At i) → FieldNamed s S y (At i) → x ≡ y
+  unfolding foundNode
+  one-name {x} {y} {i} a b =
+      same-is x (nodeName (nodeAt s i)) (last-same nodeName x _ _ (sym (a .node)))
+      ∙ sym (same-is y (nodeName (nodeAt s i)) (last-same nodeName y _ _ (sym (b .node))))

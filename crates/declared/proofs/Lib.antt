@@ -3,5 +3,6 @@ pub mod Behind
 pub mod Codes
 pub mod Fields
 pub mod Finding
+pub mod Items
 pub mod Tables
 pub mod Types

@@ -1,13 +1,16 @@
 -- Tests and tables of words. Assumes nothing.
-use mathlib.Core.Path.{_≡_, refl}
+use mathlib.Core.Path.{_≡_, refl, sym, _∙_}
 use mathlib.Core.List.{List, [], _∷_, _++_, map}
 use mathlib.Core.Bool.{Bool, true, false, cond, _||_}
 use Prim.Native.Nat.{ℕ, suc, _+_, _≤_}
 use Prim.Native.String.{String}
 use native.Mathlib.Omega.{arith}
+use lib.Dec.{ltb, leb·suc-suc}
 use lib.ListN.{length, getD}
+use borrow.Author.Tests.{lt-ltb}
 use Rattle.text.specs.Text.{bytes, same}
 use Rattle.text.specs.Word.{place}
+use Rattle.sheet.specs.Grammar.{words}
 use Rattle.rules.specs.Text.{Name, is, isOne, pick}
 
 pub or-false : (a : Bool) → (a || false) ≡ a
@@ -54,3 +57,16 @@ one-of {A} x (w ∷ ws) a es d = go (is x w) (one-of x ws a es d)
         (elim b [ true ↦ a | false ↦ pick x (map (λ v. (v, a)) ws ++ es) d ])
     go true h = refl
     go false h = h
+
+-- a name is one of some words where its place is before their end
+pub one-place : (x : Name) (ws : List String) → isOne x ws ≡ ltb (place x (words ws)) (length ws)
+unfolding isOne place is
+one-place x [] = refl
+one-place x (w ∷ ws) = go (same x (bytes w)) (one-place x ws)
+  where
+    go : (b : Bool) → isOne x ws ≡ ltb (place x (words ws)) (length ws)
+        → elim b as (λ _. Bool) [ true ↦ true | false ↦ isOne x ws ] ≡ ltb (cond b 0 (1 + place x (words ws))) (suc (length ws))
+    go true h = sym (lt-ltb 0 (suc (length ws)) (omega arith))
+    go false h =
+        let p = place x (words ws) in
+        h ∙ sym (rw (let q : 1 + p ≡ suc p = omega arith in q) (leb·suc-suc (suc p) (length ws)))

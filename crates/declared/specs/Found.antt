@@ -1,14 +1,14 @@
 -- What a search by name finds among loaded lines.
 use Prim.Native.Nat.{ℕ, _/_, _<_}
 use mathlib.Core.Bool.{true, false, cond}
-use mathlib.Core.List.{List, [], _∷_, map}
+use mathlib.Core.List.{List, [], _∷_, _++_, map}
 use mathlib.Core.Option.{Option, none, some}
 use mathlib.Core.Path.{_≡_}
 use lib.Dec.{eqb}
 use lib.ListN.{length}
 use Rattle.sheet.specs.Grammar.{Sort}
 use Rattle.sheet.specs.Grammar as grammar
-use Rattle.sheet.specs.Scratch.{kindAt, nameAt}
+use Rattle.sheet.specs.Scratch.{kindAt, nameAt, entry}
 use Rattle.sheet.specs.Tree.{Node, node}
 use Rattle.text.specs.Text.{same}
 use Rattle.rules.specs.Text.{Name, lastNamed}
@@ -71,6 +71,11 @@ pub record Newest (s S : List ℕ) (x : Name) (i : ℕ) (f r : Found) : Type 0 w
   pub found : foundNode s r ≡ orElse (lastNamed nodeName x (itemFields (nodeAt s i))) (foundNode s f)
   pub kind : Of S 6 f → Of S 6 r
 
+-- the fields that items declare
+abbrev pub allFields : List Node → List Node
+allFields [] = []
+allFields (t ∷ ts) = itemFields t ++ allFields ts
+
 -- the model of m items, the first at line i
 unfoldable pub modelAt : List ℕ → ℕ → ℕ → Model
 modelAt s m i = build (map itemOf (nodesAt s m i))
@@ -78,9 +83,11 @@ modelAt s m i = build (map itemOf (nodesAt s m i))
 -- r is the last field of the name x that m items from line i on declare
 pub record FieldsNamed (s S : List ℕ) (x : Name) (m i : ℕ) (r : Found) : Type 0 where
   pub found : foundField s r ≡ fieldNamed (modelAt s m i) x
+  pub node : foundNode s r ≡ lastNamed nodeName x (allFields (nodesAt s m i))
   pub kind : Of S 6 r
 
--- r is the last state field of the name x
+-- r is the last state field of the name x, and its line is that of the record
 pub record FieldNamed (s S : List ℕ) (x : Name) (r : Found) : Type 0 where
   pub found : foundField s r ≡ fieldNamed (modelIn s) x
+  pub node : foundNode s r ≡ lastNamed nodeName x (allFields (nodesAt s (entry S 0 5) 1))
   pub kind : Of S 6 r

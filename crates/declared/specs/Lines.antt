@@ -1,11 +1,16 @@
 -- What the code asks of the lines that it is given.
-use Prim.Native.Nat.{ℕ, _/_, _<_}
+use Prim.Native.Nat.{ℕ, _/_, _<_, _≤_}
 use mathlib.Core.List.{List}
 use mathlib.Core.Path.{_≡_}
 use lib.ListN.{length}
 use Rattle.sheet.specs.Grammar as grammar
 use Rattle.sheet.specs.Scratch.{kindAt}
 use Rattle.rules.specs.Standing.{Loaded, Here, Row}
+
+-- a loaded sheet has at most 1024 lines
+pub record FewLines (s S : List ℕ) : Type 0 where
+  pub loaded : Loaded s S
+  pub few : length S / 8 ≤ 1024
 
 -- a `type` record stands at line i
 pub record Typed (s S : List ℕ) (i : ℕ) : Type 0 where

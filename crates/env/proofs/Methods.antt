@@ -8,8 +8,8 @@ use Prim.Native.String.{String}
 use Prim.Native.Nat.{ℕ, suc, _+_, _<_, _≤_}
 use native.Mathlib.Numerals.{add-one}
 use native.Mathlib.Omega.{arith}
-use lib.Dec.{eqb, ltb, leb·suc-suc}
-use lib.ListN.{length, getD}
+use lib.Dec.{eqb, ltb}
+use lib.ListN.{getD}
 use borrow.Author.Tests.{eq-eqb, ne-eqb, lt-ltb, le-ltb, not-true, not-false}
 use Rattle.text.specs.Text.{bytes, same, ended}
 use Rattle.text.specs.Word.{place, split}
@@ -36,27 +36,12 @@ use Rattle.declared.specs.declared.model.Found.the-variants.{At, Nothing}
 use Rattle.declared.specs.declared.refusal.Refusal.the-variants.{Receiver, KeyedOp}
 use Rattle.declared.specs.declared.refusal.Done.the-variants.{Fine, Refused}
 use Rattle.declared.proofs.Answers.{gives, fits, misfits}
-use Rattle.declared.proofs.Tables.{or-false, wordsIn, valuesIn, place-most, pick-place}
+use Rattle.declared.proofs.Tables.{or-false, one-place, wordsIn, valuesIn, place-most, pick-place}
 use Rattle.declared.proofs.Types.{type-name}
 use Rattle.env.specs.Calls.{dotCodes, methodCodes, wantsOf, keyedOf, KeyedOf, Callee, JudgesOp, TypesCall, getTy, methodTy}
 use Rattle.env.specs.Force.{envOf, ExprIn, KeyedFound}
 use Rattle.env.specs.declared.env.Env.{Env}
 use Rattle.env.proofs.Lookups.{behind, either-word}
-
--- ------------------------------------------------------------ words
-
--- a name is one of some words where its place is before their end
-one-place : (x : Name) (ws : List String) → isOne x ws ≡ ltb (place x (words ws)) (length ws)
-unfolding isOne place is
-one-place x [] = refl
-one-place x (w ∷ ws) = go (same x (bytes w)) (one-place x ws)
-  where
-    go : (b : Bool) → isOne x ws ≡ ltb (place x (words ws)) (length ws)
-        → elim b as (λ _. Bool) [ true ↦ true | false ↦ isOne x ws ] ≡ ltb (cond b 0 (1 + place x (words ws))) (suc (length ws))
-    go true h = sym (lt-ltb 0 (suc (length ws)) (omega arith))
-    go false h =
-        let p = place x (words ws) in
-        h ∙ sym (rw (let q : 1 + p ≡ suc p = omega arith in q) (leb·suc-suc (suc p) (length ws)))
 
 -- ------------------------------------------------------------ dots
 

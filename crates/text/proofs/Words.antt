@@ -1,14 +1,14 @@
 -- Laws of the test `same` and of a table of words. Assumes nothing.
 use mathlib.Core.Path.{_≡_, refl, sym, ap, _∙_}
 use mathlib.Core.List.{List, [], _∷_}
-use mathlib.Core.Bool.{Bool, true, false, cond}
+use mathlib.Core.Bool.{Bool, true, false, cond, true≢false}
 use Prim.Native.Nat.{ℕ, suc, _+_, _-_, _≤_, _<_}
 use native.Mathlib.Nat.{add-zero}
 use native.Mathlib.Numerals.{add-one}
 use native.Mathlib.Omega.{arith}
 use lib.ListN.{length, getD, take, drop, drop-of-length-le, length-drop}
 use lib.Seq.{drop-cons}
-use borrow.Author.Tests.{eq-eqb, ne-eqb}
+use borrow.Author.Tests.{eq-eqb, ne-eqb, eqb-true}
 use lib.Dec.{eqb}
 use Rattle.text.specs.Text.{same, either, upto, ended}
 use Rattle.text.specs.Word.{split, place}
@@ -25,6 +25,23 @@ same-length (x ∷ xs) (y ∷ ys) h = rw (same-length xs ys (λ e. h (ap suc e))
     both : (t : Bool) → cond t false false ≡ false
     both true = refl
     both false = refl
+
+-- texts that are the same are one text
+pub same-self : (a : List ℕ) → same a a ≡ true
+unfolding same
+same-self [] = refl
+same-self (x ∷ xs) = rw (eq-eqb x x refl) (same-self xs)
+
+pub same-is : (a b : List ℕ) → same a b ≡ true → a ≡ b
+unfolding same
+same-is [] [] e = refl
+same-is [] (y ∷ ys) e = absurd (true≢false (sym e))
+same-is (x ∷ xs) [] e = absurd (true≢false (sym e))
+same-is (x ∷ xs) (y ∷ ys) e = go (eqb x y) refl e (same-is xs ys)
+  where
+    go : (t : Bool) → eqb x y ≡ t → cond t (same xs ys) false ≡ true → (same xs ys ≡ true → xs ≡ ys) → x ∷ xs ≡ y ∷ ys
+    go true q f h = rw (eqb-true x y q) (ap (λ zs. y ∷ zs) (h f))
+    go false q f h = absurd (true≢false (sym f))
 
 -- A turn of the comparison: r is the answer, and i the place of the turn.
 module _ (a b : List ℕ) (i : ℕ) (r : Bool) (e : r ≡ same (drop i a) (drop i b)) where

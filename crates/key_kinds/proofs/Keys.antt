@@ -1,0 +1,138 @@
+-- Keyed calls, maps and keys, as the code tells them. Assumes nothing.
+use mathlib.Core.Logic.{_≢_}
+use mathlib.Core.Path.{_≡_, refl, sym, ap, _∙_}
+use mathlib.Core.List.{List, [], _∷_}
+use mathlib.Core.Bool.{Bool, true, false, not, _&&_}
+use Prim.Native.Nat.{ℕ, suc, _+_, _-_, _/_, _<_, _≤_}
+use native.Mathlib.Numerals.{add-one}
+use native.Mathlib.Omega.{arith}
+use lib.Dec.{eqb, ltb}
+use lib.ListN.{length}
+use borrow.Author.Tests.{eq-eqb, ne-eqb, lt-ltb, le-ltb}
+use mir.Val.{Fits}
+use mir.Syntax.{w64}
+use Rattle.text.specs.Text.{bytes, same, ended}
+use Rattle.text.specs.Word.{place, split}
+use Rattle.sheet.specs.Grammar as grammar
+use Rattle.sheet.specs.Scratch.{entry, kindAt, endAt, nameAt}
+use Rattle.rules.specs.Text.{Name, is, among}
+use Rattle.rules.specs.Ast.{Param, typeName}
+use Rattle.rules.specs.KeyKinds.{isKeyed, isNameKey, nameParams}
+use Rattle.rules.specs.Standing.{exprAt, fieldAt, paramAt, paramsAt, modelIn, Loaded, Row}
+use Rattle.rules.proofs.Exprs.{ident-at}
+use Rattle.rules.proofs.Records.{entry-at, field-at, param-at, params-next, no-params}
+use Rattle.rules.proofs.Standing.{row-first, row-rest}
+use Rattle.declared.specs.Found.{foundField, FieldNamed}
+use Rattle.declared.specs.Lines.{EntryAt, ExprAt}
+use Rattle.declared.specs.declared.model.Found.{Found}
+use Rattle.declared.specs.declared.model.Found.the-variants.{At, Nothing}
+use Rattle.declared.proofs.Tables.{one-place}
+use Rattle.declared.proofs.Types.{type-name}
+use Rattle.key_kinds.specs.Uses.{keyedAt, namesAt, MapNamed}
+
+-- ------------------------------------------------------------ keyed calls
+
+pub is-keyed : (s S : List ℕ) (i k m k1 k2 p : ℕ) (x : Name) → x ≡ nameAt s S (i + 1) → p ≡ place x (split (bytes "set get contains insert remove credit debit ")) → k ≡ kindAt S i
+    → m ≡ entry S i 6 → k1 ≡ kindAt S (i + 1) → k2 ≡ kindAt S (i + 2) → (((eqb k 31 && not (eqb m 0)) && (eqb k1 30 && eqb k2 21)) && ltb p 7) ≡ keyedAt s S i
+unfolding keyedAt split ended
+is-keyed s S i k m k1 k2 p x ex ep ek em e1 e2 =
+    let two : suc (suc i) ≡ i + 2 = omega arith in
+    rw (two, ← add-one i, ← e2, ← e1, ← em, ← ek, ← ex, ep) (ap (λ t. ((eqb k 31 && not (eqb m 0)) && (eqb k1 30 && eqb k2 21)) && t) (sym (one-place x ("set" ∷ "get" ∷ "contains" ∷ "insert" ∷ "remove" ∷ "credit" ∷ "debit" ∷ []))))
+
+-- ------------------------------------------------------------ maps
+
+module _ (s S : List ℕ) (x : Name) (d : Loaded s S) (r : Found) (n : FieldNamed s S x r) where
+  pub no-field : r ≡ Nothing → MapNamed s S x Nothing
+  unfolding isKeyed foundField
+  no-field e =
+      record { keyed = rw (isKeyed, ← n .found, e) refl; field = λ f q. absurd (let z : _≡_ {A = ℕ} 0 1 = cc in omega arith) }
+
+  module _ (f : ℕ) (e : r ≡ At f) where
+    at : FieldNamed s S x (At f)
+    at = rw e at n
+
+    pub behind-fits : length S < 18446744073709551616 → Fits w64 (f + 1)
+    behind-fits h = omega (arith, at .kind .0)
+
+    module _ (y : Name) (p : ℕ) (ey : y ≡ nameAt s S (f + 1)) (ep : p ≡ place y (split (bytes "Map Registry "))) where
+      keyed : isKeyed (modelIn s) x ≡ ltb p 2
+      unfolding isKeyed foundField split ended
+      keyed =
+          let g = field-at d (at .kind .0) (at .kind .1) in
+          let q : typeName (fieldAt s f .ty) ≡ y = rw (g .0) (sym (ey ∙ ap (nameAt s S) (add-one f) ∙ type-name s S (suc f) (record { loaded = d; here = g .1 }))) in
+          rw (isKeyed, ← at .found, q, ep) (one-place y ("Map" ∷ "Registry" ∷ []))
+
+      pub is-map : p < 2 → MapNamed s S x (At f)
+      is-map h = record { keyed = keyed ∙ lt-ltb p 2 h; field = λ g q. rw (← q) at }
+
+      pub no-map : 2 ≤ p → MapNamed s S x Nothing
+      no-map h = record { keyed = keyed ∙ le-ltb p 2 h; field = λ g q. absurd (let z : _≡_ {A = ℕ} 0 1 = cc in omega arith) }
+
+-- ------------------------------------------------------------ keys
+
+pub name-param : (s S : List ℕ) (x y z : Name) (i : ℕ) (b c : Bool) → y ≡ nameAt s S (i + 1) → b ≡ same y (bytes "Q_Name") → z ≡ nameAt s S i → c ≡ same x z
+    → (b && c) ≡ (is (nameAt s S (suc i)) "Q_Name" && same x (nameAt s S i))
+unfolding is
+name-param s S x y z i b c ey eb ez ec = rw (eb, ec, ey, ez, add-one i) refl
+
+-- What `is_name_key` meets: a key of the kind k.
+module _ (s S : List ℕ) (e key k : ℕ) (h : EntryAt s S e) (g : ExprAt s S key) (ek : k ≡ kindAt S key) where
+  pub no-name : k ≢ 21 → false ≡ isNameKey (namesAt s e) (exprAt s key)
+  unfolding isNameKey
+  no-name q = rw (isNameKey, ident-at (g .loaded) (g .here), ← ek, ne-eqb k 21 q) refl
+
+  its-name : k ≡ 21 → isNameKey (namesAt s e) (exprAt s key) ≡ among (nameAt s S key) (namesAt s e)
+  unfolding isNameKey
+  its-name q = rw (isNameKey, ident-at (g .loaded) (g .here), ← ek, eq-eqb k 21 q) refl
+
+-- the parameters from line at on are left
+pub record Looking (s S : List ℕ) (e key : ℕ) (x : Name) (at left : ℕ) : Type 0 where
+  pub loaded : Loaded s S
+  pub row : Row S grammar.Param left at
+  pub rest : isNameKey (namesAt s e) (exprAt s key) ≡ among x (nameParams (paramsAt s left at))
+
+pub look-start : (s S : List ℕ) (e key k at left : ℕ) (x : Name) → EntryAt s S e → ExprAt s S key → k ≡ kindAt S key → k ≡ 21 → x ≡ nameAt s S key → at ≡ e + 1 → left ≡ entry S e 5
+    → Looking s S e key x at left
+unfolding namesAt
+look-start s S e key k at left x h g ek q ex ea el =
+    let p = entry-at (h .loaded) (h .within) (h .kind) in
+    rw (ea, el, add-one e)
+    (record { loaded = h .loaded; row = p .params; rest = its-name s S e key k h g ek q ∙ rw (p .is, ← ex) refl })
+
+among-param : (x : Name) (p : Param) (ps : List Param) (b : Bool) → b ≡ (is (typeName (p .ty)) "Q_Name" && same x (p .name))
+    → among x (nameParams (p ∷ ps)) ≡ elim b as (λ _. Bool) [ true ↦ true | false ↦ among x (nameParams ps) ]
+unfolding among nameParams
+among-param x p ps b e = rw e (go (is (typeName (p .ty)) "Q_Name") (same x (p .name)) refl)
+  where
+    go : (t u : Bool) → same x (p .name) ≡ u
+        → among x (elim t as (λ _. List Name) [ true ↦ p .name ∷ nameParams ps | false ↦ nameParams ps ]) ≡ elim (t && u) as (λ _. Bool) [ true ↦ true | false ↦ among x (nameParams ps) ]
+    go true u q = rw (among, q) refl
+    go false u q = refl
+
+module _ (s S : List ℕ) (e key : ℕ) (x : Name) (at left : ℕ) (l : Looking s S e key x at left) where
+  pub look-over : left ≤ 0 → false ≡ isNameKey (namesAt s e) (exprAt s key)
+  unfolding among nameParams
+  look-over h = sym (l .rest ∙ rw (let q : left ≡ 0 = omega arith in q, no-params s at) refl)
+
+  module _ (h : 0 < left) where
+    row : Row S grammar.Param (suc (left - 1)) at
+    row = rw (let q : suc (left - 1) ≡ left = omega arith in q) (l .row)
+
+    pub look-here : at < length S / 8
+    look-here = row-first row .within
+
+    module _ (b : Bool) (eb : b ≡ (is (nameAt s S (suc at)) "Q_Name" && same x (nameAt s S at))) where
+      turn : isNameKey (namesAt s e) (exprAt s key) ≡ elim b as (λ _. Bool) [ true ↦ true | false ↦ among x (nameParams (paramsAt s (left - 1) (endAt S at))) ]
+      turn =
+          let w = row-first row in
+          let p = param-at (l .loaded) (w .within) (omega (arith, w .kind .0, w .kind .1)) in
+          let t = type-name s S (suc at) (record { loaded = l .loaded; here = p .1 }) in
+          l .rest
+          ∙ ap (λ ps. among x (nameParams ps)) (ap (λ k. paramsAt s k at) (let q : left ≡ suc (left - 1) = omega arith in q) ∙ params-next (l .loaded) (left - 1) (w .within))
+          ∙ among-param x (paramAt s at) (paramsAt s (left - 1) (endAt S at)) b (eb ∙ rw (p .0, ← t) refl)
+
+      pub look-found : b ≡ true → true ≡ isNameKey (namesAt s e) (exprAt s key)
+      look-found q = sym (turn ∙ rw q refl)
+
+      pub look-next : (at' : ℕ) → b ≡ false → at' ≡ endAt S at → Looking s S e key x at' (left - 1)
+      look-next at' q ea = rw ea (record { loaded = l .loaded; row = row-rest row; rest = turn ∙ rw q refl })
