@@ -16,3 +16,4 @@ pub mod Binding
 pub mod Exprs
 pub mod Forest
 pub mod Records
+pub mod Places

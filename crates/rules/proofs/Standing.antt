@@ -17,7 +17,7 @@ use Rattle.sheet.specs.declared.loader.Answer.{Answer}
 use Rattle.sheet.specs.declared.loader.Answer.the-variants.{Lines}
 use Rattle.sheet.proofs.Holds.{all-le}
 use Rattle.sheet.proofs.Loaded.{whole, loaded, left-size, left-few, answer-lines}
-use Rattle.rules.specs.Ast.{more as moreExprs, nodes, exprsOf}
+use Rattle.rules.specs.Ast.{more as moreExprs, blankNode, nodes, exprsOf}
 use Rattle.rules.specs.Standing.{readLines, linesIn, before, without, treesFrom, nodeAt, nodesAt, exprAt, exprsAt, Loaded, LoadedIn, Here, Row, stop, next}
 
 -- the trees from line i on: what their records are, where they stand and what they say
@@ -90,6 +90,10 @@ mutual
             (without-add (endAt S i - i) (j - endAt S i) _ ∙ rw (p .1) (q .1)),
       )
 
+no-trees : {S : List ℕ} {n i : ℕ} {ns : Nodes} → n ≤ i → HeldAll S n i n ns → ns ≡ nil
+no-trees h no-tree = refl
+no-trees h (tree (held b y r) rs) = absurd (omega arith)
+
 -- ------------------------------------------------------------ a sheet that is loaded
 
 -- what is known of line i
@@ -149,6 +153,13 @@ module _ {s S : List ℕ} (d : Loaded s S) where
 
   pub stands : (i : ℕ) → i < n → Stands s S i
   stands i h = let t = from-line i (omega arith) in first-of i (treesFrom s i) refl h (t .formed) (t .held) (t .spells)
+
+  -- behind the last line stands nothing
+  pub beyond : (i : ℕ) → n ≤ i → nodeAt s i ≡ blankNode
+  unfolding nodeAt
+  beyond i h =
+      let none : treesFrom s n ≡ nil = no-trees (omega arith) (from-line n (omega arith) .held) in
+      rw (taken n i h, none, without-none (i - n)) refl
 
   -- one record, and those behind it
   pub nodes-next : (k i : ℕ) → i < n → nodesAt s (suc k) i ≡ nodeAt s i ∷ nodesAt s k (endAt S i)

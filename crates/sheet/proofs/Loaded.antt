@@ -48,6 +48,7 @@ module _ (σ : Sort) (s y q : List ℕ) (at : ℕ) (x : Line) (d : drop at s ≡
         name = rw (h .start, h .len) (stands-within s y q at (x .start) (x .name) d (r .named));
         span = λ rs e. rw (h .at, r .at, piece-within s y q at at (fieldAt y 0) d (r .word), lt-ltb _ _ ends) (number _ _ (r .spanned rs e));
         nspan = λ e. rw (h .start, h .len) (number _ _ (r .nspanned e));
+        bare = r .bare;
       }
 
   line-read : at + length y ≤ 65535 → Sayable s x

@@ -20,7 +20,7 @@ use Rattle.text.proofs.Fields.{number-most}
 use Rattle.text.proofs.Pieces.{upto-front, piece-first}
 use Rattle.sheet.specs.Field.{fieldAt}
 use Rattle.sheet.specs.Grammar.{Sort, Rule, span, name, text, assignOp, unOp, binOp, count, flag, assignOps, unOps, binOps, none, rowOf, kindFor}
-use Rattle.sheet.specs.Held.{Flagged, Parted}
+use Rattle.sheet.specs.Held.{spanless, Flagged, Parted}
 use Rattle.sheet.specs.Line.{Line, begun, when, onNumber, readField, andThen, readFields, good, bad, orTen, readAs, readPieces}
 use Rattle.sheet.specs.Say.{pieceAt}
 use Rattle.sheet.specs.Scratch.{Small}
@@ -129,6 +129,20 @@ spans-kept (unOp ∷ rs) a (f ∷ fs) l m v vs e p = on-test _ _ _ m _ e (λ q w
 spans-kept (binOp ∷ rs) a (f ∷ fs) l m v vs e p = on-test _ _ _ m _ e (λ q w. spans-kept rs _ fs _ m v vs w p)
 spans-kept (count s ∷ rs) a (f ∷ fs) l m v vs e p = on-number _ _ _ m _ e (λ u q w. spans-kept rs _ fs _ m v vs w p)
 spans-kept (flag s ∷ rs) a (f ∷ fs) l m v vs e p = on-number _ _ _ m _ e (λ u q w. spans-kept rs _ fs _ m v vs w p)
+
+-- fields that are no SPAN leave the spans as they were
+no-spans : (rs : List Rule) (a : ℕ) (fs : List (List ℕ)) (l m : Line) → spanless rs ≡ true → readFields rs a fs l ≡ some m → m .spans ≡ l .spans
+unfolding readFields readField
+no-spans [] a fs l m n e = let q : l ≡ m = cc in rw q
+no-spans (r ∷ rs) a [] l m n e = absurd (let z : _≡_ {A = ℕ} 0 1 = cc in omega arith)
+no-spans (span ∷ rs) a (f ∷ fs) l m n e = absurd (let z : _≡_ {A = ℕ} 0 1 = cc in omega arith)
+no-spans (name ∷ rs) a (f ∷ fs) l m n e = on-test _ _ _ m _ e (λ q w. no-spans rs _ fs _ m n w)
+no-spans (text ∷ rs) a (f ∷ fs) l m n e = on-test _ _ _ m _ e (λ q w. no-spans rs _ fs _ m n w)
+no-spans (assignOp ∷ rs) a (f ∷ fs) l m n e = on-test _ _ _ m _ e (λ q w. no-spans rs _ fs _ m n w)
+no-spans (unOp ∷ rs) a (f ∷ fs) l m n e = on-test _ _ _ m _ e (λ q w. no-spans rs _ fs _ m n w)
+no-spans (binOp ∷ rs) a (f ∷ fs) l m n e = on-test _ _ _ m _ e (λ q w. no-spans rs _ fs _ m n w)
+no-spans (count s ∷ rs) a (f ∷ fs) l m n e = on-number _ _ _ m _ e (λ u q w. no-spans rs _ fs _ m n w)
+no-spans (flag s ∷ rs) a (f ∷ fs) l m n e = on-number _ _ _ m _ e (λ u q w. no-spans rs _ fs _ m n w)
 
 -- fields add parts behind those that are there
 parts-kept : (rs : List Rule) (a : ℕ) (fs : List (List ℕ)) (l m : Line) → readFields rs a fs l ≡ some m → (gs : List (ℕ × Sort)) × (m .parts ≡ l .parts ++ gs) × Flagged rs gs
@@ -247,6 +261,7 @@ pub record ReadAs (s : Sort) (a : ℕ) (y : List ℕ) (l : Line) : Type 0 where
   pub named : Stands a y (l .start) (l .name)
   pub spanned : (rs : List Rule) → rowOf (l .kind) .rules ≡ span ∷ rs → SpanAt a y (a + length (fieldAt y 0) + 1) (getD (l .spans) 0 0)
   pub nspanned : rowOf (l .kind) .rules ≡ span ∷ name ∷ span ∷ [] → SpanAt a y (l .start + length (l .name) + 1) (getD (l .spans) 1 0)
+  pub bare : spanless (rowOf (l .kind) .rules) ≡ true → getD (l .spans) 0 0 ≡ 0
   pub parted : Parted l
   pub groups : length (l .parts) ≤ 3
   pub counted : Counted (l .parts)
@@ -275,6 +290,7 @@ module _ (s : Sort) (a : ℕ) (y : List ℕ) (l : Line) where
         named = i .2;
         spanned = λ rs q. rw (← w-at) (span-first a y rs _ fs k l (t .1) (rw (rw (i .0 .0) at q) at (r .1)));
         nspanned = λ q. span-second a y _ fs k l (t .1) (rw (rw (i .0 .0) at q) at (r .1));
+        bare = λ q. rw (no-spans (rowOf k .rules) _ fs (begun k a) l (rw (i .0 .0) at q) (r .1)) refl;
         parted = rw (i .0 .0) (record { sorts = sorts; always = parts-kept (rowOf k .rules) _ fs (begun k a) l (r .1) });
         groups = omega (arith, sorts-length (l .parts), simp length-append at (ap length sorts), sorts-length (rowOf k .always), few-parts k known);
         counted = i .3 .1;

@@ -1,6 +1,7 @@
 -- What the loaded lines hold: each line its record, and all of them the sheet's tree.
 use Prim.Native.Nat.{ℕ, zero, suc, _+_, _<_, _≤_}
 use mathlib.Core.List.{List, [], _∷_, _++_}
+use mathlib.Core.Bool.{Bool, true, false}
 use mathlib.Core.Path.{_≡_}
 use lib.ListN.{length, getD}
 use Rattle.sheet.specs.Grammar as grammar
@@ -58,11 +59,24 @@ mutual
     no-more : EveryOf P nil
     and-more : {t : Node} {ns : Nodes} → Every P t → EveryOf P ns → EveryOf P (more t ns)
 
+-- no field is a SPAN
+abbrev pub spanless : List grammar.Rule → Bool
+spanless [] = true
+spanless (grammar.span ∷ rs) = false
+spanless (grammar.name ∷ rs) = spanless rs
+spanless (grammar.text ∷ rs) = spanless rs
+spanless (grammar.assignOp ∷ rs) = spanless rs
+spanless (grammar.unOp ∷ rs) = spanless rs
+spanless (grammar.binOp ∷ rs) = spanless rs
+spanless (grammar.count s ∷ rs) = spanless rs
+spanless (grammar.flag s ∷ rs) = spanless rs
+
 -- what line i says in the sheet s itself: its name, its span where it has one, and a dot's second span
 pub record Spells (s S : List ℕ) (i : ℕ) (l : line.Line) : Type 0 where
   pub name : nameAt s S i ≡ l .name
   pub span : (rs : List grammar.Rule) → grammar.rowOf (l .kind) .rules ≡ grammar.span ∷ rs → spanAt s S i ≡ getD (l .spans) 0 0
   pub nspan : grammar.rowOf (l .kind) .rules ≡ grammar.span ∷ grammar.name ∷ grammar.span ∷ [] → nspanAt s S i ≡ getD (l .spans) 1 0
+  pub bare : spanless (grammar.rowOf (l .kind) .rules) ≡ true → getD (l .spans) 0 0 ≡ 0
 
 -- a kind of the records that may stand where a sort is due
 abbrev pub Among : grammar.Sort → ℕ → Type 0

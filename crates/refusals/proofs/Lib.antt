@@ -1,0 +1,3 @@
+mod Tags
+mod Spans
+mod Counting

@@ -1,0 +1,44 @@
+use borrow.Author.Needs.{needs}
+use Rattle.refusals.proofs.Tags.{number-told, not-from-30}
+use Rattle.refusals.proofs.number.number_from_30.Statement.{statement}
+use Rattle.refusals.proofs.number.number_from_30.Tie as tie
+
+pub number-from-30-spec : {M : Type 1} → statement M
+number-from-30-spec =
+    tie.close
+    (tie.spec
+    (λ c. search needs)
+    (λ c. search needs)
+    (λ c. search needs)
+    (λ c. search needs)
+    (λ c. search needs)
+    (λ c. search needs)
+    (λ c. search needs)
+    (λ c. search needs)
+    (λ c. search needs)
+    (λ c. search needs)
+    (λ c. search needs)
+    (λ c. search needs)
+    (λ c. search needs)
+    (λ c. search needs)
+    (λ c. search needs)
+    (λ c. search needs)
+    (λ c. search needs)
+    (λ c. search (needs, number-told))
+    (λ c. search (needs, number-told))
+    (λ c. search (needs, number-told))
+    (λ c. search (needs, number-told))
+    (λ c. search (needs, number-told))
+    (λ c. search (needs, number-told))
+    (λ c. search (needs, number-told))
+    (λ c. search (needs, number-told))
+    (λ c. search (needs, number-told))
+    (λ c. search (needs, number-told))
+    (λ c. search (needs, number-told))
+    (λ c. search (needs, number-told))
+    (λ c. search (needs, number-told))
+    (λ c. search (needs, number-told))
+    (λ c. search (needs, number-told))
+    (λ c. search (needs, number-told))
+    (λ c. search (needs, number-told))
+    (λ c. not-from-30 _ (c .before .pre) (c .match .keys18)))

@@ -1,0 +1,51 @@
+use borrow.Author.Needs.{needs}
+use Rattle.refusals.proofs.Tags.{number-told, from-30}
+use Rattle.refusals.proofs.number.number_of.Statement.{statement}
+use Rattle.refusals.proofs.number.number_of.Tie as tie
+
+pub number-of-spec : {M : Type 1} → statement M
+number-of-spec =
+    tie.close
+    (tie.spec
+    (λ c. search needs)
+    (λ c. search needs)
+    (λ c. search needs)
+    (λ c. search needs)
+    (λ c. search needs)
+    (λ c. search needs)
+    (λ c. search needs)
+    (λ c. search needs)
+    (λ c. search needs)
+    (λ c. search needs)
+    (λ c. search needs)
+    (λ c. search needs)
+    (λ c. search needs)
+    (λ c. search needs)
+    (λ c. search needs)
+    (λ c. search needs)
+    (λ c. search needs)
+    (λ c. search needs)
+    (λ c. search needs)
+    (λ c. search needs)
+    (λ c κs. from-30 _ (c .match .keys21))
+    (λ c. search (needs, number-told))
+    (λ c. search (needs, number-told))
+    (λ c. search (needs, number-told))
+    (λ c. search (needs, number-told))
+    (λ c. search (needs, number-told))
+    (λ c. search (needs, number-told))
+    (λ c. search (needs, number-told))
+    (λ c. search (needs, number-told))
+    (λ c. search (needs, number-told))
+    (λ c. search (needs, number-told))
+    (λ c. search (needs, number-told))
+    (λ c. search (needs, number-told))
+    (λ c. search (needs, number-told))
+    (λ c. search (needs, number-told))
+    (λ c. search (needs, number-told))
+    (λ c. search (needs, number-told))
+    (λ c. search (needs, number-told))
+    (λ c. search (needs, number-told))
+    (λ c. search (needs, number-told))
+    (λ c. search (needs, number-told))
+    (λ c. search needs))

@@ -1,0 +1,14 @@
+use borrow.Author.Needs.{needs}
+use native.Mathlib.Numerals.{add-one}
+use Rattle.refusals.proofs.Spans.{behind-none}
+use Rattle.refusals.proofs.place.place_behind.Statement.{statement}
+use Rattle.refusals.proofs.place.place_behind.Tie as tie
+
+pub place-behind-spec : {M : Type 1} → statement M
+place-behind-spec =
+    tie.close
+    (tie.spec
+    (λ c. search needs)
+    (λ c κs. search needs)
+    (λ c. rw (← add-one) (c .place-at .ensures))
+    (λ c. search (needs, behind-none)))
