@@ -1,0 +1,3 @@
+pub mod Wrapped
+pub mod Reaching
+pub mod Emitting
