@@ -71,7 +71,7 @@ pub fn numeric(ty: u8) -> bool
     (ty == 1) | ((ty == 7) | (ty == 10))
 }
 
-fn one_word(ty: u8) -> bool
+pub fn one_word(ty: u8) -> bool
     ensures { λ r. ⌜ Tests oneWord ty r ⌝ }
 {
     (ty == 1) | ((ty == 7) | (ty == 2))

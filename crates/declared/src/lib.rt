@@ -7,6 +7,7 @@ pub use declared::compatible;
 pub use declared::declared_arg;
 pub use declared::is_zero_literal;
 pub use declared::numeric;
+pub use declared::one_word;
 pub use declared::ty_of_decl;
 pub use model::Found;
 pub use model::field_named;

@@ -1,0 +1,270 @@
+-- `emit` statements: what each return and each call needs. Assumes nothing.
+use mathlib.Core.Logic.{_≢_}
+use mathlib.Core.Path.{_≡_, refl, sym, ap, _∙_}
+use mathlib.Core.List.{List, [], _∷_, zip, zipWith}
+use mathlib.Core.Bool.{Bool, true, false, not, _&&_, _||_}
+use Prim.Native.Nat.{ℕ, suc, _+_, _-_, _/_, _<_, _≤_}
+use native.Mathlib.Numerals.{add-one}
+use native.Mathlib.Omega.{arith}
+use mir.Syntax.{w64}
+use mir.Val.{Fits}
+use borrow.Author.Tests.{eq-eqb, ne-eqb, eqb-true, eqb-false}
+use lib.Dec.{eqb}
+use lib.ListN.{length}
+use Rattle.sheet.specs.Grammar as grammar
+use Rattle.sheet.specs.Scratch.{entry, kindAt, endAt, nameAt}
+use Rattle.sheet.specs.Tree.{takeNodes}
+use Rattle.rules.specs.Text.{Name}
+use Rattle.rules.specs.Ast.{Expr, Exprs, nil, more, Param, list, span, exprsOf}
+use Rattle.rules.specs.Asking.{Ty, code, Res, ok, refused, Rule, ret, _>>=_, _>>_, expect, ifSome, forEach}
+use Rattle.rules.specs.Kept.{Table, kept}
+use Rattle.rules.specs.Declared.{eqTy, isTy, oneWord, tyOfDecl}
+use Rattle.rules.specs.Typing.{Env as Environment, asked, askOf, tyOf, typings, askEach, isNameParam}
+use Rattle.rules.specs.Statements.{emitMismatch, emitText, checkEmitField, checkEmitFields}
+use Rattle.rules.specs.Standing.{eventAt, exprAt, exprsAt, paramAt, paramsAt, typeAt, Here, Row}
+use Rattle.rules.proofs.Binding.{then-ok, then-refused}
+use Rattle.rules.proofs.Parts.{parts}
+use Rattle.rules.proofs.Records.{event-at, param-at, params-next, no-params}
+use Rattle.rules.proofs.Standing.{stands, exprs-next, row-first, row-rest}
+use Rattle.declared.specs.Codes.{tyFrom, Tests}
+use Rattle.declared.specs.Lines.{Typed as TypeAt}
+use Rattle.declared.specs.Refusal.{refusalOf, doneOf}
+use Rattle.declared.specs.declared.model.Found.{Found}
+use Rattle.declared.specs.declared.model.Found.the-variants.{At, Nothing}
+use Rattle.declared.specs.declared.refusal.Refusal.{Refusal}
+use Rattle.declared.specs.declared.refusal.Refusal.the-variants.{EmitField}
+use Rattle.declared.specs.declared.refusal.Done.{Done}
+use Rattle.declared.specs.declared.refusal.Done.the-variants.{Fine, Refused}
+use Rattle.declared.proofs.Answers.{fits, misfits}
+use Rattle.declared.proofs.Codes.{from-code}
+use Rattle.declared.proofs.Fields.{one-sort}
+use Rattle.declared.proofs.Tables.{or-false}
+use Rattle.env.specs.Force.{envOf, ExprIn}
+use Rattle.env.specs.declared.env.Env.{Env}
+use Rattle.env.specs.declared.judge.Typed.{Typed}
+use Rattle.env.specs.declared.judge.Typed.the-variants.{Is, Refused as No}
+use Rattle.typing.specs.Asks.{Asks, AsksAll, Types, Does}
+use Rattle.typing.proofs.Calls.{did}
+use Rattle.typing.proofs.Keys.{or-parts}
+use Rattle.typing.proofs.Onward.{Onward, onward}
+use Rattle.typing.proofs.Operators.{gave-code}
+use Rattle.emits.specs.Emit.{emitRule, fieldsRule, EmitIn, FieldIn, FieldsIn, Mismatches, JudgesField}
+use Rattle.emits.specs.Event.{foundEvent, EventNamed}
+use Rattle.emits.proofs.Steps.{not-typed, typed-then, ends, goes-on}
+
+-- ------------------------------------------------------------ mismatch and judge_field
+
+module _ (c d : ℕ) (b : Bool) where
+  pub mismatch-name : c ≡ 6 → Mismatches c d b (not (eqb d 6) || not b)
+  unfolding emitMismatch eqTy code
+  mismatch-name e = record { tests = λ Γ arg want got n k l. rw (emitMismatch, ← k, eq-eqb c 6 e, ← l, ← n) refl }
+
+  pub mismatch-other : (w : Bool) → c ≢ 6 → Tests oneWord c w → Mismatches c d b (((eqb d 6 || eqb d 9) || eqb c 9) || (eqb d 3 && w))
+  unfolding emitMismatch eqTy isTy code
+  mismatch-other w e h =
+      record { tests = λ Γ arg want got n k l. rw (emitMismatch, ← k, ne-eqb c 6 e, ← h .tests want k, ← k, ← l, or-false) refl }
+
+module _ (s : List ℕ) (env : Env) (arg param c d : ℕ) (n m : Bool) (e : n ≡ isNameParam (envOf s [] env) (exprAt s arg)) (h : Mismatches c d n m) where
+  fitting : (want got : Ty) (x : Bool) → c ≡ code want → d ≡ code got → m ≡ x → not (emitMismatch (envOf s [] env) (exprAt s arg) want got) ≡ not x
+  fitting want got x k l q = ap not (sym (h .tests (envOf s [] env) (exprAt s arg) want got e k l) ∙ q)
+
+  pub field-wrong : m ≡ true → JudgesField s env arg param c d (Refused (EmitField arg param d))
+  unfolding doneOf refusalOf
+  field-wrong q = record { judged = λ want got k l. rw (from-code d got l) (misfits _ 43 _ _ (fitting want got true k l q)) }
+
+  pub field-fine : m ≡ false → JudgesField s env arg param c d Fine
+  unfolding doneOf
+  field-fine q = record { judged = λ want got k l. fits _ 43 _ _ (fitting want got false k l q) }
+
+-- ------------------------------------------------------------ check_field
+
+module _ (s S : List ℕ) (env : Env) (T : Table) (arg param : ℕ) (h : FieldIn s S env T arg param) where
+  typed : (paramAt s param ≡ record { name = nameAt s S param; ty = typeAt s (suc param) }) × Here S grammar.Ty (suc param)
+  typed = param-at (h .ready .force .loaded) (h .other .within) (omega (arith, h .other .kind .0, h .other .kind .1))
+
+  pub field-asks : Asks s S env T arg
+  field-asks = record { ready = h .ready; here = h .one }
+
+  pub field-type : TypeAt s S (param + 1)
+  field-type = record { loaded = h .ready .force .loaded; here = rw (add-one param) (typed .1) }
+
+  pub field-arg : ExprIn s S env arg
+  field-arg = record { force = h .ready .force; here = h .one }
+
+  pub field-fits : length S < 18446744073709551616 → Fits w64 (param + 1)
+  field-fits l = record { fits = omega (arith, typed .1 .within) }
+
+  module _ (a : Typed) (U : Table) (k : Types s (tyOf (envOf s T env) (exprAt s arg)) T a U) where
+    pub field-no : (r : Refusal) → a ≡ No r → Does s (checkEmitField (envOf s T env) (exprAt s arg) (paramAt s param)) T (Refused r) U
+    unfolding checkEmitField
+    field-no r e = not-typed s (tyOf (envOf s T env) (exprAt s arg)) _ T a U k r e
+
+    module _ (c want : ℕ) (r : Done) (e : a ≡ Is c) (w : want ≡ code (tyOfDecl (typeAt s (param + 1)))) (j : JudgesField s env arg param want c r) where
+      judged : kept (expect (not (emitMismatch (envOf s T env) (exprAt s arg) (tyOfDecl (paramAt s param .ty)) (tyFrom c))) 43 (span (exprAt s arg)) (emitText (paramAt s param) (tyFrom c))) U
+          ≡ record { res = doneOf s r; table = U }
+      unfolding emitMismatch isNameParam envOf
+      judged =
+          let q : paramAt s param .ty ≡ typeAt s (param + 1) = ap (λ p. p .ty) (typed .0) ∙ rw (add-one param) refl in
+          j .judged (tyOfDecl (paramAt s param .ty)) (tyFrom c) (rw q w) (gave-code s _ T a U k c e) .answers U
+
+      pub field-ok : Does s (checkEmitField (envOf s T env) (exprAt s arg) (paramAt s param)) T r U
+      unfolding checkEmitField
+      field-ok = typed-then s (tyOf (envOf s T env) (exprAt s arg)) _ T a U k c r e judged
+
+-- ------------------------------------------------------------ check_fields
+
+no-field : (Γ : Environment) (es : List Expr) (T : Table) → kept (fieldsRule Γ es []) T ≡ record { res = ok tt; table = T }
+unfolding fieldsRule zip zipWith forEach kept
+no-field Γ [] T = refl
+no-field Γ (e ∷ es) T = refl
+
+module _ (s S : List ℕ) (env : Env) (T : Table) (arg args param params : ℕ) (h : FieldsIn s S env T arg args param params) where
+  abbrev Fields : Rule Unit
+  Fields = fieldsRule (envOf s T env) (list (exprsAt s args arg)) (paramsAt s params param)
+
+  no-more : (b : Bool) → eqb args 0 ≡ b → (b || eqb params 0) ≡ true → kept Fields T ≡ record { res = ok tt; table = T }
+  unfolding fieldsRule zip zipWith forEach kept exprsAt takeNodes exprsOf list
+  no-more true q e = rw (eqb-true args 0 q) refl
+  no-more false q e = rw (eqb-true params 0 e, no-params s param) (no-field (envOf s T env) (list (exprsAt s args arg)) T)
+
+  pub fields-stop : (eqb args 0 || eqb params 0) ≡ true → Does s Fields T Fine T
+  unfolding doneOf
+  fields-stop e = record { gives = no-more (eqb args 0) refl e }
+
+  module _ (g : (eqb args 0 || eqb params 0) ≡ false) where
+    both : (args ≢ 0) × (params ≢ 0)
+    both = let q = or-parts (eqb args 0) (eqb params 0) g in (eqb-false args 0 (q .0), eqb-false params 0 (q .1))
+
+    these : Row S grammar.Expr (suc (args - 1)) arg
+    these = rw (let y : suc (args - 1) ≡ args = omega (arith, both .0) in y) (h .these)
+
+    those : Row S grammar.Param (suc (params - 1)) param
+    those = rw (let y : suc (params - 1) ≡ params = omega (arith, both .1) in y) (h .those)
+
+    pub fields-first : FieldIn s S env T arg param
+    fields-first = record { ready = h .ready; one = row-first these; other = row-first those }
+
+    pub some-args : 1 ≤ args
+    some-args = omega (arith, both .0)
+
+    pub some-params : 1 ≤ params
+    some-params = omega (arith, both .1)
+
+    pub fields-falls : (τ : ℕ) → args ≡ τ → args - 1 < τ
+    fields-falls τ e = omega (arith, both .0)
+
+    abbrev first : Rule Unit
+    first = checkEmitField (envOf s T env) (exprAt s arg) (paramAt s param)
+
+    abbrev rest : Rule Unit
+    rest = fieldsRule (envOf s T env) (list (exprsAt s (args - 1) (endAt S arg))) (paramsAt s (params - 1) (endAt S param))
+
+    opened : kept Fields T ≡ kept (first >>= λ _. rest) T
+    unfolding fieldsRule zip zipWith forEach list
+    opened =
+        let es : exprsAt s args arg ≡ more (exprAt s arg) (exprsAt s (args - 1) (endAt S arg)) =
+        ap (λ y. exprsAt s y arg) (let y : args ≡ suc (args - 1) = omega (arith, both .0) in y) ∙ exprs-next (h .ready .force .loaded) (args - 1) arg (row-first these .within) in
+        let ps : paramsAt s params param ≡ paramAt s param ∷ paramsAt s (params - 1) (endAt S param) =
+        ap (λ y. paramsAt s y param) (let y : params ≡ suc (params - 1) = omega (arith, both .1) in y) ∙ params-next (h .ready .force .loaded) (params - 1) (row-first those .within) in
+        rw (es, ps) refl
+
+    module _ (d : Done) (U : Table) (k : Does s first T d U) where
+      pub fields-no : (r : Refusal) → d ≡ Refused r → Does s Fields T (Refused r) U
+      fields-no r e = record { gives = opened ∙ ends s first rest T d U (k .gives) r e .gives }
+
+      module _ (e : d ≡ Fine) (a' p' : ℕ) (ea : a' ≡ endAt S arg) (ep : p' ≡ endAt S param) where
+        on : Onward s S env T U
+        on = onward s S env T U _ tt (h .ready) (did s first T d U (k .gives) e)
+
+        pub fields-rest : FieldsIn s S env U a' (args - 1) p' (params - 1)
+        fields-rest = record { ready = on .ready; these = rw ea (row-rest these); those = rw ep (row-rest those) }
+
+        pub fields-ok : (r : Done) (W : Table) → Does s (fieldsRule (envOf s U env) (list (exprsAt s (args - 1) a')) (paramsAt s (params - 1) p')) U r W → Does s Fields T r W
+        fields-ok r W g' = record { gives = opened ∙ goes-on s first rest T d U (k .gives) r W e (rw (← on .same, ← ea, ← ep) (g' .gives)) .gives }
+
+-- ------------------------------------------------------------ check_emit_fields and check_emit
+
+abbrev unsaid : Rule Ty → Rule Unit
+unsaid p = p >> ret tt
+
+-- a type that is asked and not said, before another rule
+left-out : (p : Rule Ty) (q q' : Rule Unit) (T : Table) → ((U : Table) → kept q U ≡ kept q' U) → kept (unsaid p >>= λ _. q) T ≡ kept (p >>= λ _. q') T
+unfolding _>>_ kept
+left-out p q q' T h = go (kept p T .res) (kept p T .table) refl
+  where
+    none : Ty → Rule Unit
+    none t = ret tt
+
+    go : (x : Res Ty) (U : Table) → kept p T ≡ record { res = x; table = U } → kept (unsaid p >>= λ _. q) T ≡ kept (p >>= λ _. q') T
+    go (ok t) U e = then-ok (unsaid p) (λ _. q) T U tt (kept q' U) (then-ok p none T U t _ e refl) (h U) ∙ sym (then-ok p (λ _. q') T U t (kept q' U) e refl)
+    go (refused r) U e = then-refused (unsaid p) (λ _. q) T U r (then-refused p none T U r e) ∙ sym (then-refused p (λ _. q') T U r e)
+
+-- the typing of all arguments
+each-typed : (Γ : Environment) (es : Exprs) (T : Table) → kept (forEach (list es) λ arg. tyOf Γ arg >> ret tt) T ≡ kept (askEach (typings Γ es)) T
+unfolding forEach list askEach typings tyOf askOf asked
+each-typed Γ nil T = refl
+each-typed Γ (more e es) T = left-out (tyOf Γ e) _ _ T (each-typed Γ es)
+
+module _ (s S : List ℕ) (env : Env) (T : Table) (i : ℕ) (h : EmitIn s S env T i) where
+  row : Row S grammar.Expr (entry S i 5) (suc i)
+  row =
+      let t = stands (h .ready .force .loaded) i (h .within) in
+      let p = parts (t .line) 17 (t .parted) (sym (t .says .kind) ∙ h .kind) in
+      let o = one-sort (p .0) t (p .1) in
+      rw (o .2) (o .1)
+
+  abbrev es : Exprs
+  es = exprsAt s (entry S i 5) (suc i)
+
+  abbrev Emits : Rule Unit
+  Emits = checkEmitFields (envOf s T env) (nameAt s S i) (list es)
+
+  module _ (x : Name) (r : Found) (ex : x ≡ nameAt s S i) (n : EventNamed s S x r) where
+    pub no-event : r ≡ Nothing → Does s Emits T Fine T
+    unfolding checkEmitFields envOf ifSome foundEvent doneOf kept
+    no-event e = record { gives = rw (← ex, ← n .found, e) refl }
+
+    module _ (event : ℕ) (e : r ≡ At event) where
+      there : (event < length S / 8) × (kindAt S event ≡ 2)
+      there = rw e at (n .kind)
+
+      params : (eventAt s event ≡ record { name = nameAt s S event; params = paramsAt s (entry S event 5) (suc event) }) × Row S grammar.Param (entry S event 5) (suc event)
+      params = event-at (h .ready .force .loaded) (there .0) (there .1)
+
+      pub event-fits : length S < 18446744073709551616 → Fits w64 (event + 1)
+      event-fits l = record { fits = omega (arith, there .0) }
+
+      module _ (m k : ℕ) (em : m ≡ entry S i 5) (ek : k ≡ entry S event 5) where
+        pub event-fields : FieldsIn s S env T (i + 1) m (event + 1) k
+        event-fields = record { ready = h .ready; these = rw (em, add-one i) row; those = rw (ek, add-one event) (params .1) }
+
+        pub event-done : (d : Done) (U : Table) → Does s (fieldsRule (envOf s T env) (list (exprsAt s m (i + 1))) (paramsAt s k (event + 1))) T d U → Does s Emits T d U
+        unfolding checkEmitFields fieldsRule envOf ifSome foundEvent
+        event-done d U g = record { gives = rw (← ex, ← n .found, e, params .0, ← em, ← ek, ← add-one i, ← add-one event) (g .gives) }
+
+  module _ (m : ℕ) (em : m ≡ entry S i 5) where
+    pub emit-asks : AsksAll s S env T m (i + 1)
+    emit-asks = record { ready = h .ready; row = rw (em, add-one i) row }
+
+    module _ (d : Done) (U : Table) (k : Does s (askEach (typings (envOf s T env) (exprsAt s m (i + 1)))) T d U) where
+      abbrev all : Rule Unit
+      all = forEach (list es) λ arg. tyOf (envOf s T env) arg >> ret tt
+
+      asks : kept all T ≡ record { res = doneOf s d; table = U }
+      asks = each-typed (envOf s T env) es T ∙ rw (← em, ← add-one i) (k .gives)
+
+      pub emit-no : (r : Refusal) → d ≡ Refused r → Does s (emitRule (envOf s T env) (nameAt s S i) (list es)) T (Refused r) U
+      unfolding emitRule
+      emit-no r e = ends s all Emits T d U asks r e
+
+      module _ (e : d ≡ Fine) where
+        on-emit : Onward s S env T U
+        on-emit = onward s S env T U all tt (h .ready) (did s all T d U asks e)
+
+        pub emit-on : EmitIn s S env U i
+        emit-on = record { ready = on-emit .ready; within = h .within; kind = h .kind }
+
+        pub emit-ok : (r : Done) (W : Table) → Does s (checkEmitFields (envOf s U env) (nameAt s S i) (list es)) U r W
+            → Does s (emitRule (envOf s T env) (nameAt s S i) (list es)) T r W
+        unfolding emitRule
+        emit-ok r W g = goes-on s all Emits T d U asks r W e (rw (← on-emit .same) (g .gives))

@@ -1,0 +1,4 @@
+pub mod Emitted
+pub mod Events
+pub mod Recipients
+pub mod Steps

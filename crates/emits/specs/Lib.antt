@@ -1,0 +1,3 @@
+pub mod Emit
+pub mod Event
+pub mod Recipient
