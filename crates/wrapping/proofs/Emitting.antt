@@ -1,9 +1,9 @@
 -- The arguments of an `emit` side by side with the event's parameters. Assumes nothing.
-use mathlib.Core.Path.{_≡_, refl, sym, ap, _∙_}
+use mathlib.Core.Path.{_≡_, refl, _∙_}
 use mathlib.Core.Logic.{_≢_}
 use mathlib.Core.List.{List, [], _∷_, zip}
 use mathlib.Core.Bool.{Bool, true, false, not, _&&_}
-use Prim.Native.Nat.{ℕ, zero, suc, _+_, _-_, _/_, _<_, _≤_}
+use Prim.Native.Nat.{ℕ, suc, _+_, _-_, _<_, _≤_}
 use native.Mathlib.Numerals.{add-one}
 use native.Mathlib.Omega.{arith}
 use mir.Syntax.{w64}
@@ -11,15 +11,15 @@ use mir.Val.{Fits}
 use lib.Dec.{eqb}
 use lib.ListN.{length}
 use Rattle.sheet.specs.Grammar as grammar
-use Rattle.sheet.specs.Scratch.{kindAt, endAt, nameAt, entry}
+use Rattle.sheet.specs.Scratch.{endAt, nameAt, entry}
 use Rattle.sheet.specs.Tree.{takeNodes}
 use Rattle.rules.specs.Text.{Name}
-use Rattle.rules.specs.Ast.{Expr, Param, exprsOf, list, span, typeName}
+use Rattle.rules.specs.Ast.{Expr, Param, exprsOf, list, typeName}
 use Rattle.rules.specs.Asking.{Res, ok, Rule, _>>_, forEach}
 use Rattle.rules.specs.Declared.{narrowMax}
 use Rattle.rules.specs.Typing.{isSome}
-use Rattle.rules.specs.Assets.{wraps, reaches, reachesText, eventSlot}
-use Rattle.rules.specs.Standing.{exprAt, exprsAt, paramAt, paramsAt, namedAt, Loaded, Here, Row}
+use Rattle.rules.specs.Assets.{wraps, reaches, eventSlot}
+use Rattle.rules.specs.Standing.{exprAt, exprsAt, paramAt, paramsAt, Loaded, Row}
 use Rattle.rules.proofs.Standing.{exprs-next, row-first, row-rest}
 use Rattle.rules.proofs.Records.{named, emit-at, event-at, param-at, params-next, no-params}
 use Rattle.declared.specs.Answers.{Answers}

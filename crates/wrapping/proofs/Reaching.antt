@@ -1,14 +1,14 @@
 -- Values that reach slots, statement by statement. Assumes nothing.
-use mathlib.Core.Path.{_≡_, refl, sym, ap, _∙_}
+use mathlib.Core.Path.{_≡_, refl, sym, _∙_}
 use mathlib.Core.Logic.{_≢_}
-use mathlib.Core.List.{List, [], _∷_, zip}
+use mathlib.Core.List.{List}
 use mathlib.Core.Bool.{Bool, true, false, cond, not, _&&_}
 use mathlib.Core.Option.{Option, none, some}
-use Prim.Native.Nat.{ℕ, zero, suc, _+_, _-_, _/_, _<_, _≤_}
+use Prim.Native.Nat.{ℕ, zero, suc, _+_, _-_}
 use native.Mathlib.Numerals.{add-one}
 use native.Mathlib.Omega.{arith}
 use lib.Dec.{eqb, ltb}
-use lib.ListN.{length, getElem?}
+use lib.ListN.{getElem?}
 use borrow.Author.Tests.{eq-eqb, ne-eqb, eqb-true, lt-ltb, ltb-true, not-true, not-false}
 use Rattle.text.specs.Text.{bytes, same}
 use Rattle.sheet.specs.Grammar as grammar
@@ -16,29 +16,26 @@ use Rattle.sheet.specs.Scratch.{kindAt, endAt, nameAt, entry}
 use Rattle.sheet.specs.Say.{nspanAt}
 use Rattle.sheet.specs.Tree.{takeNodes}
 use Rattle.rules.specs.Text.{Name, Piece, is}
-use Rattle.rules.specs.Ast.{Expr, Exprs, Param, exprsOf, list, span, typeName}
-use Rattle.rules.specs.Asking.{Res, ok, refused, Rule, _>>_, ifSome, when, forEach}
-use Rattle.rules.specs.Declared.{narrowMax}
+use Rattle.rules.specs.Ast.{Expr, exprsOf, list, span}
+use Rattle.rules.specs.Asking.{Res, ok, refused, ifSome, when}
 use Rattle.rules.specs.Model.{Model}
 use Rattle.rules.specs.Statements.{narrowField}
 use Rattle.rules.specs.Typing.{Call, Dot, callOf, dotOf, identOf, isSome}
-use Rattle.rules.specs.Assets.{wraps, reaches, reachesText, fieldSlot, valuesSlot, eventSlot, narrowValues, narrowSet, narrowStmt}
-use Rattle.rules.specs.Standing.{exprAt, exprsAt, paramAt, paramsAt, stmtAt, typeAt, namedAt, modelIn, Loaded, Here, Row}
+use Rattle.rules.specs.Assets.{wraps, reaches, reachesText, fieldSlot, valuesSlot, narrowValues, narrowSet, narrowStmt}
+use Rattle.rules.specs.Standing.{exprAt, exprsAt, stmtAt, namedAt, modelIn, Loaded, Here, Row}
 use Rattle.rules.proofs.Standing.{exprs-next, row-first, row-rest}
 use Rattle.rules.proofs.Exprs.{by-kind, ident-at, is-dot-at, dot-at, call-at}
-use Rattle.rules.proofs.Records.{named, guard-at, let-at, assign-at, do-at, emit-at, event-at, param-at, params-next, no-params}
+use Rattle.rules.proofs.Records.{named, assign-at}
 use Rattle.declared.specs.Answers.{Answers}
 use Rattle.declared.specs.Refusal.{refusalOf, doneOf}
-use Rattle.declared.specs.declared.refusal.Refusal.the-variants.{ReachesField, ReachesValues, ReachesEvent}
-use Rattle.declared.specs.declared.refusal.Done.{Done}
+use Rattle.declared.specs.declared.refusal.Refusal.the-variants.{ReachesField, ReachesValues}
 use Rattle.declared.specs.declared.refusal.Done.the-variants.{Fine, Refused}
-use Rattle.declared.proofs.Answers.{gives, fits, misfits, then-fine, then-refused}
-use Rattle.declared.proofs.Types.{type-name}
+use Rattle.declared.proofs.Answers.{gives, fits, misfits}
 use Rattle.narrow.specs.Narrow.{mostOf}
-use Rattle.narrow.proofs.Narrow.{max-some, field-some, values-some}
+use Rattle.narrow.proofs.Narrow.{field-some, values-some}
 use Rattle.wrapping.specs.Lines.{After}
 use Rattle.wrapping.specs.Marks.{wrappedNames}
-use Rattle.wrapping.specs.Reach.{setsAt, reachesEach, Emits}
+use Rattle.wrapping.specs.Reach.{setsAt}
 
 -- ------------------------------------------------------------ a value and its slot
 

@@ -6,11 +6,9 @@ use mathlib.Core.Bool.{Bool, true, false, cond, _&&_, _||_}
 use Prim.Native.Nat.{ℕ, zero, suc, _+_, _-_, _/_, _<_, _≤_}
 use native.Mathlib.Numerals.{add-one}
 use native.Mathlib.Omega.{arith}
-use mir.Syntax.{w64}
-use mir.Val.{Fits}
 use lib.Dec.{eqb, ltb}
 use lib.ListN.{length, getD, set}
-use borrow.Author.Tests.{eq-eqb, ne-eqb, ltb-true, ltb-false}
+use borrow.Author.Tests.{ne-eqb, ltb-true, ltb-false}
 use Rattle.text.specs.Text.{same}
 use Rattle.sheet.specs.Grammar as grammar
 use Rattle.sheet.specs.Scratch.{kindAt, endAt, nameAt, entry, skip}
@@ -299,9 +297,3 @@ module _ (s S M : List ℕ) (k body i : ℕ) (n : ℕ) (e : n ≡ kindAt S i) wh
 
     pub mark-plain : b ≡ false → set M i 0 ≡ marksAfter s S M k body i
     mark-plain z = mark-let 0 (rw z refl)
-
-pub in-marks : (σ : grammar.Sort) (s S : List ℕ) (k body i : ℕ) → After σ s S k body i → i < 1024
-in-marks σ s S k body i a = omega (arith, a .before .few, a .here .within)
-
-pub next-fits : (S : List ℕ) (i : ℕ) → i < length S / 8 → length S < 18446744073709551616 → Fits w64 (i + 1)
-next-fits S i h l = record { fits = omega arith }

@@ -1,7 +1,9 @@
 // Slots that a wrapping value may not reach: narrow fields, narrow values of maps, and narrow parameters of events.
 use crate::marks::wraps;
 use declared::Done;
+use declared::Found;
 use declared::Refusal;
+use emits::event_named;
 use narrow::narrow_field;
 use narrow::narrow_max;
 use narrow::narrow_values;
@@ -106,7 +108,9 @@ fn narrow_set(
         return Done::Fine;
     }
     let map = i + 2;
-    let value = end(lines, end(lines, i + 1));
+    let callee = i + 1;
+    let key = end(lines, callee);
+    let value = end(lines, key);
     let narrow = narrow_values(sheet, lines, name(sheet, lines, map));
     if reaches(sheet, lines, marks, body, bound, narrow, value) {
         return Done::Refused(Refusal::ReachesValues {
@@ -149,6 +153,50 @@ fn narrow_args(
         args -= 1;
         param = end(lines, param);
         params -= 1;
+    }
+    Done::Fine
+}
+
+// The `emit` at line i.
+fn narrow_emit(
+    sheet: &[u8],
+    lines: &[u16],
+    marks: &[u8; 1024],
+    body: usize,
+    bound: usize,
+    i: usize,
+) -> Done
+    requires { ⌜ After Stmt (now sheet) (now lines) bound body i ⌝ }
+    requires { ⌜ kindAt (now lines) i ≡ 17 ⌝ }
+    ensures { λ r. ⌜ Answers (narrowStmt (modelIn (now (sheet .entry))) (wrappedNames (now (sheet .entry)) (now (lines .entry)) (now (marks .entry)) bound body) (stmtAt (now (sheet .entry)) i)) (doneOf (now (sheet .entry)) r) ⌝ }
+{
+    match event_named(sheet, lines, name(sheet, lines, i)) {
+        Found::At(event) => narrow_args(sheet, lines, marks, body, bound, i, event),
+        Found::Nothing => Done::Fine,
+    }
+}
+
+// The statement at line i, behind bound statements from line body on.
+pub fn narrow_stmt(
+    sheet: &[u8],
+    lines: &[u16],
+    marks: &[u8; 1024],
+    body: usize,
+    bound: usize,
+    i: usize,
+) -> Done
+    requires { ⌜ After Stmt (now sheet) (now lines) bound body i ⌝ }
+    ensures { λ r. ⌜ Answers (narrowStmt (modelIn (now (sheet .entry))) (wrappedNames (now (sheet .entry)) (now (lines .entry)) (now (marks .entry)) bound body) (stmtAt (now (sheet .entry)) i)) (doneOf (now (sheet .entry)) r) ⌝ }
+{
+    let k = kind(lines, i);
+    if k == 17 {
+        return narrow_emit(sheet, lines, marks, body, bound, i);
+    }
+    if k == 18 {
+        return narrow_assign(sheet, lines, marks, body, bound, i);
+    }
+    if k == 19 {
+        return narrow_set(sheet, lines, marks, body, bound, i + 1);
     }
     Done::Fine
 }

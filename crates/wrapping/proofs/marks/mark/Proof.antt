@@ -1,5 +1,5 @@
 use borrow.Author.Needs.{needs}
-use Rattle.wrapping.proofs.Wrapped.{mark-other, let-value, mark-wraps, mark-plain, in-marks}
+use Rattle.wrapping.proofs.Wrapped.{mark-other, let-value, mark-wraps, mark-plain}
 use Rattle.wrapping.proofs.marks.mark.Statement.{statement}
 use Rattle.wrapping.proofs.marks.mark.Tie as tie
 
