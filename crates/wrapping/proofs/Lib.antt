@@ -1,0 +1,4 @@
+pub mod Wrapped
+pub mod Reaching
+pub mod Emitting
+pub mod Stmts

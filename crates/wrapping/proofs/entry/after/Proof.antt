@@ -1,0 +1,23 @@
+use mathlib.Core.Path.{_≡_, refl}
+use borrow.Author.Needs.{needs}
+use Rattle.sheet.specs.Scratch.{skip}
+use Rattle.wrapping.proofs.Stmts.{past-next, past-over}
+use Rattle.wrapping.proofs.entry.after.Statement.{statement}
+use Rattle.wrapping.proofs.entry.after.Tie as tie
+
+abbrev Inv : tie.InvT-loop
+Inv lines from' count at₀ left₀ at left = skip lines count from' ≡ skip lines left at
+
+abbrev μ : tie.MeasureT-loop
+μ lines from' count at₀ left₀ at left = left
+
+pub after-spec : {M : Type 1} → statement M
+after-spec =
+    tie.close
+    (tie.spec Inv μ
+    (λ c. refl)
+    (λ c κs. search needs)
+    (λ c. search needs)
+    (λ c. search needs)
+    (λ c. search (needs, past-next))
+    (λ c. search (needs, past-over)))
