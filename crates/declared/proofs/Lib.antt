@@ -1,4 +1,5 @@
 pub mod Answers
+pub mod Behind
 pub mod Codes
 pub mod Fields
 pub mod Finding

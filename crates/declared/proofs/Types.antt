@@ -158,19 +158,26 @@ module _ (s S : List ℕ) (i m : ℕ) (h : Typed s S i) (c : m ≡ entry S i 5) 
 
 -- What `declared_arg` meets: m arguments, of which it wants the one at line j, of kind n.
 module _ (s S : List ℕ) (i k m : ℕ) (h : Typed s S i) (c : m ≡ entry S i 5) where
+  pub nth-beyond : m ≤ k → getElem? (args (typeAt s i)) k ≡ none
+  nth-beyond e = beyond (args (typeAt s i)) k (omega (arith, args-count s S i m h c))
+
   pub none-there : (r : ℕ) → m ≤ k → r ≡ 10 → r ≡ code (declaredArg (typeAt s i) k)
   unfolding declaredArg code
-  none-there r e q = rw (declaredArg, beyond (args (typeAt s i)) k (omega (arith, args-count s S i m h c))) q
+  none-there r e q = rw (declaredArg, nth-beyond e) q
 
   module _ (j n : ℕ) (e : k < m) (f : j ≡ skip S k (suc i)) (g : n ≡ kindAt S j) where
-    there : Here S grammar.Arg j
+    pub there : Here S grammar.Arg j
     there = rw f (row-nth k e (args-row s S i m h c))
 
-    arg-there : declaredArg (typeAt s i) k ≡ tyOfArg (told s S j n)
-    unfolding declaredArg argAt argsAt
-    arg-there =
+    pub nth-there : getElem? (args (typeAt s i)) k ≡ some (told s S j n)
+    unfolding argAt argsAt
+    nth-there =
         let q = nth-map argOf (nodesAt s m (suc i)) k _ (node-nth k (h .loaded) e (args-row s S i m h c)) in
-        rw (declaredArg, args-here s S i m h c, q, ← f) (ap tyOfArg (arg-told s S j n (h .loaded) there g))
+        rw (args-here s S i m h c, q, ← f) (ap some (arg-told s S j n (h .loaded) there g))
+
+    arg-there : declaredArg (typeAt s i) k ≡ tyOfArg (told s S j n)
+    unfolding declaredArg
+    arg-there = rw (declaredArg, nth-there) refl
 
     pub type-there : n ≡ 8 → Typed s S j
     type-there = arg-type s S i j n h there g

@@ -1,11 +1,11 @@
 -- Lookups by name among the lines that an `Env` tells. Assumes nothing.
 use mathlib.Core.Logic.{_≢_}
 use mathlib.Core.Path.{_≡_, refl, sym, ap, _∙_}
-use mathlib.Core.List.{List, [], _∷_, _++_, map, map-map}
+use mathlib.Core.List.{List, [], _∷_, map, map-map}
 use mathlib.Core.Bool.{Bool, true, false, _||_}
 use mathlib.Core.Option.{Option, none, some, Option·map}
 use Prim.Native.String.{String}
-use Prim.Native.Nat.{ℕ, suc, _+_, _/_, _<_, _≤_}
+use Prim.Native.Nat.{ℕ, suc, _+_, _/_, _<_}
 use native.Mathlib.Numerals.{add-one}
 use native.Mathlib.Omega.{arith}
 use mir.Syntax.{w64}
@@ -16,10 +16,10 @@ use borrow.Author.Tests.{eq-eqb, ne-eqb, eqb-false}
 use Rattle.text.specs.Text.{bytes, same}
 use Rattle.sheet.specs.Grammar as grammar
 use Rattle.sheet.specs.Load.{sorts, times}
-use Rattle.sheet.specs.Scratch.{kindAt, nameAt, endAt}
+use Rattle.sheet.specs.Scratch.{kindAt, nameAt}
 use Rattle.sheet.specs.Tree.{Node, node}
 use Rattle.rules.specs.Text.{Name, is, isOne, lastNamed, get}
-use Rattle.rules.specs.Ast.{nodes, paramOf, fieldOf, typeName}
+use Rattle.rules.specs.Ast.{paramOf, fieldOf, typeName}
 use Rattle.rules.specs.Asking.{Ty, TName, code}
 use Rattle.rules.specs.Kept.{Table}
 use Rattle.rules.specs.Declared.{tyOfDecl, eqTy}
@@ -29,55 +29,18 @@ use Rattle.rules.specs.Typing.{identOf, tyOfIdent, isNameParam, keyedField, isP
 use Rattle.rules.specs.Standing.{nodeName, nodeAt, nodesAt, exprAt, typeAt, fieldAt, paramAt, Loaded}
 use Rattle.rules.proofs.Keeps.{code-marks}
 use Rattle.rules.proofs.Exprs.{ident-at}
-use Rattle.rules.proofs.Parts.{stop, _also_, pick, parts}
-use Rattle.rules.proofs.Standing.{Stands, stands, nodes-next, parts-behind, row-behind, row-first}
+use Rattle.rules.proofs.Parts.{parts}
+use Rattle.rules.proofs.Standing.{Stands, stands, row-behind, row-first}
 use Rattle.declared.specs.Codes.{IsCode, tyFrom}
 use Rattle.declared.specs.Found.{ofKind, foundNode, foundField, Of, Last, FieldNamed}
-use Rattle.declared.specs.Lines.{Typed}
 use Rattle.declared.specs.declared.model.Found.{Found}
 use Rattle.declared.specs.declared.model.Found.the-variants.{At, Nothing}
 use Rattle.declared.proofs.Codes.{code-of}
 use Rattle.declared.proofs.Fields.{last-map, all-kind}
 use Rattle.declared.proofs.Types.{type-name}
+pub use Rattle.declared.proofs.Behind.{TypeBehind, behind, found-typed, found-next}
 use Rattle.env.specs.Force.{paramsIn, localOf, lets, envOf, markOf, InForce, ExprIn, Ready, LetTyped, LetsTyped, no-let, a-let, fieldTy, FieldFound, KeyedFound}
 use Rattle.env.specs.declared.env.Env.{Env}
-
--- ------------------------------------------------------------ the type of a field or parameter
-
--- the line behind line i is its type
-pub record TypeBehind (s S : List ℕ) (i : ℕ) : Type 0 where
-  pub typed : Typed s S (suc i)
-  pub param : paramAt s i .ty ≡ typeAt s (suc i)
-  pub field : fieldAt s i .ty ≡ typeAt s (suc i)
-
-first-type : {s S : List ℕ} {i : ℕ} (d : Loaded s S) (rs : List grammar.Sort) (t : Stands s S i) → sorts (t .line .parts) ≡ times 1 grammar.Ty ++ rs → TypeBehind s S i
-unfolding times paramAt fieldAt paramOf fieldOf typeAt nodesAt
-first-type {s} {S} {i} d rs t e =
-    let here = row-first (row-behind 1 rs t e) in
-    let ps : nodes (t .parts) ≡ nodeAt s (suc i) ∷ nodesAt s (length rs) (endAt S (suc i)) =
-    ap nodes (parts-behind t ∙ rw e refl) ∙ nodes-next d (length rs) (suc i) (here .within) in
-    record { typed = record { loaded = d; here = here }; param = rw (t .here, ps) refl; field = rw (t .here, ps) refl }
-
-type-behind : (s S : List ℕ) (i k : ℕ) → Loaded s S → i < length S / 8 → kindAt S i ≡ k → 6 ≤ k → k < 8 → TypeBehind s S i
-unfolding sorts times
-type-behind s S i k d h e a b =
-    let t = stands d i h in
-    pick {P = λ k. t .line .kind ≡ k → TypeBehind s S i} {i = 6} {n = 2} k
-    ((λ q. let g = parts (t .line) 6 (t .parted) q in first-type d (times (g .0) grammar.Expr ++ []) t (rw (g .1) refl))
-    also (λ q. let g = parts (t .line) 7 (t .parted) q in first-type d [] t (rw g refl))
-    also stop)
-    a b (sym (t .says .kind) ∙ e)
-
--- a field or parameter that was found
-module _ (k : ℕ) (s S : List ℕ) (d : Loaded s S) (r : Found) (i : ℕ) (e : r ≡ At i) (o : Of S k r) (a : 6 ≤ k) (b : k < 8) where
-  pub behind : TypeBehind s S i
-  behind = let q : Of S k (At i) = rw e at o in type-behind s S i k d (q .0) (q .1) a b
-
-  pub found-typed : Typed s S (i + 1)
-  found-typed = rw (add-one i) (behind .typed)
-
-  pub found-next : length S < 18446744073709551616 → Fits w64 (i + 1)
-  found-next h = record { fits = omega (arith, behind .typed .here .within) }
 
 -- ------------------------------------------------------------ what a map has
 

@@ -1,0 +1,18 @@
+use borrow.Author.Needs.{needs}
+use Rattle.declared.proofs.Behind.{found-next}
+use Rattle.narrow.proofs.Slots.{field-none, field-most}
+use Rattle.narrow.proofs.slot.narrow_field.Statement.{statement}
+use Rattle.narrow.proofs.slot.narrow_field.Tie as tie
+
+pub narrow-field-spec : {M : Type 1} → statement M
+narrow-field-spec =
+    tie.close
+    (tie.spec
+    (λ c κs. search needs)
+    (λ c. search needs)
+    (λ c. search (needs, found-next 6))
+    (λ c κs. search needs)
+    (λ c κs. search needs)
+    (λ c. search needs)
+    (λ c. search (needs, field-most))
+    (λ c. search (needs, field-none)))
