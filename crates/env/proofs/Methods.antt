@@ -46,7 +46,7 @@ use Rattle.env.proofs.Lookups.{behind, either-word}
 -- ------------------------------------------------------------ words
 
 -- a name is one of some words where its place is before their end
-one-place : (x : Name) (ws : List String) → isOne x ws ≡ ltb (place x (words ws)) (length ws)
+pub one-place : (x : Name) (ws : List String) → isOne x ws ≡ ltb (place x (words ws)) (length ws)
 unfolding isOne place is
 one-place x [] = refl
 one-place x (w ∷ ws) = go (same x (bytes w)) (one-place x ws)
