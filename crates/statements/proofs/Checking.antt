@@ -13,7 +13,7 @@ use Rattle.text.specs.Word.{place, split}
 use Rattle.sheet.specs.Grammar as grammar
 use Rattle.sheet.specs.Scratch.{kindAt, opAt, endAt, nameAt}
 use Rattle.rules.specs.Text.{Name, isOne}
-use Rattle.rules.specs.Ast.{Set, id, leaf, Expr, Field, span, leafOf, assign, do', typeName}
+use Rattle.rules.specs.Ast.{Set, id, leaf, Field, span, leafOf, assign, do', typeName}
 use Rattle.rules.specs.Asking.{Ty, Boolean, Unknown, code, Rule, _>>=_, _>>_, ifSome}
 use Rattle.rules.specs.Kept.{Table, Kept, kept}
 use Rattle.rules.specs.Declared.{eqTy, isTy}
@@ -36,7 +36,7 @@ use Rattle.declared.specs.declared.refusal.Refusal.{Refusal}
 use Rattle.declared.specs.declared.refusal.Refusal.the-variants.{Predicate, Default}
 use Rattle.declared.specs.declared.refusal.Done.{Done}
 use Rattle.declared.specs.declared.refusal.Done.the-variants.{Fine, Refused}
-use Rattle.declared.proofs.Answers.{gives, fits, misfits, refuses}
+use Rattle.declared.proofs.Answers.{fits, misfits, refuses}
 use Rattle.declared.proofs.Tables.{or-false}
 use Rattle.declared.proofs.Types.{type-name}
 use Rattle.env.specs.Answers.{typedOf}
@@ -68,7 +68,7 @@ module _ (s : List ℕ) (p : Rule Ty) (T : Table) (a : Typed) (U : Table) (k : T
 
 -- ------------------------------------------------------------ expect_predicate
 
-module _ (s S : List ℕ) (env : Env) (T : Table) (i : ℕ) (h : Asks s S env T i) (a : Typed) (U : Table) (k : Types s (tyOf (envOf s T env) (exprAt s i)) T a U) where
+module _ (s : List ℕ) (env : Env) (T : Table) (i : ℕ) (a : Typed) (U : Table) (k : Types s (tyOf (envOf s T env) (exprAt s i)) T a U) where
   pub no-condition : (r : Refusal) → a ≡ No r → Does s (expectPredicate (envOf s T env) (exprAt s i)) T (Refused r) U
   unfolding expectPredicate
   no-condition r e = ends s _ T a U k _ r e
@@ -88,8 +88,7 @@ module _ (s S : List ℕ) (env : Env) (T : Table) (i : ℕ) (h : Asks s S env T 
 
 -- ------------------------------------------------------------ check_value
 
-module _ (s S : List ℕ) (env : Env) (T : Table) (op target value c : ℕ) (h : ValueIn s S env T target value) (a : Typed) (U : Table)
-    (k : Types s (tyOf (envOf s T env) (exprAt s value)) T a U) where
+module _ (s S : List ℕ) (env : Env) (T : Table) (op target value c : ℕ) (a : Typed) (U : Table) (k : Types s (tyOf (envOf s T env) (exprAt s value)) T a U) where
   pub value-no : (r : Refusal) → a ≡ No r → Gives s S env op target value c T (Refused r) U
   unfolding givenTo
   value-no r e = record { does = λ x p t q. ends s _ T a U k _ r e }
