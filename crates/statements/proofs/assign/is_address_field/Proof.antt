@@ -1,0 +1,19 @@
+use borrow.Author.Needs.{needs}
+use Rattle.declared.proofs.Behind.{found-next}
+use Rattle.statements.proofs.Tests.{no-address, address}
+use Rattle.statements.proofs.assign.is_address_field.Statement.{statement}
+use Rattle.statements.proofs.assign.is_address_field.Tie as tie
+
+pub is-address-field-spec : {M : Type 1} → statement M
+is-address-field-spec =
+    tie.close
+    (tie.spec
+    (λ c κs. search needs)
+    (λ c. search needs)
+    (λ c. search (needs, found-next 6))
+    (λ c κs. search needs)
+    (λ c. search needs)
+    (λ c κs. search needs)
+    (λ c. search needs)
+    (λ c. search (needs, address))
+    (λ c. search (needs, no-address)))

@@ -1,0 +1,2 @@
+pub mod Assigned
+pub mod Checked
