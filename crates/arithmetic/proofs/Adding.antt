@@ -1,23 +1,23 @@
 -- Assignments that add something unbounded. Assumes nothing.
 use mathlib.Core.Logic.{_≢_}
-use mathlib.Core.Path.{_≡_, refl, sym, ap, _∙_}
+use mathlib.Core.Path.{_≡_, refl, sym, _∙_}
 use mathlib.Core.List.{List}
 use mathlib.Core.Bool.{Bool, true, false, not, _&&_, _||_}
 use mathlib.Core.Option.{Option, none, some}
-use Prim.Native.Nat.{ℕ, zero, suc, _<_, _≤_}
+use Prim.Native.Nat.{ℕ, zero, suc}
 use native.Mathlib.Omega.{arith}
 use lib.Dec.{eqb, leb}
 use lib.ListN.{getD}
 use borrow.Author.Tests.{eqb-true, eqb-false, ne-eqb, le-leb, lt-leb, not-true, not-false}
 use Rattle.sheet.specs.Scratch.{kindAt, opAt}
-use Rattle.rules.specs.Ast.{AssignOp, Set, AddTo, SubFrom, assignOps, Expr, Entry}
+use Rattle.rules.specs.Ast.{AssignOp, Set, SubFrom, assignOps, Expr, Entry}
 use Rattle.rules.specs.Arithmetic.{opPlace, isOp, any, acknowledged, sumTerms, without, isSum, addends, bounded}
 use Rattle.rules.specs.Typing.{isSome}
 use Rattle.rules.specs.Standing.{exprAt}
 use Rattle.rules.proofs.Exprs.{by-kind}
 use Rattle.declared.specs.Lines.{ExprAt}
 use Rattle.arithmetic.specs.Tests.{others, added, addsUnbounded}
-use Rattle.arithmetic.proofs.Ops.{op-place}
+use Rattle.arithmetic.proofs.Ops.{op-place, neither}
 
 -- ------------------------------------------------------------ the value by its kind
 
@@ -52,31 +52,27 @@ module _ (E : Entry) (op : AssignOp) (T W : Expr) where
   unfolding addsUnbounded
   adds-addends e = rw (addsUnbounded, e) refl
 
+-- `sub` adds nothing
+adds-less : (E : Entry) (T W : Expr) → addsUnbounded E SubFrom T W ≡ false
+unfolding added addends
+adds-less E T W = go (acknowledged W) refl
+  where
+    go : (b : Bool) → acknowledged W ≡ b → addsUnbounded E SubFrom T W ≡ false
+    go true q = adds-acknowledged E SubFrom T W q
+    go false q = adds-addends E SubFrom T W q
+
 -- What `adds_unbounded` meets: the operator's number o, and a value of the kind k at line i.
 module _ (s S : List ℕ) (E : Entry) (T : Expr) (o i k : ℕ) (h : ExprAt s S i) (e : k ≡ kindAt S i) where
-  adds-none : (op : AssignOp) → (acknowledged (exprAt s i) ≡ false → addends op T (exprAt s i) ≡ none) → addsUnbounded E op T (exprAt s i) ≡ false
-  unfolding added
-  adds-none op f = go (acknowledged (exprAt s i)) refl
-    where
-      go : (b : Bool) → acknowledged (exprAt s i) ≡ b → addsUnbounded E op T (exprAt s i) ≡ false
-      go true q = adds-acknowledged E op T (exprAt s i) q
-      go false q = adds-addends E op T (exprAt s i) q ∙ rw (f q) refl
-
   pub adds-nothing : (eqb o 2 || leb 32 k) ≡ true → false ≡ addsUnbounded E (getD assignOps o Set) T (exprAt s i)
-  unfolding addends
   adds-nothing f = go (eqb o 2) refl f
     where
       go : (b : Bool) → eqb o 2 ≡ b → (b || leb 32 k) ≡ true → false ≡ addsUnbounded E (getD assignOps o Set) T (exprAt s i)
-      go true q g = sym (rw (eqb-true o 2 q) (adds-none SubFrom (λ _. refl)))
+      go true q g = sym (rw (eqb-true o 2 q) (adds-less E T (exprAt s i)))
       go false q g = sym (adds-acknowledged E (getD assignOps o Set) T (exprAt s i) (acknowledged-at s S i h ∙ rw (← e) g))
 
   module _ (f : (eqb o 2 || leb 32 k) ≡ false) where
     both : (eqb o 2 ≡ false) × (leb 32 k ≡ false)
-    both = go (eqb o 2) f
-      where
-        go : (b : Bool) → (b || leb 32 k) ≡ false → (b ≡ false) × (leb 32 k ≡ false)
-        go true g = absurd (let z : _≡_ {A = ℕ} 0 1 = cc in omega arith)
-        go false g = (refl, g)
+    both = neither (eqb o 2) (leb 32 k) f
 
     by-addends : addsUnbounded E (getD assignOps o Set) T (exprAt s i) ≡ added E (addends (getD assignOps o Set) T (exprAt s i))
     by-addends = adds-addends E (getD assignOps o Set) T (exprAt s i) (acknowledged-at s S i h ∙ rw (← e) (both .1))

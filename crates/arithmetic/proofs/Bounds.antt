@@ -4,31 +4,29 @@ use mathlib.Core.Path.{_≡_, refl, sym, ap, _∙_}
 use mathlib.Core.List.{List, [], _∷_, map}
 use mathlib.Core.Bool.{Bool, true, false, not, _&&_, _||_}
 use mathlib.Core.Option.{Option, none, some, Option·map}
-use Prim.Native.Nat.{ℕ, suc, _+_, _<_, _≤_}
+use Prim.Native.Nat.{ℕ, suc, _+_, _<_}
 use native.Mathlib.Numerals.{add-one}
 use native.Mathlib.Omega.{arith}
 use mir.Syntax.{w64}
 use mir.Val.{Fits}
-use lib.Dec.{eqb}
 use lib.ListN.{length}
 use borrow.Author.Tests.{eq-eqb, ne-eqb, not-true, not-false}
 use Rattle.text.specs.Text.{bytes, same}
 use Rattle.sheet.specs.Grammar as grammar
 use Rattle.sheet.specs.Scratch.{kindAt, nameAt, entry}
-use Rattle.sheet.specs.Say.{nspanAt}
 use Rattle.sheet.specs.Tree.{Node, node}
 use Rattle.rules.specs.Text.{Name, is, among, lastNamed, get}
-use Rattle.rules.specs.Ast.{Expr, Entry, Param, paramOf, typeName}
+use Rattle.rules.specs.Ast.{Entry, Param, paramOf, typeName}
 use Rattle.rules.specs.Asking.{Ty}
-use Rattle.rules.specs.Declared.{intOf, tyOfDecl}
+use Rattle.rules.specs.Declared.{tyOfDecl}
 use Rattle.rules.specs.Model.{isAssetParam}
-use Rattle.rules.specs.Typing.{isSome, identOf, dotOf}
+use Rattle.rules.specs.Typing.{isSome, identOf}
 use Rattle.rules.specs.Arithmetic.{any, amountOf, isMintedAmount, boundedAddend, isMints, assetParams, bounded}
 use Rattle.rules.specs.Check.{paramTypes}
 use Rattle.rules.specs.Standing.{nodeName, nodesAt, exprAt, paramAt, paramsAt, typeAt, entryAt}
 use Rattle.rules.proofs.Exprs.{int-at, ident-at, is-dot-at, dot-at}
 use Rattle.rules.proofs.Standing.{row-first}
-use Rattle.rules.proofs.Records.{EntryParts, param-at}
+use Rattle.rules.proofs.Records.{param-at}
 use Rattle.declared.specs.Found.{foundNode, Stretch, Last, ofKind}
 use Rattle.declared.specs.Lines.{Typed, EntryAt, ExprAt, RecordAt}
 use Rattle.declared.specs.declared.model.Found.{Found}
@@ -37,7 +35,7 @@ use Rattle.declared.proofs.Fields.{last-map, all-kind}
 use Rattle.declared.proofs.Types.{named-word}
 use Rattle.arithmetic.specs.Tests.{names, amountBounded}
 use Rattle.arithmetic.proofs.Ops.{fits-next}
-use Rattle.arithmetic.proofs.Rows.{parts-of, assetOf}
+use Rattle.arithmetic.proofs.Rows.{parts-of}
 
 both-not : (a b : Bool) → b ≡ false → (a && b) ≡ false
 both-not true b e = e

@@ -1,9 +1,9 @@
 -- Clauses that cap a name from above. Assumes nothing.
 use mathlib.Core.Logic.{_≢_}
-use mathlib.Core.Path.{_≡_, refl, sym, ap, _∙_}
+use mathlib.Core.Path.{_≡_, refl, sym, _∙_}
 use mathlib.Core.List.{List}
 use mathlib.Core.Bool.{Bool, true, false, not, _&&_, _||_}
-use Prim.Native.Nat.{ℕ, suc, _+_, _-_, _<_, _≤_}
+use Prim.Native.Nat.{ℕ, _+_, _<_, _≤_}
 use native.Mathlib.Numerals.{add-one}
 use native.Mathlib.Omega.{arith}
 use mir.Syntax.{w64}
@@ -25,7 +25,7 @@ use Rattle.rules.proofs.Records.{limits-at}
 use Rattle.declared.specs.Lines.{ExprAt, RecordAt}
 use Rattle.declared.proofs.Tables.{or-false}
 use Rattle.arithmetic.specs.Tests.{compares}
-use Rattle.arithmetic.proofs.Ops.{op-place, either, neither, fits-next, the-bin, is-bin, is-op}
+use Rattle.arithmetic.proofs.Ops.{op-place, either, neither, fits-next, the-bin, the-op}
 use Rattle.arithmetic.proofs.Rows.{no-limits}
 use Rattle.arithmetic.proofs.Walks.{Walk, walk-start, walk-over, walk-here, walk-found, walk-inside, walk-behind, any-joined}
 
@@ -43,7 +43,7 @@ module _ (s S : List ℕ) (i : ℕ) (x : Name) (h : ExprAt s S i) (b : Bool) (t 
   module _ (q : not b ≡ false) (j : ℕ) (f : j ≡ endAt S (i + 1)) (m : Bool) (r : m ≡ mentions (exprAt s j) x) where
     difference : subtracts (exprAt s i) x ≡ (m && not (mentions (exprAt s (i + 1)) x))
     unfolding subtracts isOp opPlace
-    difference = rw (the-bin s S i h (is-bin s S i h 9 b t (not-false b q)), is-op s S i h 9 b t (not-false b q), ← f, ← r) refl
+    difference = rw (the-op s S i h 9 b t (not-false b q), ← f, ← r) refl
 
     pub not-taken : not m ≡ true → false ≡ subtracts (exprAt s i) x
     not-taken e = sym (difference ∙ rw (not-true m e) refl)
@@ -80,7 +80,7 @@ module _ (s S : List ℕ) (i : ℕ) (x : Name) (h : ExprAt s S i) (k : ℕ) (e :
     b = exprAt s j
 
     by-op : compares (exprAt s i) x ≡ compares (binary i (spanAt s S i) (getD binOps o Shr) a b) x
-    by-op = rw (the-bin s S i h (sym e ∙ q), f, g) refl
+    by-op = rw (the-bin s S i h k e q, f, g) refl
 
     pub compares-below : (r : Bool) → (eqb o 6 || eqb o 4) ≡ true → r ≡ upperBounds (exprAt s (i + 1)) (exprAt s j) x → r ≡ compares (exprAt s i) x
     unfolding compares isOp opPlace
@@ -96,8 +96,8 @@ module _ (s S : List ℕ) (i : ℕ) (x : Name) (h : ExprAt s S i) (k : ℕ) (e :
       pub compares-not : (eqb o 7 || eqb o 5) ≡ false → false ≡ compares (exprAt s i) x
       unfolding compares isOp opPlace
       compares-not v =
-          let y = neither o 6 4 t in
-          let z = neither o 7 5 v in
+          let y = neither (eqb o 6) (eqb o 4) t in
+          let z = neither (eqb o 7) (eqb o 5) v in
           sym (by-op
           ∙ rw (op-place o 6 (omega arith), op-place o 4 (omega arith), op-place o 7 (omega arith), op-place o 5 (omega arith), y .0, y .1, z .0, z .1) refl)
 
@@ -122,7 +122,7 @@ caps-start s S x end i h e = walk-start s S _ _ end i h e (sym (or-false _))
 module _ (s S : List ℕ) (i : ℕ) (x : Name) (h : ExprAt s S i) (b : Bool) (t : b ≡ (eqb (kindAt S i) 29 && eqb (opAt S i) 1)) where
   caps-and : b ≡ true → capsFromAbove (exprAt s i) x ≡ capsAny (partsOf (exprAt s i)) x
   unfolding capsFromAbove capsAny partsOf isOp opPlace
-  caps-and q = rw (the-bin s S i h (is-bin s S i h 1 b t q), is-op s S i h 1 b t q) (twice (capsFromAbove (exprAt s (i + 1)) x) (capsFromAbove (exprAt s (endAt S (i + 1))) x))
+  caps-and q = rw (the-op s S i h 1 b t q) (twice (capsFromAbove (exprAt s (i + 1)) x) (capsFromAbove (exprAt s (endAt S (i + 1))) x))
     where
       twice : (a c : Bool) → (((a || c) || false) || false) ≡ (a || (c || false))
       twice true c = refl

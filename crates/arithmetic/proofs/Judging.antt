@@ -1,8 +1,8 @@
 -- Statements that may overflow. Assumes nothing.
 use mathlib.Core.Logic.{_≢_}
 use mathlib.Core.Path.{_≡_, refl, sym, ap, _∙_, subst}
-use mathlib.Core.List.{List, [], _∷_}
-use mathlib.Core.Bool.{Bool, true, false, not, _&&_, _||_}
+use mathlib.Core.List.{List, _∷_}
+use mathlib.Core.Bool.{Bool, true, false, not, _||_}
 use mathlib.Core.Option.{Option, none, some}
 use Prim.Native.Nat.{ℕ, suc, _+_, _-_, _<_, _≤_}
 use native.Mathlib.Numerals.{add-one}
@@ -19,11 +19,11 @@ use Rattle.rules.specs.Asking.{Ty, Rule, Res, ok, refused, _>>_, expect, ifSome
 use Rattle.rules.specs.Arithmetic.{any, acknowledged, addends, bounded, limitsBound, overflowText, checkSum, checkArithmetic}
 use Rattle.rules.specs.Check.{paramTypes}
 use Rattle.rules.specs.Typing.{isSome, identOf}
-use Rattle.rules.specs.Standing.{exprAt, stmtAt, stmtsAt, entryAt, namedAt, placeAt, Loaded, Row}
+use Rattle.rules.specs.Standing.{exprAt, stmtAt, stmtsAt, entryAt, placeAt, Loaded, Row}
 use Rattle.rules.proofs.Parts.{stop, _also_, pick}
 use Rattle.rules.proofs.Exprs.{ident-at}
 use Rattle.rules.proofs.Standing.{row-first, row-rest}
-use Rattle.rules.proofs.Records.{EntryParts, named, guard-at, let-at, emit-at, assign-at, do-at, stmts-next, no-stmts}
+use Rattle.rules.proofs.Records.{named, guard-at, let-at, emit-at, assign-at, do-at, stmts-next, no-stmts}
 use Rattle.declared.specs.Answers.{Answers}
 use Rattle.declared.specs.Lines.{EntryAt, ExprAt, RecordAt}
 use Rattle.declared.specs.Refusal.{refusalOf, doneOf}

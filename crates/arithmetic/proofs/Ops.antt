@@ -1,5 +1,4 @@
 -- Operators by their numbers, and the lines of their operands. Assumes nothing.
-use mathlib.Core.Logic.{_≢_}
 use mathlib.Core.Path.{_≡_, refl, sym, _∙_}
 use mathlib.Core.List.{List, [], _∷_}
 use mathlib.Core.Bool.{Bool, true, false, not, _&&_, _||_, and-eq-true-iff}
@@ -11,10 +10,9 @@ use mir.Val.{Fits}
 use lib.Dec.{eqb, ltb}
 use lib.ListN.{length, getD, drop}
 use borrow.Author.Tests.{eqb-true, ne-eqb, ltb-true, ltb-false, not-false}
-use Rattle.sheet.specs.Grammar as grammar
 use Rattle.sheet.specs.Scratch.{kindAt, opAt, endAt, skip}
 use Rattle.sheet.specs.Say.{spanAt}
-use Rattle.rules.specs.Ast.{Shr, binOps, BinOp, Expr, binary}
+use Rattle.rules.specs.Ast.{Shr, binOps, binary}
 use Rattle.rules.specs.Arithmetic.{opPlace}
 use Rattle.rules.specs.Standing.{exprAt}
 use Rattle.rules.proofs.Parts.{stop, _also_, pick}
@@ -33,7 +31,7 @@ last-one d (suc n) zero (x ∷ []) e h = refl
 last-one d (suc n) zero (x ∷ y ∷ xs) e h = absurd (let z : _≡_ {A = ℕ} 0 1 = cc in omega arith)
 last-one d (suc n) (suc m) (x ∷ xs) e h = last-one d n m xs e (omega arith)
 
--- no operator but the last has the number p of another
+-- the operator of number n stands at place n, but from 13 on it is the last
 pub op-place : (n p : ℕ) → p < 13 → eqb (opPlace (getD binOps n Shr)) p ≡ eqb n p
 unfolding opPlace
 op-place n p h = go (ltb n 13) refl
@@ -58,12 +56,9 @@ either P n a b e x y = go (eqb n a) refl e
     go true q f = rw (eqb-true n a q) x
     go false q f = rw (eqb-true n b f) y
 
-pub neither : (n a b : ℕ) → (eqb n a || eqb n b) ≡ false → (eqb n a ≡ false) × (eqb n b ≡ false)
-neither n a b e = go (eqb n a) (eqb n b) e
-  where
-    go : (t u : Bool) → (t || u) ≡ false → (t ≡ false) × (u ≡ false)
-    go true u f = absurd (let z : _≡_ {A = ℕ} 0 1 = cc in omega arith)
-    go false u f = (refl, f)
+pub neither : (a b : Bool) → (a || b) ≡ false → (a ≡ false) × (b ≡ false)
+neither true b e = absurd (let z : _≡_ {A = ℕ} 0 1 = cc in omega arith)
+neither false b e = (refl, e)
 
 -- ------------------------------------------------------------ the next line
 
@@ -75,43 +70,36 @@ expr-next s S i h l = fits-next S i (h .here .within) l
 
 -- ------------------------------------------------------------ a `bin`
 
--- What is told of a `bin` at line i.
 module _ (s S : List ℕ) (i : ℕ) (h : ExprAt s S i) where
-  module _ (e : kindAt S i ≡ 29) where
+  -- What is told of a `bin` at line i, by its kind k.
+  module _ (k : ℕ) (e : k ≡ kindAt S i) (q : k ≡ 29) where
     pub the-bin : exprAt s i ≡ binary i (spanAt s S i) (getD binOps (opAt S i) Shr) (exprAt s (i + 1)) (exprAt s (endAt S (i + 1)))
-    the-bin = rw (add-one i) (bin-at (h .loaded) (h .here) e .0)
+    the-bin = rw (add-one i) (bin-at (h .loaded) (h .here) (sym e ∙ q) .0)
 
     pub bin-left : ExprAt s S (i + 1)
-    bin-left = rw (add-one i) (record { loaded = h .loaded; here = row-first (bin-at (h .loaded) (h .here) e .1) })
+    bin-left = rw (add-one i) (record { loaded = h .loaded; here = row-first (bin-at (h .loaded) (h .here) (sym e ∙ q) .1) })
 
     pub bin-right : (j : ℕ) → j ≡ endAt S (i + 1) → ExprAt s S j
-    bin-right j q = rw (q, add-one i) (record { loaded = h .loaded; here = row-first (row-rest (bin-at (h .loaded) (h .here) e .1)) })
+    bin-right j f =
+        rw (f, add-one i) (record { loaded = h .loaded; here = row-first (row-rest (bin-at (h .loaded) (h .here) (sym e ∙ q) .1)) })
 
-  -- ... by its kind k
-  module _ (k : ℕ) (e : k ≡ kindAt S i) (q : k ≡ 29) where
-    pub bin-left' : ExprAt s S (i + 1)
-    bin-left' = bin-left (sym e ∙ q)
+  -- ... and by the test of its operator.
+  module _ (o : ℕ) (b : Bool) (t : b ≡ (eqb (kindAt S i) 29 && eqb (opAt S i) o)) where
+    both : b ≡ true → (eqb (kindAt S i) 29 ≡ true) × (eqb (opAt S i) o ≡ true)
+    both q = and-eq-true-iff (eqb (kindAt S i) 29) (eqb (opAt S i) o) .0 (sym t ∙ q)
 
-    pub bin-right' : (j : ℕ) → j ≡ endAt S (i + 1) → ExprAt s S j
-    bin-right' j f = bin-right (sym e ∙ q) j f
+    is-bin : b ≡ true → kindAt S i ≡ 29
+    is-bin q = eqb-true (kindAt S i) 29 (both q .0)
 
-  -- ... by the test of its operator
-  module _ (o : ℕ) (b : Bool) (t : b ≡ (eqb (kindAt S i) 29 && eqb (opAt S i) o)) (q : b ≡ true) where
-    both : (eqb (kindAt S i) 29 ≡ true) × (eqb (opAt S i) o ≡ true)
-    both = and-eq-true-iff (eqb (kindAt S i) 29) (eqb (opAt S i) o) .0 (sym t ∙ q)
+    -- the expression with this operator
+    pub the-op : b ≡ true → exprAt s i ≡ binary i (spanAt s S i) (getD binOps o Shr) (exprAt s (i + 1)) (exprAt s (endAt S (i + 1)))
+    the-op q = rw (← eqb-true (opAt S i) o (both q .1)) (the-bin (kindAt S i) refl (is-bin q))
 
-    pub is-bin : kindAt S i ≡ 29
-    is-bin = eqb-true (kindAt S i) 29 (both .0)
+    pub op-left : not b ≡ false → ExprAt s S (i + 1)
+    op-left q = bin-left (kindAt S i) refl (is-bin (not-false b q))
 
-    pub is-op : opAt S i ≡ o
-    is-op = eqb-true (opAt S i) o (both .1)
-
-  module _ (o : ℕ) (b : Bool) (t : b ≡ (eqb (kindAt S i) 29 && eqb (opAt S i) o)) (q : not b ≡ false) where
-    pub op-left : ExprAt s S (i + 1)
-    op-left = bin-left (is-bin o b t (not-false b q))
-
-    pub op-right : (j : ℕ) → j ≡ endAt S (i + 1) → ExprAt s S j
-    op-right j f = bin-right (is-bin o b t (not-false b q)) j f
+    pub op-right : (j : ℕ) → not b ≡ false → j ≡ endAt S (i + 1) → ExprAt s S j
+    op-right j q f = bin-right (kindAt S i) refl (is-bin (not-false b q)) j f
 
 -- ------------------------------------------------------------ the line after some records
 

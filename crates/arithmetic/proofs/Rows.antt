@@ -39,14 +39,14 @@ clauses-line S i m r e f = f ∙ rw (e, add-one i) refl
 pub record Seeking {A : Type 0} (s S : List ℕ) (σ : grammar.Sort) (items : ℕ → ℕ → List A) (item : ℕ → A) (p : A → Bool) (whole : Bool) (left at : ℕ) : Type 0 where
   pub loaded : Loaded s S
   pub row : Row S σ left at
-  pub none' : (i : ℕ) → items 0 i ≡ []
+  pub no-more : (i : ℕ) → items 0 i ≡ []
   pub step : (m i : ℕ) → i < length S / 8 → items (suc m) i ≡ item i ∷ items m (endAt S i)
   pub rest : whole ≡ any p (items left at)
 
 module _ {A : Type 0} (s S : List ℕ) (σ : grammar.Sort) (items : ℕ → ℕ → List A) (item : ℕ → A) (p : A → Bool) (whole : Bool) (left at : ℕ) (g : Seeking s S σ items item p whole left at) where
   pub seek-over : left ≤ 0 → false ≡ whole
   unfolding any
-  seek-over h = sym (g .rest ∙ rw (let e : left ≡ 0 = omega arith in e, g .none' at) refl)
+  seek-over h = sym (g .rest ∙ rw (let e : left ≡ 0 = omega arith in e, g .no-more at) refl)
 
   module _ (h : 0 < left) where
     more-left : left ≡ suc (left - 1)
@@ -67,34 +67,34 @@ module _ {A : Type 0} (s S : List ℕ) (σ : grammar.Sort) (items : ℕ → ℕ 
 
     pub seek-next : (b : Bool) (at' : ℕ) → b ≡ p (item at) → b ≡ false → at' ≡ endAt S at → Seeking s S σ items item p whole (left - 1) at'
     seek-next b at' e q f =
-        record { loaded = g .loaded; row = rw f (row-rest some-row); none' = g .none'; step = g .step; rest = turn ∙ rw (← e, q, f) refl }
+        record { loaded = g .loaded; row = rw f (row-rest some-row); no-more = g .no-more; step = g .step; rest = turn ∙ rw (← e, q, f) refl }
 
 -- ------------------------------------------------------------ clauses
 
--- the clauses of an entry, and those of which p
-module _ (s S : List ℕ) (i : ℕ) (p : Clause → Bool) where
-  abbrev pub Clauses : Bool → ℕ → ℕ → Type 0
-  Clauses whole left at = Seeking s S grammar.Clause (clausesAt s) (clauseAt s) p whole left at
+abbrev pub Clauses : (s S : List ℕ) → (Clause → Bool) → Bool → ℕ → ℕ → Type 0
+Clauses s S p whole left at = Seeking s S grammar.Clause (clausesAt s) (clauseAt s) p whole left at
 
-  clauses-from : (left at : ℕ) → EntryAt s S i → at ≡ skip S (entry S i 5) (suc i) → left ≡ entry S i 6 → Clauses (any p (entryAt s i .clauses)) left at
-  clauses-from left at h e f =
-      let q = parts-of s S i h in
-      rw (e, f)
-      (record {
-        loaded = h .loaded;
-        row = q .clauses;
-        none' = no-clauses s;
-        step = λ m j w. clauses-next (h .loaded) m w;
-        rest = rw (q .is) refl;
-      })
+-- those of an entry
+clauses-from : (s S : List ℕ) (i : ℕ) (p : Clause → Bool) (left at : ℕ) → EntryAt s S i → at ≡ skip S (entry S i 5) (suc i) → left ≡ entry S i 6
+    → Clauses s S p (any p (entryAt s i .clauses)) left at
+clauses-from s S i p left at h e f =
+    let q = parts-of s S i h in
+    rw (e, f)
+    (record {
+      loaded = h .loaded;
+      row = q .clauses;
+      no-more = no-clauses s;
+      step = λ m j w. clauses-next (h .loaded) m w;
+      rest = rw (q .is) refl;
+    })
 
 pub limits-start : (s S : List ℕ) (i left at : ℕ) (x : Name) → EntryAt s S i → at ≡ skip S (entry S i 5) (suc i) → left ≡ entry S i 6
-    → Clauses s S i (limitsCap x) (limitsBound (entryAt s i) x) left at
+    → Clauses s S (limitsCap x) (limitsBound (entryAt s i) x) left at
 unfolding limitsBound
 limits-start s S i left at x h e f = clauses-from s S i (limitsCap x) left at h e f
 
 pub mints-start : (s S : List ℕ) (i left at : ℕ) → EntryAt s S i → at ≡ skip S (entry S i 5) (suc i) → left ≡ entry S i 6
-    → Clauses s S i isMints (any isMints (entryAt s i .clauses)) left at
+    → Clauses s S isMints (any isMints (entryAt s i .clauses)) left at
 mints-start s S i left at h e f = clauses-from s S i isMints left at h e f
 
 -- a clause by its kind
@@ -113,7 +113,7 @@ module _ {s S : List ℕ} (d : Loaded s S) {i : ℕ} (h : Here S grammar.Clause 
       ((λ y e. absurd (y refl)) also (λ y e. rw (denies-at d h e .0) refl) also (λ y e. rw (mints-at d h e .0) refl) also (λ y e. rw (after-at d h e .0) refl) also stop)
       (h .kind .0) (h .kind .1) n refl
 
-module _ (s S : List ℕ) (i : ℕ) (whole : Bool) (left at : ℕ) (g : Clauses s S i isMints whole left at) (h : 0 < left) (k : ℕ) (e : k ≡ kindAt S at) where
+module _ (s S : List ℕ) (whole : Bool) (left at : ℕ) (g : Clauses s S isMints whole left at) (h : 0 < left) (k : ℕ) (e : k ≡ kindAt S at) where
   here' : RecordAt grammar.Clause s S at
   here' = seek-here s S grammar.Clause (clausesAt s) (clauseAt s) isMints whole left at g h
 
@@ -122,7 +122,7 @@ module _ (s S : List ℕ) (i : ℕ) (whole : Bool) (left at : ℕ) (g : Clauses 
       seek-found s S grammar.Clause (clausesAt s) (clauseAt s) isMints whole left at g h true
       (rw (is-mints (here' .loaded) (here' .here), ← e) (sym (eq-eqb k 13 q))) refl
 
-  pub mints-next : (at' : ℕ) → k ≢ 13 → at' ≡ endAt S at → Clauses s S i isMints whole (left - 1) at'
+  pub mints-next : (at' : ℕ) → k ≢ 13 → at' ≡ endAt S at → Clauses s S isMints whole (left - 1) at'
   mints-next at' q f =
       seek-next s S grammar.Clause (clausesAt s) (clauseAt s) isMints whole left at g h false at'
       (rw (is-mints (here' .loaded) (here' .here), ← e) (sym (ne-eqb k 13 q))) refl f
@@ -158,7 +158,7 @@ assets-start s S i left at x h e f =
     (record {
       loaded = h .loaded;
       row = q .params;
-      none' = no-params s;
+      no-more = no-params s;
       step = λ m j w. params-next (h .loaded) m w;
       rest = rw (q .is) (among-assets x (paramsAt s (entry S i 5) (suc i)));
     })

@@ -2,9 +2,9 @@
 use mathlib.Core.Logic.{_≢_}
 use mathlib.Core.Path.{_≡_, refl, sym, ap, _∙_}
 use mathlib.Core.List.{List, [], _∷_, _++_, append-nil, append-assoc}
-use mathlib.Core.Bool.{Bool, true, false, not, _&&_, _||_}
+use mathlib.Core.Bool.{Bool, true, false, not, _&&_}
 use mathlib.Core.Option.{Option, none, some, Option·map}
-use Prim.Native.Nat.{ℕ, suc, _+_, _-_, _<_, _≤_}
+use Prim.Native.Nat.{ℕ, _+_, _<_, _≤_}
 use native.Mathlib.Omega.{arith}
 use lib.Dec.{eqb}
 use borrow.Author.Tests.{eq-eqb, ne-eqb, not-true, not-false}
@@ -13,13 +13,13 @@ use Rattle.sheet.specs.Scratch.{kindAt, opAt, nameAt, endAt}
 use Rattle.rules.specs.Text.{Name}
 use Rattle.rules.specs.Ast.{Expr, Exprs, nil, more, Entry}
 use Rattle.rules.specs.Arithmetic.{opPlace, isOp, any, sumTerms, sameTarget, without, bounded}
-use Rattle.rules.specs.Typing.{isSome, identOf}
+use Rattle.rules.specs.Typing.{isSome}
 use Rattle.rules.specs.Standing.{exprAt}
 use Rattle.rules.proofs.Exprs.{by-kind, ident-at}
 use Rattle.rules.proofs.Forest.{joined, partsOf}
 use Rattle.declared.specs.Lines.{ExprAt}
 use Rattle.arithmetic.specs.Tests.{others}
-use Rattle.arithmetic.proofs.Ops.{op-place, the-bin, is-bin, is-op}
+use Rattle.arithmetic.proofs.Ops.{op-place, the-op}
 use Rattle.arithmetic.proofs.Walks.{Walk, walk-start, walk-over, walk-here, walk-found, walk-inside, walk-behind}
 
 -- ------------------------------------------------------------ same_target
@@ -61,7 +61,7 @@ module _ (s S : List ℕ) (i : ℕ) (h : ExprAt s S i) (b : Bool) (t : b ≡ (eq
   pub sum-terms : b ≡ true → (es : Exprs) → termsAny (more (exprAt s i) es) ≡ termsAny (joined (partsOf (exprAt s i)) es)
   unfolding termsAny sumTerms partsOf isOp opPlace joined
   sum-terms q es =
-      rw (the-bin s S i h (is-bin s S i h 8 b t q), is-op s S i h 8 b t q)
+      rw (the-op s S i h 8 b t q)
       (append-assoc (sumTerms (exprAt s (i + 1))) (sumTerms (exprAt s (endAt S (i + 1)))) (termsAny es))
 
   pub one-term : b ≡ false → (es : Exprs) → termsAny (more (exprAt s i) es) ≡ exprAt s i ∷ termsAny es

@@ -12,7 +12,6 @@ use sheet::name;
 use sheet::op;
 use sheet::second;
 use sheet::third;
-ghost use mathlib.Core.Path.{_≡_};
 ghost use Rattle.sheet.specs.Grammar.{Stmt};
 ghost use Rattle.rules.specs.Arithmetic.{checkArithmetic, checkSum};
 ghost use Rattle.rules.specs.Check.{paramTypes};
@@ -59,7 +58,7 @@ pub fn check_arithmetic(sheet: &[u8], lines: &[u16], i: usize) -> Done
     requires { ⌜ EntryAt (now sheet) (now lines) i ⌝ }
     ensures { λ r. ⌜ Answers (checkArithmetic (entryAt (now (sheet .entry)) i) (paramTypes (entryAt (now (sheet .entry)) i .params))) (doneOf (now (sheet .entry)) r) ⌝ }
 {
-    let mut at = after(lines, clauses(sheet, lines, i), second(lines, i));
+    let mut at = after(lines, clauses(lines, i), second(lines, i));
     let mut left = third(lines, i);
     while 0 < left {
         let judged = check_sum(sheet, lines, i, at);

@@ -127,7 +127,7 @@ pub fn limits_bound(sheet: &[u8], lines: &[u16], entry: usize, x: &[u8]) -> bool
     requires { ⌜ EntryAt (now sheet) (now lines) entry ⌝ }
     ensures { λ r. ⌜ r ≡ limitsBound (entryAt (now (sheet .entry)) entry) (now (x .entry)) ⌝ }
 {
-    let mut at = clauses(sheet, lines, entry);
+    let mut at = clauses(lines, entry);
     let mut left = second(lines, entry);
     while 0 < left {
         if limits_cap(sheet, lines, at, x) {

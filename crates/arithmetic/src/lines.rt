@@ -5,10 +5,10 @@ use sheet::kind;
 use sheet::op;
 ghost use mathlib.Core.Bool.{_&&_};
 ghost use mathlib.Core.Path.{_≡_};
-ghost use Prim.Native.Nat.{suc};
+ghost use Prim.Native.Nat.{suc, _/_, _<_};
 ghost use lib.Dec.{eqb};
+ghost use lib.ListN.{length};
 ghost use Rattle.sheet.specs.Scratch.{entry as entryOf, kindAt, opAt, skip};
-ghost use Rattle.declared.specs.Lines.{EntryAt};
 
 // Whether line i is a `bin` with the operator of number o.
 pub fn is_op(lines: &[u16], i: usize, o: usize) -> bool
@@ -31,8 +31,8 @@ pub fn after(lines: &[u16], from: usize, count: usize) -> usize
 }
 
 // The line of an entry's first clause, or of what stands behind where it has none.
-pub fn clauses(sheet: &[u8], lines: &[u16], entry: usize) -> usize
-    requires { ⌜ EntryAt (now sheet) (now lines) entry ⌝ }
+pub fn clauses(lines: &[u16], entry: usize) -> usize
+    requires { ⌜ entry < length (now lines) / 8 ⌝ }
     ensures { λ r. ⌜ r ≡ skip (now (lines .entry)) (entryOf (now (lines .entry)) entry 5) (suc entry) ⌝ }
 {
     after(lines, entry + 1, first(lines, entry))

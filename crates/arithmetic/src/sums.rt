@@ -10,7 +10,6 @@ use sheet::name;
 use sheet::second;
 use text::is_word;
 ghost use mathlib.Core.Bool.{_&&_, not};
-ghost use mathlib.Core.List.{map};
 ghost use mathlib.Core.Path.{_≡_};
 ghost use lib.ListN.{getD};
 ghost use Rattle.text.specs.Text.{same};
@@ -69,7 +68,7 @@ fn has_mints(sheet: &[u8], lines: &[u16], entry: usize) -> bool
     requires { ⌜ EntryAt (now sheet) (now lines) entry ⌝ }
     ensures { λ r. ⌜ r ≡ any isMints (entryAt (now (sheet .entry)) entry .clauses) ⌝ }
 {
-    let mut at = clauses(sheet, lines, entry);
+    let mut at = clauses(lines, entry);
     let mut left = second(lines, entry);
     while 0 < left {
         if kind(lines, at) == 13 {

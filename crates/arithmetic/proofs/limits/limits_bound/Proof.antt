@@ -6,7 +6,7 @@ use Rattle.arithmetic.proofs.limits.limits_bound.Statement.{statement}
 use Rattle.arithmetic.proofs.limits.limits_bound.Tie as tie
 
 abbrev Inv : tie.InvT-loop
-Inv sheet lines entry x at₀ left₀ at left = Clauses sheet lines entry (limitsCap x) (limitsBound (entryAt sheet entry) x) left at
+Inv sheet lines entry x at₀ left₀ at left = Clauses sheet lines (limitsCap x) (limitsBound (entryAt sheet entry) x) left at
 
 abbrev μ : tie.MeasureT-loop
 μ sheet lines entry x at₀ left₀ at left = left

@@ -6,7 +6,7 @@ use Rattle.arithmetic.proofs.sums.has_mints.Statement.{statement}
 use Rattle.arithmetic.proofs.sums.has_mints.Tie as tie
 
 abbrev Inv : tie.InvT-loop
-Inv sheet lines entry at₀ left₀ at left = Clauses sheet lines entry isMints (any isMints (entryAt sheet entry .clauses)) left at
+Inv sheet lines entry at₀ left₀ at left = Clauses sheet lines isMints (any isMints (entryAt sheet entry .clauses)) left at
 
 abbrev μ : tie.MeasureT-loop
 μ sheet lines entry at₀ left₀ at left = left
