@@ -1,0 +1,5 @@
+pub mod Doing
+pub mod Recording
+pub mod Bodies
+pub mod Entries
+pub mod Passing

@@ -1,0 +1,212 @@
+-- The records that `check` walks over: the rule of each, what the code asks, and what it promises.
+use Prim.Native.Nat.{ℕ, suc, _+_, _-_, _/_, _<_, _≤_}
+use mathlib.Core.Bool.{Bool, true, false, _&&_, _||_}
+use mathlib.Core.List.{List, [], _∷_}
+use mathlib.Core.Path.{_≡_}
+use lib.Dec.{eqb, ltb}
+use lib.ListN.{length, getD}
+use Rattle.sheet.specs.Grammar as grammar
+use Rattle.sheet.specs.Scratch.{kindAt, skip}
+use Rattle.sheet.specs.Tree.{Node}
+use Rattle.rules.specs.Text.{Name}
+use Rattle.rules.specs.Ast.{Type', Param, Entry, Stmt, guard, bind, emit, assign, do', fieldOf, clauseOf, stmtOf}
+use Rattle.rules.specs.Asking.{Ty, code, ok, Rule, ret, _>>=_, _>>_, forEach}
+use Rattle.rules.specs.Kept.{Table, kept}
+use Rattle.rules.specs.Model.{Model, values}
+use Rattle.rules.specs.Declarations.{guardianBound, storable, refuseWord64AsDigest}
+use Rattle.rules.specs.Assets.{assetCallsConsumed}
+use Rattle.rules.specs.Arithmetic.{checkArithmetic}
+use Rattle.rules.specs.KeyKinds.{checkKeyKinds}
+use Rattle.rules.specs.Typing as typing
+use Rattle.rules.specs.Statements.{checkStmtTypes, expectPredicate, refuseNameRecipient}
+use Rattle.rules.specs.Check.{clausePredicate, clauseAssets, paramTypes, checkBody, checkLocal, checkField, checkGenesis, checkEventParam, checkEntryParam, checkEntry}
+use Rattle.rules.specs.Standing.{exprAt, stmtAt, modelIn, Loaded, Here, Row}
+use Rattle.declared.specs.Found.{nodeKind}
+use Rattle.declared.specs.declared.refusal.Done.{Done}
+use Rattle.declared.specs.declared.refusal.Done.the-variants.{Fine}
+use Rattle.env.specs.Force.{Ready}
+use Rattle.env.specs.declared.env.Env.{Env}
+use Rattle.typing.specs.Asks.{Does}
+use Rattle.emits.specs.Emit.{emitRule}
+
+-- ------------------------------------------------------------ what is in force
+
+-- parameters and no locals
+unfoldable pub named : ℕ → ℕ → Bool → Env
+named params count genesis = record { params = params; count = count; body = 0; bound = 0; own = 0; later = 0; genesis = genesis }
+
+-- parameters, and the `let`s among the first `bound` statements
+unfoldable pub withLocals : ℕ → ℕ → ℕ → ℕ → Env
+withLocals params count body bound = record { params = params; count = count; body = body; bound = bound; own = 0; later = 0; genesis = false }
+
+-- a sheet that is read, its lines, and a table with a byte for each
+pub record SheetIn (s S : List ℕ) (T : Table) : Type 0 where
+  pub loaded : Loaded s S
+  pub few : length S / 8 ≤ 1024
+  pub room : length S / 8 ≤ length T
+
+-- ------------------------------------------------------------ fields, clauses, and statements of genesis
+
+unfoldable pub recordRule : typing.Env → Node → Rule Unit
+recordRule Γ t =
+    elim (eqb (nodeKind t) 6) [
+      | true ↦ checkField Γ (fieldOf t)
+      | false ↦
+          elim (ltb (nodeKind t) 15) [ true ↦ clausePredicate Γ (clauseOf t) | false ↦ checkGenesis Γ (stmtOf t) ]
+    ]
+
+-- the sorts of such records
+pub data Walked : grammar.Sort → Type 0 where
+  a-field : Walked grammar.Field
+  a-clause : Walked grammar.Clause
+  a-stmt : Walked grammar.Stmt
+
+pub record RecordIn (s S : List ℕ) (env : Env) (T : Table) (i : ℕ) : Type 0 where
+  pub ready : Ready s S env T
+  pub sort : grammar.Sort
+  pub walked : Walked sort
+  pub here : Here S sort i
+
+pub record RecordsIn (s S : List ℕ) (env : Env) (T : Table) (m i : ℕ) : Type 0 where
+  pub ready : Ready s S env T
+  pub sort : grammar.Sort
+  pub walked : Walked sort
+  pub row : Row S sort m i
+
+-- a record of kind k
+pub record KindIn (k : ℕ) (s S : List ℕ) (env : Env) (T : Table) (i : ℕ) : Type 0 where
+  pub ready : Ready s S env T
+  pub within : i < length S / 8
+  pub kind : kindAt S i ≡ k
+
+-- a clause
+pub record ClauseIn (s S : List ℕ) (env : Env) (T : Table) (i : ℕ) : Type 0 where
+  pub ready : Ready s S env T
+  pub here : Here S grammar.Clause i
+
+-- what a field declares
+unfoldable pub declaredRule : Name → Type' → Rule Unit
+declaredRule x ty = do
+  storable ty
+  refuseWord64AsDigest x ty
+
+-- ------------------------------------------------------------ parameters
+
+-- of an event or of an entry
+unfoldable pub paramRule : (event : Bool) → Param → Rule Unit
+paramRule true p = checkEventParam p
+paramRule false p = checkEntryParam p
+
+-- ------------------------------------------------------------ statements of an entry
+
+-- `checkBody` of one statement, but for the binding of a `let`
+unfoldable pub stmtRule : typing.Env → Stmt → Rule Unit
+stmtRule Γ (guard e) = expectPredicate Γ e
+stmtRule Γ (bind x value) = typing.tyOf Γ value >>= checkLocal value
+stmtRule Γ (emit x es) = emitRule Γ x es
+stmtRule Γ (assign s op target value) = checkStmtTypes Γ (assign s op target value)
+stmtRule Γ (do' e) = checkStmtTypes Γ (do' e) >>= λ _. refuseNameRecipient Γ e
+
+-- a statement, and no `let` was bound since it began
+pub record BodyStmt (s S : List ℕ) (env : Env) (T : Table) (i : ℕ) : Type 0 where
+  pub ready : Ready s S env T
+  pub here : Here S grammar.Stmt i
+  pub later : env .later ≡ 0
+
+-- ... of kind k
+pub record StmtOf (k : ℕ) (s S : List ℕ) (env : Env) (T : Table) (i : ℕ) : Type 0 where
+  pub stmt : BodyStmt s S env T i
+  pub kind : kindAt S i ≡ k
+
+-- the value of the `let` at line i has a type, which may be bound, and the table has it
+pub record Binds (s : List ℕ) (Γ : typing.Env) (T : Table) (i : ℕ) (U : Table) : Type 0 where
+  pub type : Ty
+  pub typed : kept (typing.tyOf Γ (exprAt s (suc i))) T ≡ record { res = ok type; table = U }
+  pub fits : kept (checkLocal (exprAt s (suc i)) type) U ≡ record { res = ok tt; table = U }
+  pub marked : getD U (suc i) 0 ≡ code type
+
+pub record StmtDoes (s S : List ℕ) (Γ : typing.Env) (i : ℕ) (T : Table) (r : Done) (U : Table) : Type 0 where
+  pub does : Does s (stmtRule Γ (stmtAt s i)) T r U
+  pub binds : r ≡ Fine → kindAt S i ≡ 16 → Binds s Γ T i U
+
+-- the last `left` of `total` statements, the first of them at line at
+pub record BodyAt (s S : List ℕ) (T : Table) (params count body total at left : ℕ) : Type 0 where
+  pub few : left ≤ total
+  pub row : Row S grammar.Stmt total body
+  pub here : at ≡ skip S (total - left) body
+  pub ready : Ready s S (withLocals params count body (total - left)) T
+
+-- ------------------------------------------------------------ entries and items
+
+-- what an entry's types are asked in
+unfoldable pub entryEnv : Model → Entry → typing.Env
+entryEnv m entry = typing.new m (paramTypes (entry .params))
+
+-- `checkEntry` where it types, and where it doesn't
+unfoldable pub typesRule : Model → Entry → Rule Unit
+typesRule m entry = do
+  forEach (entry .clauses) (clausePredicate (entryEnv m entry))
+  checkBody (entryEnv m entry) (entry .body)
+
+unfoldable pub usesRule : Entry → Rule Unit
+usesRule entry = do
+  forEach (entry .clauses) clauseAssets
+  forEach (entry .body) assetCallsConsumed
+  checkArithmetic entry (paramTypes (entry .params))
+
+pub record EntryIn (s S : List ℕ) (T : Table) (i : ℕ) : Type 0 where
+  pub sheet : SheetIn s S T
+  pub within : i < length S / 8
+  pub kind : kindAt S i ≡ 5
+
+pub record ItemIn (s S : List ℕ) (T : Table) (pass i : ℕ) : Type 0 where
+  pub sheet : SheetIn s S T
+  pub number : pass < 6
+  pub here : Here S grammar.Item i
+
+-- ... that a pass looks at
+pub record OwnItem (s S : List ℕ) (T : Table) (pass i : ℕ) : Type 0 where
+  pub item : ItemIn s S T pass i
+  pub own : (eqb (kindAt S i) (pass + 1) || (eqb pass 5 && eqb (kindAt S i) 5)) ≡ true
+
+pub record PassIn (s S : List ℕ) (T : Table) (pass : ℕ) : Type 0 where
+  pub sheet : SheetIn s S T
+  pub number : pass < 6
+
+pub record ItemsIn (s S : List ℕ) (T : Table) (pass m i : ℕ) : Type 0 where
+  pub sheet : SheetIn s S T
+  pub number : pass < 6
+  pub row : Row S grammar.Item m i
+
+-- The passes of `check` over the items, by number: what a pass does with a part of the model.
+unfoldable pub passRule : List ℕ → ℕ → Model → Rule Unit
+passRule s k part =
+    getD
+    (forEach (part .fields) (checkField (typing.new (modelIn s) []))
+    ∷ (forEach (part .events) λ e. forEach (e .params) checkEventParam)
+    ∷ forEach (part .invariants) (expectPredicate (typing.new (modelIn s) []))
+    ∷ forEach (part .genesis) (checkGenesis (typing.inGenesis (typing.new (modelIn s) [])))
+    ∷ forEach (part .entries) (checkEntry (modelIn s))
+    ∷ (forEach (part .entries) λ e. forEach (e .params) checkEntryParam)
+    ∷ [])
+    k (ret tt)
+
+-- what is checked of the model's names: events, guardian sets, entries' parameters
+unfoldable pub namesRule : List ℕ → Rule Unit
+namesRule s = do
+  passRule s 1 (modelIn s)
+  forEach (values (modelIn s .fields)) λ f. guardianBound (f .ty)
+  passRule s 5 (modelIn s)
+
+-- ... and before the first entry, after the fields
+unfoldable pub afterFields : List ℕ → Rule Unit
+afterFields s = do
+  namesRule s
+  passRule s 2 (modelIn s)
+
+-- from the first entry on
+unfoldable pub fromEntries : List ℕ → Rule Unit
+fromEntries s = do
+  passRule s 4 (modelIn s)
+  checkKeyKinds (modelIn s)
+  passRule s 3 (modelIn s)

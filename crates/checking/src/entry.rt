@@ -1,0 +1,249 @@
+// `check_entry`.
+use crate::records::check_records;
+use arithmetic::check_arithmetic;
+use assets::body_assets;
+use assets::clauses_assets;
+use declared::Done;
+use declared::Refusal;
+use emits::check_emit;
+use emits::refuse_name_recipient;
+use env::Env;
+use env::Typed;
+use sheet::end;
+use sheet::first;
+use sheet::kind;
+use sheet::second;
+use sheet::third;
+use statements::check_stmt_types;
+use statements::expect_predicate;
+use typing::ty_of;
+use wrapping::narrow_wrapping;
+ghost use mathlib.Core.Path.{_≡_};
+ghost use lib.ListN.{length};
+ghost use Prim.Native.Nat.{suc, _-_, _/_, _<_};
+ghost use Rattle.rules.specs.Asking.{forEach};
+ghost use Rattle.rules.specs.Check.{checkBody, checkEntry, clausePredicate};
+ghost use Rattle.rules.specs.Standing.{entryAt, modelIn, stmtsAt};
+ghost use Rattle.sheet.specs.Scratch.{entry, skip};
+ghost use Rattle.declared.specs.Answers.{Answers};
+ghost use Rattle.declared.specs.Lines.{EntryAt};
+ghost use Rattle.declared.specs.Refusal.{doneOf};
+ghost use Rattle.env.specs.Force.{envOf};
+ghost use Rattle.typing.specs.Asks.{Does};
+ghost use Rattle.checking.specs.Walk.{BodyAt, BodyStmt, entryEnv, EntryIn, named, StmtDoes, StmtOf, typesRule, usesRule, withLocals};
+
+// `count` parameters from line `params` on, and no locals.
+pub fn names(params: usize, count: usize, genesis: bool) -> Env
+    ensures { λ r. ⌜ r ≡ named params count genesis ⌝ }
+{
+    Env {
+        params,
+        count,
+        body: 0,
+        bound: 0,
+        own: 0,
+        later: 0,
+        genesis,
+    }
+}
+
+// `count` parameters from line `params` on; the `let`s among the first `bound` statements from line body on are locals.
+fn locals(params: usize, count: usize, body: usize, bound: usize) -> Env
+    ensures { λ r. ⌜ r ≡ withLocals params count body bound ⌝ }
+{
+    Env {
+        params,
+        count,
+        body,
+        bound,
+        own: 0,
+        later: 0,
+        genesis: false,
+    }
+}
+
+// The line after `count` records, the first of which stands at line from.
+fn after(lines: &[u16], from: usize, count: usize) -> usize
+    ensures { λ r. ⌜ r ≡ skip (now (lines .entry)) count from ⌝ }
+{
+    let mut at = from;
+    let mut left = count;
+    while 0 < left {
+        at = end(lines, at);
+        left -= 1;
+    }
+    at
+}
+
+// The line of the first clause, and of the first statement, of the entry at line i.
+fn clauses_line(lines: &[u16], i: usize) -> usize
+    requires { ⌜ i < length (now lines) / 8 ⌝ }
+    ensures { λ r. ⌜ r ≡ skip (now (lines .entry)) (entry (now (lines .entry)) i 5) (suc i) ⌝ }
+{
+    after(lines, i + 1, first(lines, i))
+}
+
+fn body_line(lines: &[u16], i: usize) -> usize
+    requires { ⌜ i < length (now lines) / 8 ⌝ }
+    ensures { λ r. ⌜ r ≡ skip (now (lines .entry)) (entry (now (lines .entry)) i 6) (skip (now (lines .entry)) (entry (now (lines .entry)) i 5) (suc i)) ⌝ }
+{
+    after(lines, clauses_line(lines, i), second(lines, i))
+}
+
+// The `let` at line i, before it is bound.
+fn check_let(sheet: &[u8], lines: &[u16], env: Env, table: &mut [u8], i: usize) -> Done
+    requires { ⌜ StmtOf 16 (now sheet) (now lines) env (now table) i ⌝ }
+    ensures { λ r. ⌜ StmtDoes (now (sheet .entry)) (now (lines .entry)) (envOf (now (sheet .entry)) (now (table .entry)) env) i (now (table .entry)) r (now (table .exit)) ⌝ }
+{
+    match ty_of(sheet, lines, env, table, i + 1) {
+        Typed::Is(ty) => {
+            if ty == 9 {
+                Done::Refused(Refusal::Local(i + 1))
+            } else {
+                Done::Fine
+            }
+        }
+        Typed::Refused(r) => Done::Refused(r),
+    }
+}
+
+fn check_do(sheet: &[u8], lines: &[u16], env: Env, table: &mut [u8], i: usize) -> Done
+    requires { ⌜ StmtOf 19 (now sheet) (now lines) env (now table) i ⌝ }
+    ensures { λ r. ⌜ StmtDoes (now (sheet .entry)) (now (lines .entry)) (envOf (now (sheet .entry)) (now (table .entry)) env) i (now (table .entry)) r (now (table .exit)) ⌝ }
+{
+    match check_stmt_types(sheet, lines, env, table, i) {
+        Done::Fine => refuse_name_recipient(sheet, lines, env, table, i + 1),
+        Done::Refused(r) => Done::Refused(r),
+    }
+}
+
+// The statement at line i of an entry.
+fn check_stmt(sheet: &[u8], lines: &[u16], env: Env, table: &mut [u8], i: usize) -> Done
+    requires { ⌜ BodyStmt (now sheet) (now lines) env (now table) i ⌝ }
+    ensures { λ r. ⌜ StmtDoes (now (sheet .entry)) (now (lines .entry)) (envOf (now (sheet .entry)) (now (table .entry)) env) i (now (table .entry)) r (now (table .exit)) ⌝ }
+{
+    let k = kind(lines, i);
+    if k == 15 {
+        return expect_predicate(sheet, lines, env, table, i + 1);
+    }
+    if k == 16 {
+        return check_let(sheet, lines, env, table, i);
+    }
+    if k == 17 {
+        return check_emit(sheet, lines, env, table, i);
+    }
+    if k == 18 {
+        return check_stmt_types(sheet, lines, env, table, i);
+    }
+    check_do(sheet, lines, env, table, i)
+}
+
+// The last `left` of `total` statements from line body on, of which the first stands at line at.
+fn check_body(
+    sheet: &[u8],
+    lines: &[u16],
+    table: &mut [u8],
+    params: usize,
+    count: usize,
+    body: usize,
+    total: usize,
+    at: usize,
+    left: usize,
+) -> Done
+    requires { ⌜ BodyAt (now sheet) (now lines) (now table) params count body total at left ⌝ }
+    ensures { λ r. ⌜ Does (now (sheet .entry)) (checkBody (envOf (now (sheet .entry)) (now (table .entry)) (withLocals params count body (total - left))) (stmtsAt (now (sheet .entry)) left at)) (now (table .entry)) r (now (table .exit)) ⌝ }
+{
+    if left == 0 {
+        return Done::Fine;
+    }
+    let env = locals(params, count, body, total - left);
+    match check_stmt(sheet, lines, env, table, at) {
+        Done::Fine => check_body(
+            sheet,
+            lines,
+            table,
+            params,
+            count,
+            body,
+            total,
+            end(lines, at),
+            left - 1,
+        ),
+        Done::Refused(r) => Done::Refused(r),
+    }
+}
+
+// The conditions of the entry's clauses.
+fn entry_clauses(sheet: &[u8], lines: &[u16], table: &mut [u8], i: usize) -> Done
+    requires { ⌜ EntryIn (now sheet) (now lines) (now table) i ⌝ }
+    ensures { λ r. ⌜ Does (now (sheet .entry)) (forEach (entryAt (now (sheet .entry)) i .clauses) (clausePredicate (entryEnv (modelIn (now (sheet .entry))) (entryAt (now (sheet .entry)) i)))) (now (table .entry)) r (now (table .exit)) ⌝ }
+{
+    let env = names(i + 1, first(lines, i), false);
+    check_records(
+        sheet,
+        lines,
+        env,
+        table,
+        clauses_line(lines, i),
+        second(lines, i),
+    )
+}
+
+// The entry's statements.
+fn entry_body(sheet: &[u8], lines: &[u16], table: &mut [u8], i: usize) -> Done
+    requires { ⌜ EntryIn (now sheet) (now lines) (now table) i ⌝ }
+    ensures { λ r. ⌜ Does (now (sheet .entry)) (checkBody (entryEnv (modelIn (now (sheet .entry))) (entryAt (now (sheet .entry)) i)) (entryAt (now (sheet .entry)) i .body)) (now (table .entry)) r (now (table .exit)) ⌝ }
+{
+    let body = body_line(lines, i);
+    let total = third(lines, i);
+    check_body(
+        sheet,
+        lines,
+        table,
+        i + 1,
+        first(lines, i),
+        body,
+        total,
+        body,
+        total,
+    )
+}
+
+// What is typed of the entry at line i.
+fn entry_types(sheet: &[u8], lines: &[u16], table: &mut [u8], i: usize) -> Done
+    requires { ⌜ EntryIn (now sheet) (now lines) (now table) i ⌝ }
+    ensures { λ r. ⌜ Does (now (sheet .entry)) (typesRule (modelIn (now (sheet .entry))) (entryAt (now (sheet .entry)) i)) (now (table .entry)) r (now (table .exit)) ⌝ }
+{
+    match entry_clauses(sheet, lines, table, i) {
+        Done::Fine => entry_body(sheet, lines, table, i),
+        Done::Refused(r) => Done::Refused(r),
+    }
+}
+
+// What is checked of it without types.
+fn entry_uses(sheet: &[u8], lines: &[u16], i: usize) -> Done
+    requires { ⌜ EntryAt (now sheet) (now lines) i ⌝ }
+    ensures { λ r. ⌜ Answers (usesRule (entryAt (now (sheet .entry)) i)) (doneOf (now (sheet .entry)) r) ⌝ }
+{
+    match clauses_assets(sheet, lines, clauses_line(lines, i), second(lines, i)) {
+        Done::Fine => match body_assets(sheet, lines, body_line(lines, i), third(lines, i)) {
+            Done::Fine => check_arithmetic(sheet, lines, i),
+            Done::Refused(r) => Done::Refused(r),
+        },
+        Done::Refused(r) => Done::Refused(r),
+    }
+}
+
+// The entry at line i.
+pub fn check_entry(sheet: &[u8], lines: &[u16], table: &mut [u8], i: usize) -> Done
+    requires { ⌜ EntryIn (now sheet) (now lines) (now table) i ⌝ }
+    ensures { λ r. ⌜ Does (now (sheet .entry)) (checkEntry (modelIn (now (sheet .entry))) (entryAt (now (sheet .entry)) i)) (now (table .entry)) r (now (table .exit)) ⌝ }
+{
+    match narrow_wrapping(sheet, lines, i) {
+        Done::Fine => match entry_types(sheet, lines, table, i) {
+            Done::Fine => entry_uses(sheet, lines, i),
+            Done::Refused(r) => Done::Refused(r),
+        },
+        Done::Refused(r) => Done::Refused(r),
+    }
+}

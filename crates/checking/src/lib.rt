@@ -1,0 +1,7 @@
+// `check_entry` and `check`, without `check_underflow`.
+mod entry;
+mod items;
+mod records;
+
+pub use entry::check_entry;
+pub use items::check;
