@@ -3,7 +3,7 @@ use mathlib.Core.Logic.{_≢_}
 use mathlib.Core.Path.{_≡_, refl, sym, ap, _∙_}
 use mathlib.Core.List.{List, [], _∷_, map}
 use mathlib.Core.Bool.{Bool, true, false, not, _&&_, _||_}
-use Prim.Native.Nat.{ℕ, suc, _+_, _-_, _<_}
+use Prim.Native.Nat.{ℕ, suc, _+_, _-_, _<_, _≤_}
 use native.Mathlib.Numerals.{add-one}
 use native.Mathlib.Omega.{arith}
 use lib.Dec.{eqb}
@@ -23,7 +23,7 @@ use Rattle.rules.specs.Check.{paramTypes, checkField, checkGenesis, checkEventP
 use Rattle.rules.specs.Standing.{nodeAt, nodesAt, exprAt, paramsAt, eventAt, entryAt, modelIn, Loaded, Here, Row, stop}
 use Rattle.rules.proofs.Parts.{stop as end', _also_, pick, parts}
 use Rattle.rules.proofs.Records.{no-nodes, group, event-at, entry-at}
-use Rattle.rules.proofs.Standing.{Stands, stands, nodes-next, row-first, row-rest}
+use Rattle.rules.proofs.Standing.{Stands, stands, nodes-next, row-first, row-rest, row-take}
 use Rattle.declared.proofs.Fields.{items-at}
 use Rattle.declared.specs.Answers.{Answers}
 use Rattle.declared.specs.Found.{ofKind}
@@ -352,13 +352,13 @@ module _ (s S : List ℕ) (T : Table) (pass m i : ℕ) (h : ItemsIn s S T pass m
     pub items-no : (x : Refusal) → o ≡ Refused x → Does s (passRule s pass (build (map itemOf (nodesAt s m i)))) T (Refused x) U
     items-no x e = record { gives = split ∙ does-cut s _ _ T o U a x e .gives }
 
-    pub items-rest : o ≡ Fine → (j : ℕ) → j ≡ endAt S i → ItemsIn s S U pass (m - 1) j
-    items-rest e j q =
+    pub items-rest : o ≡ Fine → (j : ℕ) → j ≡ endAt S i → (k : ℕ) → k ≤ m - 1 → ItemsIn s S U pass k j
+    items-rest e j q k l =
         rw q
         (record {
-          sheet = record { loaded = h .sheet .loaded; few = h .sheet .few; room = let l = does-length s _ T o U a in omega (arith, l, h .sheet .room) };
+          sheet = record { loaded = h .sheet .loaded; few = h .sheet .few; room = let z = does-length s _ T o U a in omega (arith, z, h .sheet .room) };
           number = h .number;
-          row = row-rest row;
+          row = row-take k l (row-rest row);
         })
 
     pub items-ok : o ≡ Fine → (j : ℕ) → j ≡ endAt S i → (r : Done) (W : Table) → Does s (passRule s pass (build (map itemOf (nodesAt s (m - 1) j)))) U r W

@@ -1,5 +1,6 @@
 use Prim.Native.Nat.{ℕ, _<_}
 use borrow.Author.Needs.{needs}
+use native.Mathlib.Omega.{arith}
 use borrow.Fn.Kinds.{In}
 use borrow.Fn.PlainCycle.{Measures, is, falls, and}
 use Rattle.typing.proofs.Calls.{does-length}
@@ -32,7 +33,7 @@ met t =
     (λ c. search needs)
     (λ c κs. search needs)
     (λ c. search needs)
-    (λ c κs. (search needs, items-rest _ _ _ _ _ _ (c .before .before .before .before .before .before .before .before .before .before .before .before .pre .1) (c .before .before .before .before .before .before .before .before .if1 .left) _ _ (c .before .before .before .before .before .before .check-item .ensures) (c .before .before .enum-told .given .1) _ (c .end .ensures)))
+    (λ c κs. (search needs, items-rest _ _ _ _ _ _ (c .before .before .before .before .before .before .before .before .before .before .before .before .pre .1) (c .before .before .before .before .before .before .before .before .if1 .left) _ _ (c .before .before .before .before .before .before .check-item .ensures) (c .before .before .enum-told .given .1) _ (c .end .ensures) _ (omega arith)))
     (λ c. search needs)
     (λ c. search (needs, does-length))
     (λ c. search (needs, items-ok))
