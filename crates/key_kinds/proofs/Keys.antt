@@ -2,7 +2,7 @@
 use mathlib.Core.Logic.{_≢_}
 use mathlib.Core.Path.{_≡_, refl, sym, ap, _∙_}
 use mathlib.Core.List.{List, [], _∷_}
-use mathlib.Core.Bool.{Bool, true, false, not, _&&_}
+use mathlib.Core.Bool.{Bool, true, false, not, _&&_, _||_}
 use Prim.Native.Nat.{ℕ, suc, _+_, _-_, _/_, _<_, _≤_}
 use native.Mathlib.Numerals.{add-one}
 use native.Mathlib.Omega.{arith}
@@ -15,7 +15,7 @@ use Rattle.text.specs.Text.{bytes, same, ended}
 use Rattle.text.specs.Word.{place, split}
 use Rattle.sheet.specs.Grammar as grammar
 use Rattle.sheet.specs.Scratch.{entry, kindAt, endAt, nameAt}
-use Rattle.rules.specs.Text.{Name, is, among}
+use Rattle.rules.specs.Text.{Name, is, isOne, among}
 use Rattle.rules.specs.Ast.{Param, typeName}
 use Rattle.rules.specs.KeyKinds.{isKeyed, isNameKey, nameParams}
 use Rattle.rules.specs.Standing.{exprAt, fieldAt, paramAt, paramsAt, modelIn, Loaded, Row}
@@ -32,12 +32,43 @@ use Rattle.key_kinds.specs.Uses.{keyedAt, namesAt, MapNamed}
 
 -- ------------------------------------------------------------ keyed calls
 
-pub is-keyed : (s S : List ℕ) (i k m k1 k2 p : ℕ) (x : Name) → x ≡ nameAt s S (i + 1) → p ≡ place x (split (bytes "set get contains insert remove credit debit ")) → k ≡ kindAt S i
-    → m ≡ entry S i 6 → k1 ≡ kindAt S (i + 1) → k2 ≡ kindAt S (i + 2) → (((eqb k 31 && not (eqb m 0)) && (eqb k1 30 && eqb k2 21)) && ltb p 7) ≡ keyedAt s S i
-unfolding keyedAt split ended
-is-keyed s S i k m k1 k2 p x ex ep ek em e1 e2 =
-    let two : suc (suc i) ≡ i + 2 = omega arith in
-    rw (two, ← add-one i, ← e2, ← e1, ← em, ← ek, ← ex, ep) (ap (λ t. ((eqb k 31 && not (eqb m 0)) && (eqb k1 30 && eqb k2 21)) && t) (sym (one-place x ("set" ∷ "get" ∷ "contains" ∷ "insert" ∷ "remove" ∷ "credit" ∷ "debit" ∷ []))))
+module _ (s S : List ℕ) (i k : ℕ) (ek : k ≡ kindAt S i) where
+  pub no-call : k ≢ 31 → false ≡ keyedAt s S i
+  unfolding keyedAt
+  no-call q = rw (keyedAt, ← ek, ne-eqb k 31 q) refl
+
+  module _ (q : k ≡ 31) (k1 k2 m : ℕ) (e1 : k1 ≡ kindAt S (i + 1)) (e2 : k2 ≡ kindAt S (i + 2)) (em : m ≡ entry S i 6) where
+    shape : Bool
+    shape = not (eqb m 0) && (eqb k1 30 && eqb k2 21)
+
+    by-shape : keyedAt s S i ≡ (shape && isOne (nameAt s S (suc i)) ("set" ∷ "get" ∷ "contains" ∷ "insert" ∷ "remove" ∷ "credit" ∷ "debit" ∷ []))
+    unfolding keyedAt shape
+    by-shape =
+        let two : suc (suc i) ≡ i + 2 = omega arith in
+        rw (keyedAt, two, ← add-one i, ← e2, ← e1, ← em, ← ek, eq-eqb k 31 q) refl
+
+    pub no-key : (eqb m 0 || not (eqb k1 30 && eqb k2 21)) ≡ true → false ≡ keyedAt s S i
+    unfolding shape
+    no-key h = sym (by-shape ∙ go (eqb m 0) (eqb k1 30 && eqb k2 21) h _)
+      where
+        go : (a b : Bool) → (a || not b) ≡ true → (t : Bool) → ((not a && b) && t) ≡ false
+        go true b z t = refl
+        go false true z t = absurd (let w : _≡_ {A = ℕ} 0 1 = cc in omega arith)
+        go false false z t = refl
+
+    pub is-keyed : (eqb m 0 || not (eqb k1 30 && eqb k2 21)) ≡ false → (p : ℕ) (x : Name) → x ≡ nameAt s S (i + 1)
+        → p ≡ place x (split (bytes "set get contains insert remove credit debit ")) → ltb p 7 ≡ keyedAt s S i
+    unfolding shape split ended
+    is-keyed h p x ex ep =
+        sym
+        (by-shape
+        ∙ go (eqb m 0) (eqb k1 30 && eqb k2 21) h _
+        ∙ rw (← add-one i, ← ex, ep) (one-place x ("set" ∷ "get" ∷ "contains" ∷ "insert" ∷ "remove" ∷ "credit" ∷ "debit" ∷ [])))
+      where
+        go : (a b : Bool) → (a || not b) ≡ false → (t : Bool) → ((not a && b) && t) ≡ t
+        go true b z t = absurd (let w : _≡_ {A = ℕ} 0 1 = cc in omega arith)
+        go false true z t = refl
+        go false false z t = absurd (let w : _≡_ {A = ℕ} 0 1 = cc in omega arith)
 
 -- ------------------------------------------------------------ maps
 

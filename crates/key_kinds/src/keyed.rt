@@ -25,11 +25,15 @@ pub fn is_keyed_call(sheet: &[u8], lines: &[u16], at: usize) -> bool
     requires { ⌜ at < length (now lines) / 8 ⌝ }
     ensures { λ r. ⌜ r ≡ keyedAt (now (sheet .entry)) (now (lines .entry)) at ⌝ }
 {
-    let method = name(sheet, lines, at + 1);
-    let place = place_in(method, b"set get contains insert remove credit debit ");
-    let with_key = (kind(lines, at) == 31) & (second(lines, at) != 0);
+    if kind(lines, at) != 31 {
+        return false;
+    }
     let of_name = (kind(lines, at + 1) == 30) & (kind(lines, at + 2) == 21);
-    with_key & of_name & (place < 7)
+    if (second(lines, at) == 0) | !of_name {
+        return false;
+    }
+    let method = name(sheet, lines, at + 1);
+    place_in(method, b"set get contains insert remove credit debit ") < 7
 }
 
 // The line of the Map or Registry of the name x.
