@@ -3,3 +3,4 @@ pub mod Recording
 pub mod Bodies
 pub mod Entries
 pub mod Passing
+pub mod Afresh
