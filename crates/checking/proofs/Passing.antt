@@ -275,8 +275,8 @@ module _ (s S : List ℕ) (T : Table) (pass i : ℕ) (h : OwnItem s S T pass i) 
         })
 
   -- fields, and statements of genesis
-  module _ (k : ℕ) (ek : k ≡ kindAt S i) (n4 : pass ≢ 4) (n2 : pass ≢ 2) (q : (eqb pass 1 || eqb pass 5) ≡ false) (m : ℕ) (em : m ≡ entry S i 5) (env : Env) (f : env ≡ named 0 0 (eqb k 4)) where
-    records-of : (P : Type 0) → (pass ≡ 0 → kindAt S i ≡ 1 → env ≡ named 0 0 false → P) → (pass ≡ 3 → kindAt S i ≡ 4 → env ≡ named 0 0 true → P) → P
+  module _ (k : ℕ) (ek : k ≡ kindAt S i) (n4 : pass ≢ 4) (n2 : pass ≢ 2) (q : (eqb pass 1 || eqb pass 5) ≡ false) (m : ℕ) (em : m ≡ entry S i 5) where
+    records-of : (P : Type 0) → (pass ≡ 0 → kindAt S i ≡ 1 → eqb k 4 ≡ false → P) → (pass ≡ 3 → kindAt S i ≡ 4 → eqb k 4 ≡ true → P) → P
     records-of P a b = go (eqb pass 0) refl
       where
         n1 : pass ≢ 1
@@ -292,29 +292,32 @@ module _ (s S : List ℕ) (T : Table) (pass i : ℕ) (h : OwnItem s S T pass i) 
         go true e =
             let zero' = eqb-true pass 0 e in
             let w : kindAt S i ≡ 1 = omega (arith, kind, zero') in
-            a zero' w (f ∙ rw (ne-eqb k 4 (omega (arith, ek, w))) refl)
+            a zero' w (ne-eqb k 4 (omega (arith, ek, w)))
         go false e =
             let three = only-three pass (h .item .number) (eqb-false pass 0 e) n1 n2 n4 n5 in
             let w : kindAt S i ≡ 4 = omega (arith, kind, three) in
-            b three w (f ∙ rw (eq-eqb k 4 (ek ∙ w)) refl)
+            b three w (eq-eqb k 4 (ek ∙ w))
 
-    pub item-records : RecordsIn s S env T m (i + 1)
-    item-records =
+    pub item-records : (env : Env) (g : Bool) → env ≡ named 0 0 g → RecordsIn s S env T m (i + 1)
+    item-records env g f =
         records-of (RecordsIn s S env T m (i + 1))
-        (λ e w g. rw g (record { ready = bare-ready s S T false sh; sort = grammar.Field; walked = a-field; row = rw (em, add-one i) (state-model d here w .1) }))
-        (λ e w g. rw g (record { ready = bare-ready s S T true sh; sort = grammar.Stmt; walked = a-stmt; row = rw (em, add-one i) (genesis-model d here w .1) }))
+        (λ e w z. rw f (record { ready = bare-ready s S T g sh; sort = grammar.Field; walked = a-field; row = rw (em, add-one i) (state-model d here w .1) }))
+        (λ e w z. rw f (record { ready = bare-ready s S T g sh; sort = grammar.Stmt; walked = a-stmt; row = rw (em, add-one i) (genesis-model d here w .1) }))
 
-    pub records-pass : (r : Done) (U : Table) → Does s (forEach (nodesAt s m (i + 1)) (recordRule (envOf s T env))) T r U → Does s (passRule s pass (itemModel (itemOf (nodeAt s i)))) T r U
+    pub records-pass : (env : Env) (r : Done) (U : Table) → env ≡ named 0 0 (eqb k 4) → Does s (forEach (nodesAt s m (i + 1)) (recordRule (envOf s T env))) T r U
+        → Does s (passRule s pass (itemModel (itemOf (nodeAt s i)))) T r U
     unfolding passRule
-    records-pass r U a =
+    records-pass env r U f a =
         records-of (Does s (passRule s pass (itemModel (itemOf (nodeAt s i)))) T r U)
-        (λ e w g.
+        (λ e w z.
         let Γ = typing.new (modelIn s) [] in
         let y = state-model d here w in
+        let g : env ≡ named 0 0 false = f ∙ rw z refl in
         record { gives = rw (e, y .0) (sym (row-rule grammar.Field Γ fieldOf (checkField Γ) d (rule-field d Γ) (y .1) T) ∙ rw (← new-env s T, ← g, ← em, ← add-one i) (a .gives)) })
-        (λ e w g.
+        (λ e w z.
         let Γ = typing.inGenesis (typing.new (modelIn s) []) in
         let y = genesis-model d here w in
+        let g : env ≡ named 0 0 true = f ∙ rw z refl in
         record { gives = rw (e, y .0) (sym (row-rule grammar.Stmt Γ stmtOf (checkGenesis Γ) d (rule-stmt d Γ) (y .1) T) ∙ rw (← genesis-env s T, ← g, ← em, ← add-one i) (a .gives)) })
 
 -- ------------------------------------------------------------ check_item, check_items
