@@ -9,8 +9,8 @@ use crate::{check, guardian_errors, Model, TypeError};
 pub struct Answer {
     /// 0 is acceptance.
     pub number: u32,
-    /// Every place the verdict may name, ascending. There are several only for refusal 20
-    /// among state fields.
+    /// Every place the verdict may name, in the order of the sheet. There are several only for
+    /// refusal 20 among state fields.
     pub places: Vec<u32>,
     /// How many lines are marked.
     pub count: u32,
@@ -79,11 +79,16 @@ fn all_errors(number: u32, error: &TypeError, model: &Model) -> Vec<TypeError> {
     }
 }
 
+/// Spans are numbered in the order of the sheet.
 fn places(errors: &[TypeError], origins: &[Origin]) -> Vec<u32> {
-    let place = |error: &TypeError| origins[error.span.0 as usize].span;
-    let mut places: Vec<u32> = errors.iter().map(place).collect();
-    places.sort_unstable();
-    places.dedup();
+    let mut spans: Vec<usize> = errors.iter().map(|error| error.span.0 as usize).collect();
+    spans.sort_unstable();
+    let mut places = Vec::new();
+    for place in spans.into_iter().map(|span| origins[span].span) {
+        if !places.contains(&place) {
+            places.push(place);
+        }
+    }
     places
 }
 

@@ -2,7 +2,7 @@
 
 use crate::case::Case;
 use crate::generate::case;
-use crate::stored::{frames, typing_line};
+use crate::stored::{frames, replay_lines};
 use std::io::{self, Write};
 use std::process::{Command, Stdio};
 use std::thread;
@@ -10,11 +10,11 @@ use std::thread;
 /// Cases for one run of the program.
 const AT_ONCE: u64 = 1_000;
 
-/// A generated case and the line that is wanted.
+/// A generated case and the lines of which one is wanted.
 struct Wanted {
     index: u64,
     case: Case,
-    line: String,
+    lines: Vec<String>,
 }
 
 /// How many answers agree, or the first that doesn't.
@@ -22,26 +22,27 @@ pub fn compare(program: &str, seed: u64, count: u64) -> Result<String, String> {
     let mut agreed = 0;
     for first in (0..count).step_by(AT_ONCE as usize) {
         let wanted: Vec<Wanted> = (first..count.min(first + AT_ONCE))
-            .filter_map(|index| {
+            .map(|index| {
                 let case = case(seed, index);
-                let line = typing_line(&case)?;
-                Some(Wanted { index, case, line })
+                let lines = replay_lines(&case);
+                Wanted { index, case, lines }
             })
             .collect();
         let answers = answers(program, &wanted).map_err(|error| format!("{program}: {error}"))?;
         let mut answers = answers.lines();
-        for Wanted { index, case, line } in &wanted {
+        for Wanted { index, case, lines } in &wanted {
             let answer = answers.next().unwrap_or("nothing");
-            if answer != line {
+            if !lines.iter().any(|line| line == answer) {
+                let wanted = lines.join("\nor       ");
                 let sheet = case.sheet.escape_ascii().to_string().replace("\\n", "\n");
                 return Err(format!(
-                    "{agreed} agree; seed {seed} index {index}\nwanted   {line}\nanswered {answer}\n{sheet}"
+                    "{agreed} agree; seed {seed} index {index}\nwanted   {wanted}\nanswered {answer}\n{sheet}"
                 ));
             }
             agreed += 1;
         }
     }
-    Ok(format!("{agreed} of {count} generated sheets are compared, and all agree\n"))
+    Ok(format!("all answers to {agreed} generated sheets agree\n"))
 }
 
 /// What the program writes for the sheets.

@@ -13,7 +13,7 @@ const HELP: &str = "\
 reference answer [--scratch N] [--types N] [--message N] [FILE]
     The answer as a stored line: number,place,count,length;types;message
     Lengths not given: exact for the sheet, message 16384. Where refusal 20 may name several
-    places, the lowest.
+    places, the first in the sheet.
 reference shelfcheck [FILE]
     One line: accepted, or number, place and, from 12 on, message.
 reference lines [FILE]
@@ -23,8 +23,8 @@ reference generate --seed S --index I
 reference coverage --seed S --count N
     How often each number comes in the cases 0 to N - 1.
 reference compare --seed S --count N PROGRAM
-    Runs PROGRAM, which answers frames as crates/replay_typing does, on those of the cases 0 to
-    N - 1 whose types are compared: how many agree, or the first that doesn't.
+    Runs PROGRAM, which answers frames as crates/replay does, on the cases 0 to N - 1: how many
+    answers agree, or the first that doesn't.
 reference stored DIR
     Writes the stored answers into the repository at DIR.
 FILE is standard input if it isn't given.

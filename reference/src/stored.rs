@@ -25,7 +25,7 @@ pub type File = (&'static str, Vec<u8>);
 pub fn files() -> Vec<File> {
     let answers = answer_cases();
     let readings = reader_cases();
-    let (typings, typed) = typing_cases(&answers);
+    let replayed = replayed_cases();
     vec![
         ("reference/stored/answers.sheets", frames(&answers)),
         (
@@ -34,8 +34,8 @@ pub fn files() -> Vec<File> {
         ),
         ("crates/replay_reader/stdin", frames(&readings)),
         ("crates/replay_reader/stdout", expected(&readings, reading_line)),
-        ("crates/replay_typing/stdin", frames(&typings)),
-        ("crates/replay_typing/stdout", typed.into_bytes()),
+        ("crates/replay/stdin", frames(&replayed)),
+        ("crates/replay/stdout", expected(&replayed, |case| replay_lines(case).remove(0))),
     ]
 }
 
@@ -72,15 +72,15 @@ fn codes(types: &[u8]) -> String {
     types.iter().map(u8::to_string).collect::<Vec<_>>().join(" ")
 }
 
-/// `number,place` of the reader's refusal, or `number;types`. None where a check refuses that is no typing: the replaying
-/// program, which only types, goes on there.
-pub fn typing_line(case: &Case) -> Option<String> {
-    let answer = case.answer();
-    match (answer.number, &answer.types) {
-        (number @ 1..=11, _) => Some(format!("{number},{}", answer.places[0])),
-        (number @ (0 | 30..=42), Some(types)) => Some(format!("{number};{}", codes(types))),
-        _ => None,
-    }
+/// `number,place` of the reader's refusal, or `number,place,count;types`, once for each place that the verdict may name. The
+/// first of these lines has the place of the first bad field in the sheet, which is the one that crates/checking names.
+pub fn replay_lines(case: &Case) -> Vec<String> {
+    let Answer { number, places, count, types, .. } = case.answer();
+    let line = |place| match &types {
+        None => format!("{number},{place}"),
+        Some(types) => format!("{number},{place},{count};{}", codes(types)),
+    };
+    places.into_iter().map(line).collect()
 }
 
 /// `number,place`, or `0,LINES;` and `word:depth:end` for each line.
@@ -95,29 +95,49 @@ fn reading_line(case: &Case) -> String {
     }
 }
 
-/// The hand cases, the edges, a message buffer about as long as each message, and generated
-/// sheets up to a share for each number.
+/// The cases of `checked_cases` with one right place, and a message buffer about as long as each message.
 fn answer_cases() -> Vec<Case> {
     let mut cases = hand_cases();
     cases.extend(edges());
     cases.extend(message_lengths());
-    let share = |number| match number {
-        0 => 50,
-        1 => 1,
-        2..=11 => 6,
-        _ => 8,
-    };
-    cases.extend(generated(share, |case| {
+    cases.extend(generated(answer_share, |case| {
         let answer = case.answer();
         (answer.places.len() == 1).then_some(answer.number)
     }));
     cases
 }
 
-/// The cases that have a typing line, and these lines.
-fn typing_cases(cases: &[Case]) -> (Vec<Case>, String) {
-    let compared = |case: &Case| Some((case.clone(), typing_line(case)? + "\n"));
-    cases.iter().filter_map(compared).unzip()
+/// The hand cases, the edges, guardian sets, and generated sheets up to a share for each number.
+fn replayed_cases() -> Vec<Case> {
+    let mut cases = hand_cases();
+    cases.extend(edges());
+    cases.extend((0..64).map(guardian_sets));
+    cases.extend(generated(answer_share, |case| Some(case.answer().number)));
+    cases
+}
+
+/// Three fields in two items, each of one of two names and a guardian set with a bad size or a good one, as the bits of
+/// `which` say. Later fields have lower spans.
+fn guardian_sets(which: u32) -> Case {
+    let bit = |at| which >> at & 1 == 1;
+    let mut sheet = "contract,2\n".to_string();
+    for at in 0..3 {
+        let item = ["state,1\n", "state,2\n", ""][at];
+        let name = if bit(2 * at) { "a" } else { "b" };
+        let ty = if bit(2 * at + 1) { "0" } else { "1\nnum,5" };
+        let (span, type_span) = (9 - 2 * at, 8 - 2 * at);
+        sheet += &format!("{item}field,{span},{name},0\ntype,{type_span},GuardianSet,{ty}\n");
+    }
+    Case::exact(sheet.into_bytes())
+}
+
+fn answer_share(number: u32) -> usize {
+    match number {
+        0 => 50,
+        1 => 1,
+        2..=11 => 6,
+        _ => 8,
+    }
 }
 
 fn reader_cases() -> Vec<Case> {

@@ -2,7 +2,9 @@
 
 use reference::answer::answer;
 use reference::askings::listed;
+use reference::case::Case;
 use reference::reader::{read, Spans};
+use reference::stored::replay_lines;
 use reference::{check, Model};
 
 const EXAMPLE: &[u8] = b"contract,1\nstate,1\nfield,10,level,1\ntype,11,u8,0\nint,17,300\n";
@@ -43,6 +45,32 @@ type,9,GuardianSet,0
 ";
     let answer = answer(sheet, 104, 13, 16_384);
     assert_eq!((answer.number, answer.places.as_slice()), (20, &[4, 6][..]));
+}
+
+/// The first in the sheet comes first, whatever its span.
+#[test]
+fn places_stand_in_the_order_of_the_sheet() {
+    let sheet = b"contract,1
+state,3
+field,9,a,0
+type,8,GuardianSet,0
+field,7,b,0
+type,6,GuardianSet,0
+field,5,c,0
+type,8,GuardianSet,0
+";
+    let case = Case::exact(sheet.to_vec());
+    assert_eq!(case.answer().places, [8, 6]);
+    assert_eq!(replay_lines(&case), ["20,8,0;0 0 0 0 0 0 0 0", "20,6,0;0 0 0 0 0 0 0 0"]);
+}
+
+#[test]
+fn lines_of_a_replay() {
+    let lines = |sheet: &[u8]| replay_lines(&Case::exact(sheet.to_vec()));
+    assert_eq!(lines(EXAMPLE), ["27,17,1;0 0 0 0 1"]);
+    assert_eq!(lines(b"contract,1\ninvariant\nnow,3\n"), ["21,3,1;0 0 1"]);
+    assert_eq!(lines(b"contract,1\ninvariant\nbin,3,eq\nnow,4\nnow,5\n"), ["0,0,3;0 0 2 1 1"]);
+    assert_eq!(lines(b"contract,1\n"), ["11,2"]);
 }
 
 /// `do m.get(m.get(.. m.get(1)))`, of so many calls.

@@ -1,14 +1,15 @@
-// Reads the stored sheets of standard input, each behind a header of 24 bytes, and writes what typing answers: the reader's
-// number and line, or the number of the refusal, 0 for none, and the type of each line.
-mod walk;
-
+// Reads the stored sheets of standard input, each behind a header of 24 bytes, and writes the answer to each: the reader's
+// number and line, or number, place and count of `check`, number and place 0 for acceptance, and the type of each line.
+use checking::check;
 use declared::Done;
 use declared::Refusal;
+use refusals::marked;
+use refusals::number_of;
+use refusals::place_of;
 use sheet::Answer;
-use walk::type_sheet;
 ghost use Prim.Native.Nat.{_≤_};
-ghost use Rattle.rules.specs.Standing.{LoadedIn};
-ghost use Rattle.replay_typing.specs.Walk.{SheetReady};
+ghost use Rattle.rules.specs.Standing.{Loaded, LoadedIn};
+ghost use Rattle.checking.specs.Walk.{SheetIn};
 
 fn digit(b: u8) -> usize
     ensures { λ r. ⌜ r ≤ 9 ⌝ }
@@ -33,38 +34,6 @@ fn number(head: &[u8; 24], at: usize) -> usize
         + digit(head[at + 4])
 }
 
-// Document 01's number of a refusal that typing gives, 0 for any other.
-fn number_of(r: Refusal) -> u64 {
-    match r {
-        Refusal::Receiver(_) => 30,
-        Refusal::KeyedOp {
-            callee: _,
-            field: _,
-        } => 31,
-        Refusal::Amount { callee: _, arg: _ } => 32,
-        Refusal::Straight { field: _, arg: _ } => 33,
-        Refusal::ByName { field: _, arg: _ } => 34,
-        Refusal::Holds {
-            field: _,
-            arg: _,
-            want: _,
-            got: _,
-        } => 35,
-        Refusal::Not(_) => 36,
-        Refusal::Neg(_) => 37,
-        Refusal::Logical(_) => 38,
-        Refusal::Arithmetic(_) => 39,
-        Refusal::Ordering(_) => 40,
-        Refusal::Names(_) => 41,
-        Refusal::Compared {
-            right: _,
-            l: _,
-            r: _,
-        } => 42,
-        _ => 0,
-    }
-}
-
 fn wide(x: u8) -> u64 {
     x as u64
 }
@@ -80,15 +49,29 @@ fn write_types(types: &[u8]) {
     }
 }
 
-// The answer and the types of a sheet, on a table of zeros.
-fn write_typed(text: &[u8], lines: &[u16], table: &mut [u8])
-    requires { ⌜ SheetReady (now text) (now lines) (now table) ⌝ }
+// Number and place.
+fn write_refusal(text: &[u8], lines: &[u16], r: Refusal)
+    requires { ⌜ Loaded (now text) (now lines) ⌝ }
 {
-    let number = match type_sheet(text, lines, table) {
-        Done::Fine => 0,
-        Done::Refused(r) => number_of(r),
-    };
-    io::print_decimal(1, number);
+    io::print_decimal(1, number_of(r) as u64);
+    io::write_all(1, b",");
+    io::print_decimal(1, place_of(text, lines, r) as u64);
+}
+
+// The answer of `check` on a table of zeros.
+fn write_checked(text: &[u8], lines: &[u16], table: &mut [u8])
+    requires { ⌜ SheetIn (now text) (now lines) (now table) ⌝ }
+{
+    match check(text, lines, table) {
+        Done::Fine => {
+            io::write_all(1, b"0,0");
+        }
+        Done::Refused(r) => {
+            write_refusal(text, lines, r);
+        }
+    }
+    io::write_all(1, b",");
+    io::print_decimal(1, marked(table) as u64);
     io::write_all(1, b";");
     write_types(table);
 }
@@ -98,7 +81,7 @@ fn write_loaded(text: &[u8], scratch: &[u16], n: usize)
     requires { ⌜ LoadedIn (now text) (now scratch) n ⌝ }
 {
     let mut table = [0u8; 1024];
-    write_typed(text, &scratch[..8 * n], &mut table[..n]);
+    write_checked(text, &scratch[..8 * n], &mut table[..n]);
 }
 
 fn write_answer(text: &[u8], scratch: &mut [u16], types: usize) {

@@ -1,8 +1,8 @@
 use Prim.Native.Nat.{_≤_, _-_}
 use lib.ListN.{length}
 use borrow.Author.Needs.{needs}
-use Rattle.replay_typing.proofs.write_types.Statement.{statement}
-use Rattle.replay_typing.proofs.write_types.Tie as tie
+use Rattle.replay.proofs.write_types.Statement.{statement}
+use Rattle.replay.proofs.write_types.Tie as tie
 
 abbrev Inv-loop : tie.InvT-loop
 Inv-loop types i₀ t3 i = i ≤ length types

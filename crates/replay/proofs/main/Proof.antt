@@ -1,8 +1,8 @@
 use mathlib.Core.Path.{_≡_}
 use lib.ListN.{length}
 use borrow.Author.Needs.{needs}
-use Rattle.replay_typing.proofs.main.Statement.{statement}
-use Rattle.replay_typing.proofs.main.Tie as tie
+use Rattle.replay.proofs.main.Statement.{statement}
+use Rattle.replay.proofs.main.Tie as tie
 
 abbrev Inv-loop : tie.InvT-loop
 Inv-loop text₀ scratch₀ left₀ text scratch left = (length text ≡ 32768) × (length scratch ≡ 32768)

@@ -1,8 +1,8 @@
 use mathlib.Core.Path.{sym}
 use lib.Seq.{length-take-le}
 use borrow.Author.Needs.{needs}
-use Rattle.replay_typing.proofs.turn.Statement.{statement}
-use Rattle.replay_typing.proofs.turn.Tie as tie
+use Rattle.replay.proofs.turn.Statement.{statement}
+use Rattle.replay.proofs.turn.Tie as tie
 
 slice-aggregate-one : tie.Need-slice-aggregate-one
 slice-aggregate-one c = sym (length-take-le _ _ (c .before .before .if2 .left))

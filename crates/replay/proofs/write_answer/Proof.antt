@@ -1,7 +1,7 @@
 use borrow.Author.Needs.{needs}
 use Rattle.rules.proofs.Standing.{by-answer}
-use Rattle.replay_typing.proofs.write_answer.Statement.{statement}
-use Rattle.replay_typing.proofs.write_answer.Tie as tie
+use Rattle.replay.proofs.write_answer.Statement.{statement}
+use Rattle.replay.proofs.write_answer.Tie as tie
 
 write-loaded-requires : tie.Need-write-loaded-requires
 write-loaded-requires c κs =
