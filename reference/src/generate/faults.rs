@@ -130,11 +130,26 @@ fn guardians(plan: &mut Plan) {
     let ty = declared(plan.rng.pick(&types));
     let name = plan.free();
     match plan.rng.below(3) {
-        0 => plan.fields.push(field(name, ty, None)),
+        0 => {
+            plan.fields.push(field(name, ty, None));
+            more_guardians(plan, name);
+        }
         _ => {
             let entry = plan.rng.below(plan.entries.len());
             plan.entries[entry].params.push(param(name, ty));
         }
+    }
+}
+
+/// Up to three fields more, good and bad, some of which hide an earlier one.
+fn more_guardians(plan: &mut Plan, name: &'static str) {
+    let types = ["GuardianSet", "GuardianSet<0>", "GuardianSet<257>", "GuardianSet<5>", "u8"];
+    for _ in 0..plan.rng.below(4) {
+        let other = plan.free();
+        let name = plan.rng.pick(&[name, other, other]);
+        let ty = declared(plan.rng.pick(&types));
+        let at = anywhere(plan, plan.fields.len());
+        plan.fields.insert(at, field(name, ty, None));
     }
 }
 
