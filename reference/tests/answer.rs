@@ -73,6 +73,19 @@ fn lines_of_a_replay() {
     assert_eq!(lines(b"contract,1\n"), ["11,2"]);
 }
 
+/// A type table may be longer than the sheet and arrive full of anything: from 12 on, and where the sheet is accepted, every
+/// line has a code, 0 if its type was not asked, and there is none past the last line.
+#[test]
+fn every_line_has_a_code_whatever_the_length_of_the_table() {
+    let accepted = b"contract,1\nstate,1\nfield,10,level,1\ntype,11,u8,0\nint,17,200\n";
+    for (sheet, number) in [(EXAMPLE, 27), (&accepted[..], 0)] {
+        for types_len in [5, 6, 1_024, 99_999] {
+            let answer = answer(sheet, 40, types_len, 16_384);
+            assert_eq!((answer.number, answer.types), (number, Some(vec![0, 0, 0, 0, 1])));
+        }
+    }
+}
+
 /// `do m.get(m.get(.. m.get(1)))`, of so many calls.
 fn nested(calls: usize) -> Vec<u8> {
     let head = "contract,2\nstate,1\nfield,1,m,0\ntype,2,Map,2\ntype,3,u64,0\ntype,4,u64,0\n";

@@ -1,5 +1,6 @@
 //! What is told of generated sheets.
 
+use reference::askings::listed;
 use reference::generate::case;
 use reference::reader::Spans;
 use reference::{check, Model};
@@ -59,4 +60,28 @@ fn codes_of_the_table() {
         let marked = types.iter().filter(|&&code| code != 0).count();
         assert_eq!(marked as u32, answer.count, "{index}");
     }
+}
+
+/// Document 01's exception to the kept types, a `let` that was bound since the line's statement began, never comes in `check`:
+/// all askings of a line have one type.
+#[test]
+fn a_line_has_one_type() {
+    let mut asked_again = 0;
+    for index in 0..4_000 {
+        let Ok(loaded) = case(SEED, index).read(Spans::Numbered) else {
+            continue;
+        };
+        let (_, askings) = listed(|| check(&Model::build(&loaded.contract)));
+        let mut types = vec![0; loaded.lines.len() + 1];
+        for asking in askings {
+            let Some(line) = loaded.origins[asking.span.0 as usize].line else {
+                continue;
+            };
+            let first = &mut types[line as usize];
+            asked_again += usize::from(*first != 0);
+            assert!(*first == 0 || *first == asking.code, "{index}: line {line}");
+            *first = asking.code;
+        }
+    }
+    assert!(asked_again >= 2_000, "only {asked_again} askings are repeats");
 }
