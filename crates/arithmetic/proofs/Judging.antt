@@ -182,12 +182,12 @@ pub record Turn (s S : List ℕ) (i left at : ℕ) : Type 0 where
       → Answers (forEach (stmtsAt s left at) (checkSum (entryAt s i) (paramTypes (entryAt s i .params)))) r
       → Answers (checkArithmetic (entryAt s i) (paramTypes (entryAt s i .params))) r
 
-pub turn-start : (s S : List ℕ) (i left at from m : ℕ) → EntryAt s S i → from ≡ skip S (entry S i 5) (suc i) → m ≡ entry S i 6 → at ≡ skip S m from → left ≡ entry S i 7 → Turn s S i left at
+pub turn-start : (s S : List ℕ) (i left at : ℕ) → EntryAt s S i → at ≡ skip S (entry S i 6) (skip S (entry S i 5) (suc i)) → left ≡ entry S i 7 → Turn s S i left at
 unfolding checkArithmetic
-turn-start s S i left at from m h e f g l =
+turn-start s S i left at h e l =
     let q = parts-of s S i h in
-    let b : entryAt s i .body ≡ stmtsAt s left at = rw (q .is, g, f, e, l) refl in
-    record { loaded = h .loaded; row = rw (g, f, e, l) (q .body); rest = λ r a. subst (λ ss. Answers (forEach ss (checkSum (entryAt s i) (paramTypes (entryAt s i .params)))) r) (sym b) a }
+    let b : entryAt s i .body ≡ stmtsAt s left at = rw (q .is, e, l) refl in
+    record { loaded = h .loaded; row = rw (e, l) (q .body); rest = λ r a. subst (λ ss. Answers (forEach ss (checkSum (entryAt s i) (paramTypes (entryAt s i .params)))) r) (sym b) a }
 
 module _ (s S : List ℕ) (i left at : ℕ) (t : Turn s S i left at) where
   pub turn-over : left ≤ 0 → Answers (checkArithmetic (entryAt s i) (paramTypes (entryAt s i .params))) (doneOf s Fine)

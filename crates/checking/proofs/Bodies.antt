@@ -3,7 +3,7 @@ use mathlib.Core.Logic.{_≢_}
 use mathlib.Core.Path.{_≡_, refl, sym, ap, _∙_}
 use mathlib.Core.List.{List, [], _∷_, _++_, map, append-nil}
 use mathlib.Core.Bool.{Bool, true, false, not, _&&_}
-use Prim.Native.Nat.{ℕ, zero, suc, _+_, _-_, _<_, _≤_}
+use Prim.Native.Nat.{ℕ, suc, _+_, _-_, _≤_}
 use native.Mathlib.Numerals.{add-one}
 use native.Mathlib.Omega.{arith}
 use lib.Dec.{eqb, leb}
@@ -50,18 +50,6 @@ use Rattle.statements.specs.Checked.{StmtIn}
 use Rattle.emits.specs.Emit.{EmitIn, emitRule}
 use Rattle.checking.specs.Walk.{withLocals, stmtRule, BodyStmt, StmtOf, Binds, StmtDoes, BodyAt}
 use Rattle.checking.proofs.Doing.{kept-assoc, refused-behind, does-then, does-cut, does-nothing}
-
--- ------------------------------------------------------------ the line after some records
-
-pub after-turn : (S : List ℕ) (m i left at at' : ℕ) → skip S left at ≡ skip S m i → 0 < left → at' ≡ endAt S at → skip S (left - 1) at' ≡ skip S m i
-unfolding skip
-after-turn S m i (suc left) at at' e h q = rw (q, let y : suc left - 1 ≡ left = omega arith in y) e
-after-turn S m i zero at at' e h q = absurd (omega arith)
-
-pub after-over : (S : List ℕ) (m i left at : ℕ) → skip S left at ≡ skip S m i → left ≤ 0 → at ≡ skip S m i
-unfolding skip
-after-over S m i zero at e h = e
-after-over S m i (suc left) at e h = absurd (omega arith)
 
 -- ------------------------------------------------------------ a statement
 

@@ -34,14 +34,6 @@ use Rattle.checking.specs.Walk.{named, withLocals, recordRule, a-clause,
 use Rattle.checking.proofs.Doing.{kept-assoc, kept-behind, does-then, does-cut, asks-none, answers-then, answers-cut}
 use Rattle.checking.proofs.Recording.{row-rule, rule-clause}
 
--- ------------------------------------------------------------ the lines of clauses and statements
-
-pub at-clauses : (S : List ℕ) (i k r : ℕ) → k ≡ entry S i 5 → r ≡ skip S k (i + 1) → r ≡ skip S (entry S i 5) (suc i)
-at-clauses S i k r e q = q ∙ rw (e, add-one i) refl
-
-pub at-body : (S : List ℕ) (i j k r : ℕ) → j ≡ skip S (entry S i 5) (suc i) → k ≡ entry S i 6 → r ≡ skip S k j → r ≡ skip S (entry S i 6) (skip S (entry S i 5) (suc i))
-at-body S i j k r e f q = q ∙ rw (e, f) refl
-
 -- ------------------------------------------------------------ what is typed
 
 module _ (s S : List ℕ) (T : Table) (i : ℕ) (h : EntryIn s S T i) where

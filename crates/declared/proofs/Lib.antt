@@ -1,6 +1,8 @@
 pub mod Answers
 pub mod Behind
 pub mod Codes
+pub mod Entered
+pub mod Events
 pub mod Fields
 pub mod Finding
 pub mod Items

@@ -50,7 +50,7 @@ use Rattle.typing.proofs.Keys.{or-parts}
 use Rattle.typing.proofs.Onward.{Onward, onward}
 use Rattle.typing.proofs.Operators.{gave-code}
 use Rattle.emits.specs.Emit.{emitRule, fieldsRule, EmitIn, FieldIn, FieldsIn, Mismatches, JudgesField}
-use Rattle.emits.specs.Event.{foundEvent, EventNamed}
+use Rattle.declared.specs.Event.{foundEvent, EventNamed}
 use Rattle.emits.proofs.Steps.{not-typed, typed-then, ends, goes-on}
 
 -- ------------------------------------------------------------ mismatch and judge_field

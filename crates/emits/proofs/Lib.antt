@@ -1,4 +1,3 @@
 pub mod Emitted
-pub mod Events
 pub mod Recipients
 pub mod Steps

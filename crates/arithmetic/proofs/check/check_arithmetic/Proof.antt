@@ -15,8 +15,6 @@ check-arithmetic-spec =
     (tie.spec Inv μ
     (λ c κs. search needs)
     (λ c κs. search needs)
-    (λ c κs. search needs)
-    (λ c κs. search needs)
     (λ c. search (needs, turn-start))
     (λ c κs. search (needs, turn-here))
     (λ c. search needs)
