@@ -56,10 +56,6 @@ either P n a b e x y = go (eqb n a) refl e
     go true q f = rw (eqb-true n a q) x
     go false q f = rw (eqb-true n b f) y
 
-pub neither : (a b : Bool) → (a || b) ≡ false → (a ≡ false) × (b ≡ false)
-neither true b e = absurd (let z : _≡_ {A = ℕ} 0 1 = cc in omega arith)
-neither false b e = (refl, e)
-
 -- ------------------------------------------------------------ the next line
 
 pub fits-next : (S : List ℕ) (i : ℕ) → i < length S / 8 → length S < 18446744073709551616 → Fits w64 (i + 1)

@@ -1,7 +1,7 @@
 -- The statements of an entry: what each return and each call needs. Assumes nothing.
 use mathlib.Core.Logic.{_≢_}
 use mathlib.Core.Path.{_≡_, refl, sym, ap, _∙_}
-use mathlib.Core.List.{List, [], _∷_, _++_, map, append-nil}
+use mathlib.Core.List.{List, [], _∷_, _++_, append-nil, map-append}
 use mathlib.Core.Bool.{Bool, true, false, not, _&&_}
 use Prim.Native.Nat.{ℕ, suc, _+_, _-_, _≤_}
 use native.Mathlib.Numerals.{add-one}
@@ -23,7 +23,7 @@ use Rattle.rules.specs.Statements.{checkStmtTypes, expectPredicate, refuseNameR
 use Rattle.rules.specs.Check.{checkLocal, checkBody}
 use Rattle.rules.specs.Standing.{nodeAt, nodesAt, exprAt, exprsAt, stmtAt, stmtsAt, Loaded, Here, Row, stop}
 use Rattle.rules.proofs.AnyTable.{from-table, first-time}
-use Rattle.rules.proofs.Binding.{kept-length, then-ok, then-refused}
+use Rattle.rules.proofs.Binding.{kept-length, then-ok, then-refused, kept-assoc, refused-behind}
 use Rattle.rules.proofs.Exprs.{line-at}
 use Rattle.rules.proofs.Parts.{stop as end', _also_, pick}
 use Rattle.rules.proofs.Records.{guard-at, let-at, emit-at, assign-at, do-at, no-stmts, stmts-next}
@@ -46,10 +46,10 @@ use Rattle.typing.specs.Asks.{Asks, Types, Does}
 use Rattle.typing.proofs.Calls.{did, stopped, does-length}
 use Rattle.typing.proofs.Onward.{Onward, onward}
 use Rattle.typing.proofs.Operators.{gave, gave-code}
+use Rattle.typing.proofs.Doing.{does-then, does-cut, does-nothing}
 use Rattle.statements.specs.Checked.{StmtIn}
 use Rattle.emits.specs.Emit.{EmitIn, emitRule}
 use Rattle.checking.specs.Walk.{withLocals, stmtRule, BodyStmt, StmtOf, Binds, StmtDoes, BodyAt}
-use Rattle.checking.proofs.Doing.{kept-assoc, refused-behind, does-then, does-cut, does-nothing}
 
 -- ------------------------------------------------------------ a statement
 
@@ -200,10 +200,6 @@ ofKind-append k (t ∷ ts) bs = go (eqb (nodeKind t) k) (ofKind-append k ts bs)
         → _≡_ {A = List Node} (elim b [ true ↦ t ∷ ofKind k (ts ++ bs) | false ↦ ofKind k (ts ++ bs) ]) (elim b as (λ _. List Node) [ true ↦ t ∷ ofKind k ts | false ↦ ofKind k ts ] ++ ofKind k bs)
     go true h = ap (λ us. t ∷ us) h
     go false h = h
-
-map-append : {A B : Type 0} (f : A → B) (as' bs : List A) → map f (as' ++ bs) ≡ map f as' ++ map f bs
-map-append f [] bs = refl
-map-append f (a ∷ as') bs = ap (λ cs. f a ∷ cs) (map-append f as' bs)
 
 -- ------------------------------------------------------------ `checkBody` from a statement on
 

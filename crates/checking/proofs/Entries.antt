@@ -18,6 +18,7 @@ use Rattle.rules.specs.Arithmetic.{checkArithmetic}
 use Rattle.rules.specs.Check.{clausePredicate, clauseAssets, paramTypes, checkBody, checkEntry}
 use Rattle.rules.specs.Standing.{nodesAt, paramsAt, clausesAt, stmtsAt, entryAt, modelIn, Loaded, Row, stop}
 use Rattle.rules.proofs.Records.{EntryParts, entry-at}
+use Rattle.rules.proofs.Binding.{kept-assoc, kept-behind}
 use Rattle.declared.specs.Answers.{Answers}
 use Rattle.declared.specs.Found.{ofKind}
 use Rattle.declared.specs.Lines.{EntryAt, RecordsAt}
@@ -25,13 +26,14 @@ use Rattle.declared.specs.Refusal.{doneOf}
 use Rattle.declared.specs.declared.refusal.Refusal.{Refusal}
 use Rattle.declared.specs.declared.refusal.Done.{Done}
 use Rattle.declared.specs.declared.refusal.Done.the-variants.{Fine, Refused}
+use Rattle.declared.proofs.Answers.{answers-then, answers-cut}
 use Rattle.env.specs.Force.{envOf, paramsIn, lets, laterNames, no-let}
 use Rattle.env.specs.declared.env.Env.{Env}
 use Rattle.typing.specs.Asks.{Does}
 use Rattle.typing.proofs.Calls.{does-length}
+use Rattle.typing.proofs.Doing.{does-then, does-cut, asks-none}
 use Rattle.wrapping.specs.Lines.{FewEntry}
 use Rattle.checking.specs.Walk.{named, withLocals, recordRule, a-clause, RecordsIn, BodyAt, EntryIn, entryEnv, typesRule, usesRule}
-use Rattle.checking.proofs.Doing.{kept-assoc, kept-behind, does-then, does-cut, asks-none, answers-then, answers-cut}
 use Rattle.checking.proofs.Recording.{row-rule, rule-clause}
 
 -- ------------------------------------------------------------ what is typed

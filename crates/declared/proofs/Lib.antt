@@ -6,5 +6,6 @@ pub mod Events
 pub mod Fields
 pub mod Finding
 pub mod Items
+pub mod Rows
 pub mod Tables
 pub mod Types

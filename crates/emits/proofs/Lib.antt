@@ -1,3 +1,2 @@
 pub mod Emitted
 pub mod Recipients
-pub mod Steps
