@@ -15,9 +15,10 @@ use Rattle.rules.specs.Arithmetic.{opPlace, isOp, any, acknowledged, sumTerms, 
 use Rattle.rules.specs.Typing.{isSome}
 use Rattle.rules.specs.Standing.{exprAt}
 use Rattle.rules.proofs.Exprs.{by-kind}
+use Rattle.declared.proofs.Tables.{or-parts}
 use Rattle.declared.specs.Lines.{ExprAt}
 use Rattle.arithmetic.specs.Tests.{others, added, addsUnbounded}
-use Rattle.arithmetic.proofs.Ops.{op-place, neither}
+use Rattle.arithmetic.proofs.Ops.{op-place}
 
 -- ------------------------------------------------------------ the value by its kind
 
@@ -72,7 +73,7 @@ module _ (s S : List ℕ) (E : Entry) (T : Expr) (o i k : ℕ) (h : ExprAt s S i
 
   module _ (f : (eqb o 2 || leb 32 k) ≡ false) where
     both : (eqb o 2 ≡ false) × (leb 32 k ≡ false)
-    both = neither (eqb o 2) (leb 32 k) f
+    both = or-parts (eqb o 2) (leb 32 k) f
 
     by-addends : addsUnbounded E (getD assignOps o Set) T (exprAt s i) ≡ added E (addends (getD assignOps o Set) T (exprAt s i))
     by-addends = adds-addends E (getD assignOps o Set) T (exprAt s i) (acknowledged-at s S i h ∙ rw (← e) (both .1))

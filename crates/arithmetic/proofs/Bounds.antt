@@ -1,7 +1,7 @@
 -- Terms that are bounded. Assumes nothing.
 use mathlib.Core.Logic.{_≢_}
 use mathlib.Core.Path.{_≡_, refl, sym, ap, _∙_}
-use mathlib.Core.List.{List, [], _∷_, map}
+use mathlib.Core.List.{List, map}
 use mathlib.Core.Bool.{Bool, true, false, not, _&&_, _||_}
 use mathlib.Core.Option.{Option, none, some, Option·map}
 use Prim.Native.Nat.{ℕ, suc, _+_, _<_}
@@ -14,7 +14,6 @@ use borrow.Author.Tests.{eq-eqb, ne-eqb, not-true, not-false}
 use Rattle.text.specs.Text.{bytes, same}
 use Rattle.sheet.specs.Grammar as grammar
 use Rattle.sheet.specs.Scratch.{kindAt, nameAt, entry}
-use Rattle.sheet.specs.Tree.{Node, node}
 use Rattle.rules.specs.Text.{Name, is, among, lastNamed, get}
 use Rattle.rules.specs.Ast.{Entry, Param, paramOf, typeName}
 use Rattle.rules.specs.Asking.{Ty}
@@ -31,7 +30,8 @@ use Rattle.declared.specs.Found.{foundNode, Stretch, Last, ofKind}
 use Rattle.declared.specs.Lines.{Typed, EntryAt, ExprAt, RecordAt}
 use Rattle.declared.specs.declared.model.Found.{Found}
 use Rattle.declared.specs.declared.model.Found.the-variants.{At, Nothing}
-use Rattle.declared.proofs.Fields.{last-map, all-kind}
+use Rattle.declared.proofs.Fields.{last-map, all-kind, param-name}
+use Rattle.declared.proofs.Finding.{among-last}
 use Rattle.declared.proofs.Types.{named-word}
 use Rattle.arithmetic.specs.Tests.{names, amountBounded}
 use Rattle.arithmetic.proofs.Ops.{fits-next}
@@ -46,20 +46,6 @@ both-yes true b e = sym e
 both-yes false b e = refl
 
 -- ------------------------------------------------------------ is_param
-
--- a name is among those of a list where a search finds one of the list
-among-last : {A : Type 0} (f : A → Name) (x : Name) (as' : List A) → among x (map f as') ≡ isSome (lastNamed f x as')
-unfolding among lastNamed isSome
-among-last f x [] = refl
-among-last {A} f x (a ∷ as') = go (lastNamed f x as') (same x (f a)) (among-last f x as')
-  where
-    go : (o : Option A) (b : Bool) → among x (map f as') ≡ isSome o
-        → _≡_ {A = Bool} (elim b as (λ _. Bool) [ true ↦ true | false ↦ among x (map f as') ])
-        (isSome {A = A} (elim o as (λ _. Option A) [ some y ↦ some y | none ↦ elim b as (λ _. Option A) [ true ↦ some a | false ↦ none ] ]))
-    go (some y) true h = refl
-    go none true h = refl
-    go (some y) false h = h
-    go none false h = h
 
 some-map : {A B : Type 0} (f : A → B) (o : Option A) → isSome (Option·map f o) ≡ isSome o
 unfolding isSome
@@ -77,10 +63,6 @@ typed-names x ps =
         → isSome {A = Ty} (elim (Option·map {B = Name × Ty} (λ p. (p .name, tyOfDecl (p .ty))) o) as (λ _. Option Ty) [ none ↦ none | some e ↦ some (e .1) ]) ≡ isSome o
     go none = refl
     go (some p) = refl
-
-param-name : (t : Node) → paramOf t .name ≡ nodeName t
-unfolding paramOf nodeName
-param-name (node i l ps) = refl
 
 -- What `is_param` meets: m parameters.
 module _ (s S : List ℕ) (i m : ℕ) (h : EntryAt s S i) (c : m ≡ entry S i 5) where

@@ -2,7 +2,7 @@
 use mathlib.Core.Logic.{_≢_}
 use mathlib.Core.Path.{_≡_, refl, sym, _∙_}
 use mathlib.Core.List.{List}
-use mathlib.Core.Bool.{Bool, true, false, not, _&&_, _||_}
+use mathlib.Core.Bool.{Bool, true, false, not, _&&_, _||_, or-false}
 use Prim.Native.Nat.{ℕ, _+_, _<_, _≤_}
 use native.Mathlib.Numerals.{add-one}
 use native.Mathlib.Omega.{arith}
@@ -22,10 +22,10 @@ use Rattle.rules.proofs.Exprs.{by-kind}
 use Rattle.rules.proofs.Forest.{joined, partsOf}
 use Rattle.rules.proofs.Standing.{row-first}
 use Rattle.rules.proofs.Records.{limits-at}
+use Rattle.declared.proofs.Tables.{or-parts}
 use Rattle.declared.specs.Lines.{ExprAt, RecordAt}
-use Rattle.declared.proofs.Tables.{or-false}
 use Rattle.arithmetic.specs.Tests.{compares}
-use Rattle.arithmetic.proofs.Ops.{op-place, either, neither, fits-next, the-bin, the-op}
+use Rattle.arithmetic.proofs.Ops.{op-place, either, fits-next, the-bin, the-op}
 use Rattle.arithmetic.proofs.Rows.{no-limits}
 use Rattle.arithmetic.proofs.Walks.{Walk, walk-start, walk-over, walk-here, walk-found, walk-inside, walk-behind, any-joined}
 
@@ -96,8 +96,8 @@ module _ (s S : List ℕ) (i : ℕ) (x : Name) (h : ExprAt s S i) (k : ℕ) (e :
       pub compares-not : (eqb o 7 || eqb o 5) ≡ false → false ≡ compares (exprAt s i) x
       unfolding compares isOp opPlace
       compares-not v =
-          let y = neither (eqb o 6) (eqb o 4) t in
-          let z = neither (eqb o 7) (eqb o 5) v in
+          let y = or-parts (eqb o 6) (eqb o 4) t in
+          let z = or-parts (eqb o 7) (eqb o 5) v in
           sym (by-op
           ∙ rw (op-place o 6 (omega arith), op-place o 4 (omega arith), op-place o 7 (omega arith), op-place o 5 (omega arith), y .0, y .1, z .0, z .1) refl)
 

@@ -1,10 +1,10 @@
 -- Statements that may overflow. Assumes nothing.
 use mathlib.Core.Logic.{_≢_}
-use mathlib.Core.Path.{_≡_, refl, sym, ap, _∙_, subst}
-use mathlib.Core.List.{List, _∷_}
+use mathlib.Core.Path.{_≡_, refl, sym, _∙_, subst}
+use mathlib.Core.List.{List}
 use mathlib.Core.Bool.{Bool, true, false, not, _||_}
 use mathlib.Core.Option.{Option, none, some}
-use Prim.Native.Nat.{ℕ, suc, _+_, _-_, _<_, _≤_}
+use Prim.Native.Nat.{ℕ, suc, _+_, _-_, _<_}
 use native.Mathlib.Numerals.{add-one}
 use native.Mathlib.Omega.{arith}
 use mir.Syntax.{w64}
@@ -15,23 +15,23 @@ use Rattle.sheet.specs.Grammar as grammar
 use Rattle.sheet.specs.Scratch.{kindAt, opAt, nameAt, endAt, entry, skip}
 use Rattle.rules.specs.Text.{Name, among, get}
 use Rattle.rules.specs.Ast.{AssignOp, Set, assignOps, Expr, Entry, Stmt, assign}
-use Rattle.rules.specs.Asking.{Ty, Rule, Res, ok, refused, _>>_, expect, ifSome, forEach}
+use Rattle.rules.specs.Asking.{Ty, Rule, Res, ok, refused, expect, ifSome, forEach}
 use Rattle.rules.specs.Arithmetic.{any, acknowledged, addends, bounded, limitsBound, overflowText, checkSum, checkArithmetic}
 use Rattle.rules.specs.Check.{paramTypes}
 use Rattle.rules.specs.Typing.{isSome, identOf}
-use Rattle.rules.specs.Standing.{exprAt, stmtAt, stmtsAt, entryAt, placeAt, Loaded, Row}
+use Rattle.rules.specs.Standing.{exprAt, stmtAt, stmtsAt, entryAt, placeAt}
 use Rattle.rules.proofs.Parts.{stop, _also_, pick}
 use Rattle.rules.proofs.Exprs.{ident-at}
 use Rattle.rules.proofs.Standing.{row-first, row-rest}
-use Rattle.rules.proofs.Records.{named, guard-at, let-at, emit-at, assign-at, do-at, stmts-next, no-stmts}
+use Rattle.rules.proofs.Records.{named, guard-at, let-at, emit-at, assign-at, do-at}
 use Rattle.declared.specs.Answers.{Answers}
 use Rattle.declared.specs.Lines.{EntryAt, ExprAt, RecordAt}
 use Rattle.declared.specs.Refusal.{refusalOf, doneOf}
-use Rattle.declared.specs.declared.refusal.Refusal.{Refusal}
 use Rattle.declared.specs.declared.refusal.Refusal.the-variants.{Overflow}
 use Rattle.declared.specs.declared.refusal.Done.{Done}
 use Rattle.declared.specs.declared.refusal.Done.the-variants.{Fine, Refused}
-use Rattle.declared.proofs.Answers.{gives, fits, misfits, then-fine, then-refused}
+use Rattle.declared.proofs.Rows.{Turn}
+use Rattle.declared.proofs.Answers.{gives, fits, misfits}
 use Rattle.arithmetic.specs.Tests.{names, added, addsUnbounded}
 use Rattle.arithmetic.proofs.Ops.{fits-next}
 use Rattle.arithmetic.proofs.Rows.{parts-of}
@@ -174,48 +174,10 @@ module _ (s S : List ℕ) (E : Entry) (i k : ℕ) (h : RecordAt grammar.Stmt s S
 
 -- ------------------------------------------------------------ check_arithmetic
 
--- a turn: `left` statements are to go from line at on
-pub record Turn (s S : List ℕ) (i left at : ℕ) : Type 0 where
-  pub loaded : Loaded s S
-  pub row : Row S grammar.Stmt left at
-  pub rest : (r : Res Unit)
-      → Answers (forEach (stmtsAt s left at) (checkSum (entryAt s i) (paramTypes (entryAt s i .params)))) r
-      → Answers (checkArithmetic (entryAt s i) (paramTypes (entryAt s i .params))) r
-
-pub turn-start : (s S : List ℕ) (i left at from m : ℕ) → EntryAt s S i → from ≡ skip S (entry S i 5) (suc i) → m ≡ entry S i 6 → at ≡ skip S m from → left ≡ entry S i 7 → Turn s S i left at
+pub sums-start : (s S : List ℕ) (i left at : ℕ) → EntryAt s S i → at ≡ skip S (entry S i 6) (skip S (entry S i 5) (suc i)) → left ≡ entry S i 7
+    → Turn grammar.Stmt stmtsAt (checkSum (entryAt s i) (paramTypes (entryAt s i .params))) (checkArithmetic (entryAt s i) (paramTypes (entryAt s i .params))) s S left at
 unfolding checkArithmetic
-turn-start s S i left at from m h e f g l =
+sums-start s S i left at h e l =
     let q = parts-of s S i h in
-    let b : entryAt s i .body ≡ stmtsAt s left at = rw (q .is, g, f, e, l) refl in
-    record { loaded = h .loaded; row = rw (g, f, e, l) (q .body); rest = λ r a. subst (λ ss. Answers (forEach ss (checkSum (entryAt s i) (paramTypes (entryAt s i .params)))) r) (sym b) a }
-
-module _ (s S : List ℕ) (i left at : ℕ) (t : Turn s S i left at) where
-  pub turn-over : left ≤ 0 → Answers (checkArithmetic (entryAt s i) (paramTypes (entryAt s i .params))) (doneOf s Fine)
-  unfolding forEach doneOf
-  turn-over h = t .rest _ (rw (let e : left ≡ 0 = omega arith in e, no-stmts s at) (gives tt))
-
-  module _ (h : 0 < left) where
-    some-row : Row S grammar.Stmt (suc (left - 1)) at
-    some-row = rw (let e : suc (left - 1) ≡ left = omega arith in e) (t .row)
-
-    pub turn-here : RecordAt grammar.Stmt s S at
-    turn-here = record { loaded = t .loaded; here = row-first some-row }
-
-    abbrev first : Rule Unit
-    first = checkSum (entryAt s i) (paramTypes (entryAt s i .params)) (stmtAt s at)
-
-    abbrev others : Rule Unit
-    others = forEach (stmtsAt s (left - 1) (endAt S at)) (checkSum (entryAt s i) (paramTypes (entryAt s i .params)))
-
-    these : stmtsAt s left at ≡ stmtAt s at ∷ stmtsAt s (left - 1) (endAt S at)
-    these = ap (λ m. stmtsAt s m at) (let e : left ≡ suc (left - 1) = omega arith in e) ∙ stmts-next (t .loaded) (left - 1) (turn-here .here .within)
-
-    module _ (r : Done) (f : Answers (checkSum (entryAt s i) (paramTypes (entryAt s i .params)) (stmtAt s at)) (doneOf s r)) where
-      pub turn-refused : (why : Refusal) → r ≡ Refused why → Answers (checkArithmetic (entryAt s i) (paramTypes (entryAt s i .params))) (doneOf s (Refused why))
-      unfolding forEach doneOf _>>_
-      turn-refused why q = t .rest _ (rw these (then-refused first others (refusalOf s why) (rw q at f)))
-
-      pub turn-next : (at' : ℕ) → r ≡ Fine → at' ≡ endAt S at → Turn s S i (left - 1) at'
-      unfolding forEach doneOf _>>_
-      turn-next at' q g =
-          record { loaded = t .loaded; row = rw g (row-rest some-row); rest = rw g (λ r a. t .rest r (rw these (then-fine first (forEach (stmtsAt s (left - 1) (endAt S at)) _) tt r (rw q at f) a))) }
+    let b : entryAt s i .body ≡ stmtsAt s left at = rw (q .is, e, l) refl in
+    record { loaded = h .loaded; row = rw (e, l) (q .body); rest = λ r a. subst (λ ss. Answers (forEach ss (checkSum (entryAt s i) (paramTypes (entryAt s i .params)))) (doneOf s r)) (sym b) a }

@@ -10,7 +10,7 @@ use mir.Val.{Fits}
 use lib.Dec.{eqb, ltb}
 use lib.ListN.{length, getD, drop}
 use borrow.Author.Tests.{eqb-true, ne-eqb, ltb-true, ltb-false, not-false}
-use Rattle.sheet.specs.Scratch.{kindAt, opAt, endAt, skip}
+use Rattle.sheet.specs.Scratch.{kindAt, opAt, endAt}
 use Rattle.sheet.specs.Say.{spanAt}
 use Rattle.rules.specs.Ast.{Shr, binOps, binary}
 use Rattle.rules.specs.Arithmetic.{opPlace}
@@ -56,10 +56,6 @@ either P n a b e x y = go (eqb n a) refl e
     go true q f = rw (eqb-true n a q) x
     go false q f = rw (eqb-true n b f) y
 
-pub neither : (a b : Bool) → (a || b) ≡ false → (a ≡ false) × (b ≡ false)
-neither true b e = absurd (let z : _≡_ {A = ℕ} 0 1 = cc in omega arith)
-neither false b e = (refl, e)
-
 -- ------------------------------------------------------------ the next line
 
 pub fits-next : (S : List ℕ) (i : ℕ) → i < length S / 8 → length S < 18446744073709551616 → Fits w64 (i + 1)
@@ -100,15 +96,3 @@ module _ (s S : List ℕ) (i : ℕ) (h : ExprAt s S i) where
 
     pub op-right : (j : ℕ) → not b ≡ false → j ≡ endAt S (i + 1) → ExprAt s S j
     op-right j q f = bin-right (kindAt S i) refl (is-bin (not-false b q)) j f
-
--- ------------------------------------------------------------ the line after some records
-
-pub after-turn : (S : List ℕ) (m i left at at' : ℕ) → skip S left at ≡ skip S m i → 0 < left → at' ≡ endAt S at → skip S (left - 1) at' ≡ skip S m i
-unfolding skip
-after-turn S m i (suc left) at at' e h q = rw (q, let y : suc left - 1 ≡ left = omega arith in y) e
-after-turn S m i zero at at' e h q = absurd (omega arith)
-
-pub after-over : (S : List ℕ) (m i left at : ℕ) → skip S left at ≡ skip S m i → left ≤ 0 → at ≡ skip S m i
-unfolding skip
-after-over S m i zero at e h = e
-after-over S m i (suc left) at e h = absurd (omega arith)

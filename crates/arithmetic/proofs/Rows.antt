@@ -32,9 +32,6 @@ parts-of s S i h = entry-at (h .loaded) (h .within) (h .kind)
 pub entry-next : (s S : List ℕ) (i : ℕ) → EntryAt s S i → length S < 18446744073709551616 → Fits w64 (i + 1)
 entry-next s S i h l = fits-next S i (h .within) l
 
-pub clauses-line : (S : List ℕ) (i m r : ℕ) → m ≡ entry S i 5 → r ≡ skip S m (i + 1) → r ≡ skip S (entry S i 5) (suc i)
-clauses-line S i m r e f = f ∙ rw (e, add-one i) refl
-
 -- whether p of one of the records, `left` of which are to go from line at on
 pub record Seeking {A : Type 0} (s S : List ℕ) (σ : grammar.Sort) (items : ℕ → ℕ → List A) (item : ℕ → A) (p : A → Bool) (whole : Bool) (left at : ℕ) : Type 0 where
   pub loaded : Loaded s S

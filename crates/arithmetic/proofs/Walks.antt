@@ -2,7 +2,7 @@
 use mathlib.Core.Logic.{_≢_}
 use mathlib.Core.Path.{_≡_, refl, sym, ap, _∙_}
 use mathlib.Core.List.{List, [], _∷_}
-use mathlib.Core.Bool.{Bool, true, false, _&&_, _||_}
+use mathlib.Core.Bool.{Bool, true, false, _&&_, _||_, or-assoc, or-false}
 use Prim.Native.Nat.{ℕ, _+_, _-_, _<_, _≤_}
 use native.Mathlib.Numerals.{add-one}
 use native.Mathlib.Omega.{arith}
@@ -19,7 +19,6 @@ use Rattle.rules.proofs.Parts.{stop, _also_, pick}
 use Rattle.rules.proofs.Exprs.{leafAt, by-kind, wrap-at}
 use Rattle.rules.proofs.Forest.{joined, partsOf, Left, At, left-one, left-over, left-at}
 use Rattle.declared.specs.Lines.{ExprAt}
-use Rattle.declared.proofs.Tables.{or-false}
 
 -- f of the expressions that are left from line at on is what is wanted
 pub record Walk (s S : List ℕ) (f : Exprs → Bool) (whole : Bool) (end at : ℕ) : Type 0 where
@@ -62,10 +61,6 @@ module _ (s S : List ℕ) (f : Exprs → Bool) (whole : Bool) (end at : ℕ) (w 
     walk-less at' q = omega (arith, here' .here .after)
 
 -- ------------------------------------------------------------ a name in an expression
-
-or-assoc : (a b c : Bool) → ((a || b) || c) ≡ (a || (b || c))
-or-assoc true b c = refl
-or-assoc false b c = refl
 
 pub any-joined : (f : Expr → Bool) (g : Exprs → Bool) → g nil ≡ false → ((e : Expr) (es : Exprs) → g (more e es) ≡ (f e || g es)) → (es fs : Exprs) → g (joined es fs) ≡ (g es || g fs)
 unfolding joined

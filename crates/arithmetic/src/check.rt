@@ -1,16 +1,14 @@
 // Sums that may overflow.
 use crate::limits::limits_bound;
-use crate::lines::after;
-use crate::lines::clauses;
 use crate::sums::adds_unbounded;
 use crate::sums::is_param;
 use declared::Done;
 use declared::Refusal;
+use declared::body_line;
 use sheet::end;
 use sheet::kind;
 use sheet::name;
 use sheet::op;
-use sheet::second;
 use sheet::third;
 ghost use Rattle.sheet.specs.Grammar.{Stmt};
 ghost use Rattle.rules.specs.Arithmetic.{checkArithmetic, checkSum};
@@ -58,7 +56,7 @@ pub fn check_arithmetic(sheet: &[u8], lines: &[u16], i: usize) -> Done
     requires { ⌜ EntryAt (now sheet) (now lines) i ⌝ }
     ensures { λ r. ⌜ Answers (checkArithmetic (entryAt (now (sheet .entry)) i) (paramTypes (entryAt (now (sheet .entry)) i .params))) (doneOf (now (sheet .entry)) r) ⌝ }
 {
-    let mut at = after(lines, clauses(lines, i), second(lines, i));
+    let mut at = body_line(lines, i);
     let mut left = third(lines, i);
     while 0 < left {
         let judged = check_sum(sheet, lines, i, at);

@@ -1,6 +1,6 @@
 // `limits_bound`: whether a `limits` clause caps a name from above.
-use crate::lines::clauses;
 use crate::lines::is_op;
+use declared::clauses_line;
 use sheet::end;
 use sheet::kind;
 use sheet::name;
@@ -127,7 +127,7 @@ pub fn limits_bound(sheet: &[u8], lines: &[u16], entry: usize, x: &[u8]) -> bool
     requires { ⌜ EntryAt (now sheet) (now lines) entry ⌝ }
     ensures { λ r. ⌜ r ≡ limitsBound (entryAt (now (sheet .entry)) entry) (now (x .entry)) ⌝ }
 {
-    let mut at = clauses(lines, entry);
+    let mut at = clauses_line(lines, entry);
     let mut left = second(lines, entry);
     while 0 < left {
         if limits_cap(sheet, lines, at, x) {

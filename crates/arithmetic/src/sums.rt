@@ -1,7 +1,7 @@
 // The terms of a sum, and which of them are bounded.
-use crate::lines::clauses;
 use crate::lines::is_op;
 use declared::Found;
+use declared::clauses_line;
 use declared::last_named;
 use sheet::end;
 use sheet::first;
@@ -68,7 +68,7 @@ fn has_mints(sheet: &[u8], lines: &[u16], entry: usize) -> bool
     requires { ⌜ EntryAt (now sheet) (now lines) entry ⌝ }
     ensures { λ r. ⌜ r ≡ any isMints (entryAt (now (sheet .entry)) entry .clauses) ⌝ }
 {
-    let mut at = clauses(lines, entry);
+    let mut at = clauses_line(lines, entry);
     let mut left = second(lines, entry);
     while 0 < left {
         if kind(lines, at) == 13 {

@@ -13,6 +13,7 @@ use mir.Syntax.{w64}
 use Rattle.sheet.specs.Grammar as grammar
 use Rattle.sheet.specs.Scratch.{entry, kindAt, endAt, skip}
 use Rattle.sheet.specs.Tree.{Node, Nodes, nil as done, more as then, takeNodes}
+use Rattle.rules.proofs.Binding.{kept-behind, kept-unit}
 use Rattle.rules.specs.Ast.{Expr, Exprs, nil, more, do', list, nodes, exprOf}
 use Rattle.rules.specs.Asking.{Res, Rule, ret, _>>=_, _>>_, ifSome, ifSomeElse, forEach}
 use Rattle.rules.specs.Kept.{Table, kept}
@@ -20,7 +21,7 @@ use Rattle.rules.specs.Typing.{Call, callOf}
 use Rattle.rules.specs.Assets.{noAssetCall, noAssetCalls, consumedAssetCall, assetCallsConsumed}
 use Rattle.rules.specs.Check.{clauseAssets}
 use Rattle.rules.specs.Standing.{treesFrom, nodesAt, exprAt, exprsAt, stmtAt, clauseAt, Row}
-use Rattle.rules.proofs.Exprs.{call-at}
+use Rattle.rules.proofs.Exprs.{call-at, is-call-at}
 use Rattle.rules.proofs.Parts.{stop, _also_, pick}
 use Rattle.rules.proofs.Records.{exprs-list, nodes-join, guard-at, let-at, emit-at, assign-at, do-at, limits-at, denies-at, mints-at, after-at}
 use Rattle.rules.proofs.Standing.{row-first, row-rest, row-take}
@@ -30,10 +31,8 @@ use Rattle.declared.specs.Refusal.{refusalOf, doneOf}
 use Rattle.declared.specs.declared.refusal.Refusal.{Refusal}
 use Rattle.declared.specs.declared.refusal.Done.{Done}
 use Rattle.declared.specs.declared.refusal.Done.the-variants.{Fine, Refused}
+use Rattle.declared.proofs.Rows.{exprs}
 use Rattle.declared.proofs.Answers.{gives, then-fine, then-refused}
-use Rattle.assets.proofs.Behind.{then-same, then-done}
-use Rattle.assets.proofs.Rows.{exprs}
-use Rattle.assets.proofs.Walk.{is-call-at}
 
 -- ------------------------------------------------------------ calls
 
@@ -94,7 +93,7 @@ one-behind s S i h r = record { loaded = h .loaded; here = rw add-one (row-first
 
 two-walked : (a b : Expr) (T : Table) → kept (forEach (a ∷ b ∷ []) noAssetCall) T ≡ kept (noAssetCall a >> noAssetCall b) T
 unfolding forEach _>>_
-two-walked a b T = then-same (noAssetCall a) (noAssetCall b >> ret tt) (noAssetCall b) (then-done (noAssetCall b)) T
+two-walked a b T = kept-behind (noAssetCall a) (λ _. noAssetCall b >> ret tt) (λ _. noAssetCall b) T (λ _. kept-unit (noAssetCall b))
 
 -- What `asset_calls_consumed` meets: a statement of kind k.
 module _ (s S : List ℕ) (i k : ℕ) (h : RecordAt grammar.Stmt s S i) (e : k ≡ kindAt S i) where
@@ -162,9 +161,9 @@ after-walked : (f : Expr → Rule Unit) (ns ms : List Node) → length ns ≤ 1 
     → kept (forEach (map exprOf (ns ++ ms)) f) T ≡ kept (ifSome (Option·map exprOf (getElem? ns 0)) f >> ifSome (Option·map exprOf (getElem? ms 0)) f) T
 unfolding forEach ifSome _>>_ _>>=_
 after-walked f [] [] a b T = refl
-after-walked f [] (m ∷ []) a b T = then-done (f (exprOf m)) T
+after-walked f [] (m ∷ []) a b T = kept-unit (f (exprOf m)) T
 after-walked f (n ∷ []) [] a b T = refl
-after-walked f (n ∷ []) (m ∷ []) a b T = then-same (f (exprOf n)) (f (exprOf m) >> ret tt) (f (exprOf m)) (then-done (f (exprOf m))) T
+after-walked f (n ∷ []) (m ∷ []) a b T = kept-behind (f (exprOf n)) (λ _. f (exprOf m) >> ret tt) (λ _. f (exprOf m)) T (λ _. kept-unit (f (exprOf m)))
 after-walked f [] (m ∷ m' ∷ ms) a b T = absurd (omega arith)
 after-walked f (n ∷ []) (m ∷ m' ∷ ms) a b T = absurd (omega arith)
 after-walked f (n ∷ n' ∷ ns) ms a b T = absurd (omega arith)

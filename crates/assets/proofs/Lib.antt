@@ -1,4 +1,2 @@
-pub mod Behind
 pub mod Consuming
-pub mod Rows
 pub mod Walk

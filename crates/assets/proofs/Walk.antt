@@ -2,8 +2,7 @@
 use mathlib.Core.Logic.{_≢_}
 use mathlib.Core.Path.{_≡_, refl, sym, ap, _∙_}
 use mathlib.Core.List.{List}
-use mathlib.Core.Bool.{Bool, true, false, cond, not, _&&_, _||_}
-use mathlib.Core.Option.{none, some}
+use mathlib.Core.Bool.{Bool, true, false, not, _&&_, _||_, or-false}
 use Prim.Native.Nat.{ℕ, suc, _+_, _<_, _≤_}
 use native.Mathlib.Numerals.{add-one}
 use native.Mathlib.Omega.{arith}
@@ -11,16 +10,17 @@ use lib.Dec.{eqb}
 use borrow.Author.Tests.{ne-eqb, eqb-true}
 use Rattle.text.specs.Text.{bytes, same}
 use Rattle.sheet.specs.Grammar as grammar
-use Rattle.sheet.specs.Scratch.{entry, kindAt, endAt, nameAt}
+use Rattle.sheet.specs.Scratch.{kindAt, endAt, nameAt}
 use Rattle.sheet.specs.Say.{spanAt}
+use Rattle.rules.proofs.Binding.{kept-assoc, kept-behind, kept-unit}
 use Rattle.rules.specs.Text.{Name, is}
 use Rattle.rules.specs.Ast.{Expr, leaf, unary, binary, field, call, wrap, Exprs, nil, more, leafOf}
-use Rattle.rules.specs.Asking.{refused, ret, _>>=_, _>>_, expect}
+use Rattle.rules.specs.Asking.{refused, _>>=_, _>>_, expect}
 use Rattle.rules.specs.Kept.{Table, kept}
 use Rattle.rules.specs.Typing.{identLeaf, identIs, identOf, dotOf, callOf}
 use Rattle.rules.specs.Assets.{makesAsset, droppedText, noAssetCall, noAssetCalls}
-use Rattle.rules.specs.Standing.{exprAt, exprsAt, Loaded, Here}
-use Rattle.rules.proofs.Exprs.{leafAt, by-kind, call-at}
+use Rattle.rules.specs.Standing.{exprAt, Loaded}
+use Rattle.rules.proofs.Exprs.{leafAt, by-kind, call-at, is-call-at}
 use Rattle.rules.proofs.Forest.{joined, partsOf, Left, At, left-one, left-over, left-at}
 use Rattle.rules.proofs.Parts.{stop, _also_, pick}
 use Rattle.rules.proofs.Records.{placed}
@@ -31,9 +31,7 @@ use Rattle.declared.specs.Refusal.{refusalOf, doneOf}
 use Rattle.declared.specs.declared.refusal.Refusal.the-variants.{Dropped}
 use Rattle.declared.specs.declared.refusal.Done.the-variants.{Fine, Refused}
 use Rattle.declared.proofs.Answers.{misfits, then-refused}
-use Rattle.declared.proofs.Tables.{or-false}
 use Rattle.assets.specs.Made.{isAssetCall}
-use Rattle.assets.proofs.Behind.{then-same, then-then, then-done}
 
 -- ------------------------------------------------------------ expressions one behind another
 
@@ -41,19 +39,19 @@ joined-walked : (es fs : Exprs) (T : Table) → kept (noAssetCalls (joined es fs
 unfolding joined noAssetCalls _>>_ _>>=_
 joined-walked nil fs T = refl
 joined-walked (more e es) fs T =
-    then-same (noAssetCall e) (noAssetCalls (joined es fs)) (noAssetCalls es >> noAssetCalls fs) (joined-walked es fs) T
-    ∙ sym (then-then (noAssetCall e) (noAssetCalls es) (noAssetCalls fs) T)
+    kept-behind (noAssetCall e) (λ _. noAssetCalls (joined es fs)) (λ _. noAssetCalls es >> noAssetCalls fs) T (λ _. joined-walked es fs)
+    ∙ sym (kept-assoc (λ _. noAssetCalls es) (λ _. noAssetCalls fs) (noAssetCall e) T)
 
 -- what is walked behind an expression that is no asset call: its parts, and then the rest
 walked-in : (e : Expr) (rest : Exprs) → isAssetCall e ≡ false → (T : Table) → kept (noAssetCalls (more e rest)) T ≡ kept (noAssetCalls (joined (partsOf e) rest)) T
 unfolding joined partsOf noAssetCall noAssetCalls _>>_ _>>=_ isAssetCall callOf expect
 walked-in (leaf l s k) rest h T = refl
 walked-in (unary l s o e) rest h T = refl
-walked-in (binary l s o a b) rest h T = then-then (noAssetCall a) (noAssetCall b) (noAssetCalls rest) T
+walked-in (binary l s o a b) rest h T = kept-assoc (λ _. noAssetCall b) (λ _. noAssetCalls rest) (noAssetCall a) T
 walked-in (field l s e n m) rest h T = refl
 walked-in (call l s c es) rest h T =
-    rw h (then-then (noAssetCall c) (noAssetCalls es) (noAssetCalls rest) T
-    ∙ then-same (noAssetCall c) (noAssetCalls es >> noAssetCalls rest) (noAssetCalls (joined es rest)) (λ U. sym (joined-walked es rest U)) T)
+    rw h (kept-assoc (λ _. noAssetCalls es) (λ _. noAssetCalls rest) (noAssetCall c) T
+    ∙ kept-behind (noAssetCall c) (λ _. noAssetCalls es >> noAssetCalls rest) (λ _. noAssetCalls (joined es rest)) T (λ _ U. sym (joined-walked es rest U)))
 walked-in (wrap l s w e) rest h T = refl
 
 dropped : (l s : ℕ) (c : Expr) (es : Exprs) → makesAsset c ≡ true → Answers (noAssetCall (call l s c es)) (refused (record { number = 44; place = s; text = droppedText }))
@@ -61,16 +59,6 @@ unfolding noAssetCall
 dropped l s c es h = then-refused _ _ _ (then-refused _ _ _ (misfits (not (makesAsset c)) 44 s droppedText (rw h refl)))
 
 -- ------------------------------------------------------------ one line
-
-module _ {s S : List ℕ} (d : Loaded s S) {i : ℕ} (h : Here S grammar.Expr i) where
-  -- `Expr::Call` by the line's kind
-  pub is-call-at : callOf (exprAt s i) ≡ cond (eqb (kindAt S i) 31) (some (record { callee = exprAt s (suc i); args = exprsAt s (entry S i 6) (endAt S (suc i)) })) none
-  unfolding callOf
-  is-call-at =
-      by-kind d h (λ k e. callOf e ≡ cond (eqb k 31) (some (record { callee = exprAt s (suc i); args = exprsAt s (entry S i 6) (endAt S (suc i)) })) none)
-      (λ k a b. rw (ne-eqb k 31 (omega arith)) refl)
-      refl refl refl refl
-      (λ k w a. rw (ne-eqb k 31 (omega arith)) refl)
 
 -- What `makes_asset` meets: a callee of kind k, and whether its name is either word.
 pub makes-asset : (s S : List ℕ) (i k : ℕ) (x : Name) (v w : Bool) → RecordAt grammar.Expr s S i → k ≡ kindAt S i → x ≡ nameAt s S i → v ≡ same x (bytes "split") → w ≡ same x (bytes "mint")
@@ -122,9 +110,9 @@ pub record Walking (s S : List ℕ) (i end at : ℕ) : Type 0 where
   pub whole : (T : Table) → kept (noAssetCall (exprAt s i)) T ≡ kept (noAssetCalls exprs) T
 
 pub walk-start : (s S : List ℕ) (i end : ℕ) → RecordAt grammar.Expr s S i → end ≡ endAt S i → Walking s S i end i
-unfolding noAssetCalls
+unfolding noAssetCalls _>>_
 walk-start s S i end h e =
-    rw e (record { loaded = h .loaded; exprs = more (exprAt s i) nil; left = left-one (h .loaded) (h .here); whole = λ T. sym (then-done (noAssetCall (exprAt s i)) T) })
+    rw e (record { loaded = h .loaded; exprs = more (exprAt s i) nil; left = left-one (h .loaded) (h .here); whole = λ T. sym (kept-unit (noAssetCall (exprAt s i)) T) })
 
 module _ (s S : List ℕ) (i end at : ℕ) (w : Walking s S i end at) where
   pub walk-over : end ≤ at → Answers (noAssetCall (exprAt s i)) (doneOf s Fine)

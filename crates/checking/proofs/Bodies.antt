@@ -1,9 +1,9 @@
 -- The statements of an entry: what each return and each call needs. Assumes nothing.
 use mathlib.Core.Logic.{_≢_}
 use mathlib.Core.Path.{_≡_, refl, sym, ap, _∙_}
-use mathlib.Core.List.{List, [], _∷_, _++_, map, append-nil}
+use mathlib.Core.List.{List, [], _∷_, _++_, append-nil, map-append}
 use mathlib.Core.Bool.{Bool, true, false, not, _&&_}
-use Prim.Native.Nat.{ℕ, zero, suc, _+_, _-_, _<_, _≤_}
+use Prim.Native.Nat.{ℕ, suc, _+_, _-_, _≤_}
 use native.Mathlib.Numerals.{add-one}
 use native.Mathlib.Omega.{arith}
 use lib.Dec.{eqb, leb}
@@ -23,7 +23,7 @@ use Rattle.rules.specs.Statements.{checkStmtTypes, expectPredicate, refuseNameR
 use Rattle.rules.specs.Check.{checkLocal, checkBody}
 use Rattle.rules.specs.Standing.{nodeAt, nodesAt, exprAt, exprsAt, stmtAt, stmtsAt, Loaded, Here, Row, stop}
 use Rattle.rules.proofs.AnyTable.{from-table, first-time}
-use Rattle.rules.proofs.Binding.{kept-length, then-ok, then-refused}
+use Rattle.rules.proofs.Binding.{kept-length, then-ok, then-refused, kept-assoc, refused-behind}
 use Rattle.rules.proofs.Exprs.{line-at}
 use Rattle.rules.proofs.Parts.{stop as end', _also_, pick}
 use Rattle.rules.proofs.Records.{guard-at, let-at, emit-at, assign-at, do-at, no-stmts, stmts-next}
@@ -46,22 +46,10 @@ use Rattle.typing.specs.Asks.{Asks, Types, Does}
 use Rattle.typing.proofs.Calls.{did, stopped, does-length}
 use Rattle.typing.proofs.Onward.{Onward, onward}
 use Rattle.typing.proofs.Operators.{gave, gave-code}
+use Rattle.typing.proofs.Doing.{does-then, does-cut, does-nothing}
 use Rattle.statements.specs.Checked.{StmtIn}
 use Rattle.emits.specs.Emit.{EmitIn, emitRule}
 use Rattle.checking.specs.Walk.{withLocals, stmtRule, BodyStmt, StmtOf, Binds, StmtDoes, BodyAt}
-use Rattle.checking.proofs.Doing.{kept-assoc, refused-behind, does-then, does-cut, does-nothing}
-
--- ------------------------------------------------------------ the line after some records
-
-pub after-turn : (S : List ℕ) (m i left at at' : ℕ) → skip S left at ≡ skip S m i → 0 < left → at' ≡ endAt S at → skip S (left - 1) at' ≡ skip S m i
-unfolding skip
-after-turn S m i (suc left) at at' e h q = rw (q, let y : suc left - 1 ≡ left = omega arith in y) e
-after-turn S m i zero at at' e h q = absurd (omega arith)
-
-pub after-over : (S : List ℕ) (m i left at : ℕ) → skip S left at ≡ skip S m i → left ≤ 0 → at ≡ skip S m i
-unfolding skip
-after-over S m i zero at e h = e
-after-over S m i (suc left) at e h = absurd (omega arith)
 
 -- ------------------------------------------------------------ a statement
 
@@ -212,10 +200,6 @@ ofKind-append k (t ∷ ts) bs = go (eqb (nodeKind t) k) (ofKind-append k ts bs)
         → _≡_ {A = List Node} (elim b [ true ↦ t ∷ ofKind k (ts ++ bs) | false ↦ ofKind k (ts ++ bs) ]) (elim b as (λ _. List Node) [ true ↦ t ∷ ofKind k ts | false ↦ ofKind k ts ] ++ ofKind k bs)
     go true h = ap (λ us. t ∷ us) h
     go false h = h
-
-map-append : {A B : Type 0} (f : A → B) (as' bs : List A) → map f (as' ++ bs) ≡ map f as' ++ map f bs
-map-append f [] bs = refl
-map-append f (a ∷ as') bs = ap (λ cs. f a ∷ cs) (map-append f as' bs)
 
 -- ------------------------------------------------------------ `checkBody` from a statement on
 

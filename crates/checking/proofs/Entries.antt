@@ -18,6 +18,7 @@ use Rattle.rules.specs.Arithmetic.{checkArithmetic}
 use Rattle.rules.specs.Check.{clausePredicate, clauseAssets, paramTypes, checkBody, checkEntry}
 use Rattle.rules.specs.Standing.{nodesAt, paramsAt, clausesAt, stmtsAt, entryAt, modelIn, Loaded, Row, stop}
 use Rattle.rules.proofs.Records.{EntryParts, entry-at}
+use Rattle.rules.proofs.Binding.{kept-assoc, kept-behind}
 use Rattle.declared.specs.Answers.{Answers}
 use Rattle.declared.specs.Found.{ofKind}
 use Rattle.declared.specs.Lines.{EntryAt, RecordsAt}
@@ -25,22 +26,15 @@ use Rattle.declared.specs.Refusal.{doneOf}
 use Rattle.declared.specs.declared.refusal.Refusal.{Refusal}
 use Rattle.declared.specs.declared.refusal.Done.{Done}
 use Rattle.declared.specs.declared.refusal.Done.the-variants.{Fine, Refused}
+use Rattle.declared.proofs.Answers.{answers-then, answers-cut}
 use Rattle.env.specs.Force.{envOf, paramsIn, lets, laterNames, no-let}
 use Rattle.env.specs.declared.env.Env.{Env}
 use Rattle.typing.specs.Asks.{Does}
 use Rattle.typing.proofs.Calls.{does-length}
+use Rattle.typing.proofs.Doing.{does-then, does-cut, asks-none}
 use Rattle.wrapping.specs.Lines.{FewEntry}
 use Rattle.checking.specs.Walk.{named, withLocals, recordRule, a-clause, RecordsIn, BodyAt, EntryIn, entryEnv, typesRule, usesRule}
-use Rattle.checking.proofs.Doing.{kept-assoc, kept-behind, does-then, does-cut, asks-none, answers-then, answers-cut}
 use Rattle.checking.proofs.Recording.{row-rule, rule-clause}
-
--- ------------------------------------------------------------ the lines of clauses and statements
-
-pub at-clauses : (S : List ℕ) (i k r : ℕ) → k ≡ entry S i 5 → r ≡ skip S k (i + 1) → r ≡ skip S (entry S i 5) (suc i)
-at-clauses S i k r e q = q ∙ rw (e, add-one i) refl
-
-pub at-body : (S : List ℕ) (i j k r : ℕ) → j ≡ skip S (entry S i 5) (suc i) → k ≡ entry S i 6 → r ≡ skip S k j → r ≡ skip S (entry S i 6) (skip S (entry S i 5) (suc i))
-at-body S i j k r e f q = q ∙ rw (e, f) refl
 
 -- ------------------------------------------------------------ what is typed
 

@@ -1,4 +1,3 @@
-pub mod Doing
 pub mod Recording
 pub mod Bodies
 pub mod Entries

@@ -24,7 +24,9 @@ use Rattle.rules.specs.Standing.{nodeAt, nodesAt, exprAt, paramsAt, eventAt, en
 use Rattle.rules.proofs.Parts.{stop as end', _also_, pick, parts}
 use Rattle.rules.proofs.Records.{no-nodes, group, event-at, entry-at}
 use Rattle.rules.proofs.Standing.{Stands, stands, nodes-next, row-first, row-rest, row-take}
+use Rattle.rules.proofs.Binding.{kept-assoc, kept-behind, kept-unit, each-append}
 use Rattle.declared.proofs.Fields.{items-at}
+use Rattle.declared.proofs.Tables.{or-parts}
 use Rattle.declared.specs.Answers.{Answers}
 use Rattle.declared.specs.Found.{ofKind}
 use Rattle.declared.specs.Lines.{RecordsAt, FewLines}
@@ -36,9 +38,8 @@ use Rattle.env.specs.Force.{envOf, paramsIn, lets, laterNames, no-let, Ready}
 use Rattle.env.specs.declared.env.Env.{Env}
 use Rattle.typing.specs.Asks.{Asks, Does}
 use Rattle.typing.proofs.Calls.{does-length}
-use Rattle.typing.proofs.Keys.{or-parts}
+use Rattle.typing.proofs.Doing.{does-then, does-cut, asks-none}
 use Rattle.checking.specs.Walk.{named, recordRule, paramRule, a-field, a-stmt, RecordsIn, SheetIn, EntryIn, ItemIn, OwnItem, ItemsIn, PassIn, passRule, namesRule, afterFields, fromEntries}
-use Rattle.checking.proofs.Doing.{kept-assoc, kept-behind, does-then, does-cut, kept-unit, asks-none, each-append}
 use Rattle.checking.proofs.Recording.{row-rule, rule-field, rule-stmt}
 
 -- ------------------------------------------------------------ parts of a model

@@ -21,14 +21,15 @@ use Rattle.rules.specs.Declarations.{storable, eventFieldType, guardianBound, r
 use Rattle.rules.specs.Statements.{checkStmtTypes, expectPredicate}
 use Rattle.rules.specs.Assets.{assetCallsConsumed}
 use Rattle.rules.specs.Check.{clausePredicate, checkField, checkDefault, checkGenesis, checkEventParam, checkEntryParam}
-use Rattle.rules.specs.Standing.{nodeAt, nodesAt, exprAt, typeAt, fieldAt, paramAt, paramsAt, clauseAt, stmtAt, Loaded, Here, Row, stop, next}
+use Rattle.rules.specs.Standing.{nodeAt, nodesAt, exprAt, typeAt, fieldAt, paramAt, clauseAt, stmtAt, Loaded, Here, Row, stop, next}
 use Rattle.rules.proofs.Parts.{stop as end', _also_, pick}
 use Rattle.rules.proofs.Standing.{stands, nodes-next, row-first, row-rest}
-use Rattle.rules.proofs.Records.{no-nodes, limits-at, denies-at, mints-at, after-at, param-at, field-at, no-params, params-next}
+use Rattle.rules.proofs.Records.{no-nodes, limits-at, denies-at, mints-at, after-at, param-at, field-at}
+use Rattle.rules.proofs.Binding.{kept-assoc, kept-both}
 use Rattle.declared.specs.Answers.{Answers}
-use Rattle.declared.proofs.Answers.{gives}
+use Rattle.declared.proofs.Answers.{gives, answers-then, answers-cut}
 use Rattle.declared.specs.Found.{nodeKind}
-use Rattle.declared.specs.Lines.{Typed, RecordAt, RecordsAt}
+use Rattle.declared.specs.Lines.{Typed, RecordAt}
 use Rattle.declared.specs.Refusal.{doneOf}
 use Rattle.declared.specs.declared.refusal.Refusal.{Refusal}
 use Rattle.declared.specs.declared.refusal.Done.{Done}
@@ -39,9 +40,9 @@ use Rattle.env.specs.declared.env.Env.{Env}
 use Rattle.typing.specs.Asks.{Asks, Does}
 use Rattle.typing.proofs.Calls.{did}
 use Rattle.typing.proofs.Onward.{onward}
+use Rattle.typing.proofs.Doing.{does-then, does-cut, does-nothing, asks-none}
 use Rattle.statements.specs.Checked.{StmtIn, DefaultIn}
 use Rattle.checking.specs.Walk.{declaredRule, paramRule, recordRule, Walked, a-field, a-clause, a-stmt, KindIn, ClauseIn, RecordIn, RecordsIn}
-use Rattle.checking.proofs.Doing.{kept-assoc, kept-both, does-then, does-cut, does-nothing, asks-none, answers-then, answers-cut}
 
 -- ------------------------------------------------------------ what a field or parameter declares
 
@@ -162,45 +163,6 @@ of-event s event ty r e a = rw e a
 pub of-entry : (s : List ℕ) (event : Bool) (ty : ℕ) (r : Done) → event ≡ false → Answers (guardianBound (typeAt s ty)) (doneOf s r)
     → Answers (cond event (eventFieldType (typeAt s ty)) (guardianBound (typeAt s ty))) (doneOf s r)
 of-entry s event ty r e a = rw e a
-
--- what is checked so far is fine: the rest answers
-pub record ParamsGoing (s S : List ℕ) (event : Bool) (from count at left : ℕ) : Type 0 where
-  pub loaded : Loaded s S
-  pub row : Row S grammar.Param left at
-  pub rest : (r : Done) → Answers (forEach (paramsAt s left at) (paramRule event)) (doneOf s r) → Answers (forEach (paramsAt s count from) (paramRule event)) (doneOf s r)
-
-pub params-start : (s S : List ℕ) (event : Bool) (from count : ℕ) → RecordsAt grammar.Param s S count from → ParamsGoing s S event from count from count
-params-start s S event from count h = record { loaded = h .loaded; row = h .row; rest = λ r a. a }
-
-module _ (s S : List ℕ) (event : Bool) (from count at left : ℕ) (g : ParamsGoing s S event from count at left) where
-  pub params-over : left ≤ 0 → Answers (forEach (paramsAt s count from) (paramRule event)) (doneOf s Fine)
-  unfolding forEach doneOf
-  params-over h = g .rest Fine (rw (let z : left ≡ 0 = omega arith in z, no-params s at) (gives tt))
-
-  module _ (h : 0 < left) where
-    row : Row S grammar.Param (suc (left - 1)) at
-    row = rw (let y : suc (left - 1) ≡ left = omega arith in y) (g .row)
-
-    list : paramsAt s left at ≡ paramAt s at ∷ paramsAt s (left - 1) (endAt S at)
-    list = ap (λ k. paramsAt s k at) (let y : left ≡ suc (left - 1) = omega arith in y) ∙ params-next (g .loaded) (left - 1) (row-first row .within)
-
-    pub params-first : RecordAt grammar.Param s S at
-    params-first = record { loaded = g .loaded; here = row-first row }
-
-    module _ (d : Done) (a : Answers (paramRule event (paramAt s at)) (doneOf s d)) where
-      pub params-no : (x : Refusal) → d ≡ Refused x → Answers (forEach (paramsAt s count from) (paramRule event)) (doneOf s (Refused x))
-      unfolding forEach
-      params-no x e = g .rest (Refused x) (rw list (answers-cut s _ _ d a x e))
-
-      pub params-turn : d ≡ Fine → (at' : ℕ) → at' ≡ endAt S at → ParamsGoing s S event from count at' (left - 1)
-      unfolding forEach
-      params-turn e at' q =
-          rw q
-          (record {
-            loaded = g .loaded;
-            row = row-rest row;
-            rest = λ r k. g .rest r (rw list (answers-then s _ _ d a e r k));
-          })
 
 -- ------------------------------------------------------------ clauses
 

@@ -5,6 +5,8 @@ use assets::body_assets;
 use assets::clauses_assets;
 use declared::Done;
 use declared::Refusal;
+use declared::body_line;
+use declared::clauses_line;
 use emits::check_emit;
 use emits::refuse_name_recipient;
 use env::Env;
@@ -19,12 +21,10 @@ use statements::expect_predicate;
 use typing::ty_of;
 use wrapping::narrow_wrapping;
 ghost use mathlib.Core.Path.{_≡_};
-ghost use lib.ListN.{length};
-ghost use Prim.Native.Nat.{suc, _-_, _/_, _<_};
+ghost use Prim.Native.Nat.{_-_};
 ghost use Rattle.rules.specs.Asking.{forEach};
 ghost use Rattle.rules.specs.Check.{checkBody, checkEntry, clausePredicate};
 ghost use Rattle.rules.specs.Standing.{entryAt, modelIn, stmtsAt};
-ghost use Rattle.sheet.specs.Scratch.{entry, skip};
 ghost use Rattle.declared.specs.Answers.{Answers};
 ghost use Rattle.declared.specs.Lines.{EntryAt};
 ghost use Rattle.declared.specs.Refusal.{doneOf};
@@ -60,34 +60,6 @@ fn locals(params: usize, count: usize, body: usize, bound: usize) -> Env
         later: 0,
         genesis: false,
     }
-}
-
-// The line after `count` records, the first of which stands at line from.
-fn after(lines: &[u16], from: usize, count: usize) -> usize
-    ensures { λ r. ⌜ r ≡ skip (now (lines .entry)) count from ⌝ }
-{
-    let mut at = from;
-    let mut left = count;
-    while 0 < left {
-        at = end(lines, at);
-        left -= 1;
-    }
-    at
-}
-
-// The line of the first clause, and of the first statement, of the entry at line i.
-fn clauses_line(lines: &[u16], i: usize) -> usize
-    requires { ⌜ i < length (now lines) / 8 ⌝ }
-    ensures { λ r. ⌜ r ≡ skip (now (lines .entry)) (entry (now (lines .entry)) i 5) (suc i) ⌝ }
-{
-    after(lines, i + 1, first(lines, i))
-}
-
-fn body_line(lines: &[u16], i: usize) -> usize
-    requires { ⌜ i < length (now lines) / 8 ⌝ }
-    ensures { λ r. ⌜ r ≡ skip (now (lines .entry)) (entry (now (lines .entry)) i 6) (skip (now (lines .entry)) (entry (now (lines .entry)) i 5) (suc i)) ⌝ }
-{
-    after(lines, clauses_line(lines, i), second(lines, i))
 }
 
 // The `let` at line i, before it is bound.

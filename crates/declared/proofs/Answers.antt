@@ -4,13 +4,14 @@ use mathlib.Core.List.{List}
 use mathlib.Core.Bool.{Bool, true, false}
 use Prim.Native.Nat.{ℕ}
 use Rattle.rules.specs.Text.{Piece}
-use Rattle.rules.specs.Asking.{Refusal as Ruled, Res, ok, refused, Rule, ret, _>>_, expect}
+use Rattle.rules.specs.Asking.{Refusal as Ruled, Res, ok, refused, Rule, ret, _>>=_, _>>_, expect}
 use Rattle.rules.specs.Kept.{kept}
 use Rattle.rules.proofs.Binding as binding
 use Rattle.declared.specs.Answers.{Answers, expected}
 use Rattle.declared.specs.Refusal.{refusalOf, doneOf}
 use Rattle.declared.specs.declared.refusal.Refusal.{Refusal}
 use Rattle.declared.specs.declared.refusal.Done.{Done}
+use Rattle.declared.specs.declared.refusal.Done.the-variants.{Fine, Refused}
 
 pub gives : {A : Type 0} (a : A) → Answers (ret a) (ok a)
 unfolding kept
@@ -24,6 +25,16 @@ then-fine p q a r h k = record { answers = λ T. binding.then-ok p (λ _. q) T T
 pub then-refused : {A B : Type 0} (p : Rule A) (q : Rule B) (r : Ruled) → Answers p (refused r) → Answers (p >> q) (refused r)
 unfolding _>>_
 then-refused p q r h = record { answers = λ T. binding.then-refused p (λ _. q) T T r (h .answers T) }
+
+-- ... whose outcome the code tells
+module _ (s : List ℕ) (p q : Rule Unit) (d : Done) (h : Answers p (doneOf s d)) where
+  pub answers-then : d ≡ Fine → (r : Done) → Answers q (doneOf s r) → Answers (p >>= λ _. q) (doneOf s r)
+  unfolding doneOf _>>_
+  answers-then e r k = then-fine p q tt (doneOf s r) (rw e at h) k
+
+  pub answers-cut : (x : Refusal) → d ≡ Refused x → Answers (p >>= λ _. q) (doneOf s (Refused x))
+  unfolding doneOf _>>_
+  answers-cut x e = then-refused p q (refusalOf s x) (rw e at h)
 
 -- ------------------------------------------------------------ tests
 

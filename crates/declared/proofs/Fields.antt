@@ -1,7 +1,7 @@
 -- The last state field of a name. Assumes nothing.
 use mathlib.Core.Logic.{_≢_}
 use mathlib.Core.Path.{_≡_, refl, sym, ap, _∙_}
-use mathlib.Core.List.{List, [], _∷_, _++_, map, append-nil}
+use mathlib.Core.List.{List, [], _∷_, _++_, map, map-append}
 use mathlib.Core.Bool.{Bool, true, false, cond}
 use mathlib.Core.Option.{Option, none, some, Option·map}
 use Prim.Native.Nat.{ℕ, suc, _+_, _-_, _<_, _≤_}
@@ -12,18 +12,17 @@ use Rattle.text.specs.Text.{same}
 use Rattle.sheet.specs.Grammar as grammar
 use Rattle.sheet.specs.Held.{Held, held}
 use Rattle.sheet.specs.Held as formed
-use Rattle.sheet.specs.Load.{sorts}
 use Rattle.sheet.specs.Scratch.{kindAt, endAt, entry}
 use Rattle.sheet.specs.Tree.{Node, node, nil, more, takeNodes}
-use Rattle.sheet.proofs.Due.{length-times}
 use Rattle.text.proofs.Words.{same-is}
 use Rattle.rules.specs.Text.{Name, lastNamed}
-use Rattle.rules.specs.Ast.{Field, itemOf, fieldOf, contractOf, nodes}
+use Rattle.rules.specs.Ast.{Field, itemOf, fieldOf, paramOf, contractOf, nodes}
 use Rattle.rules.specs.Model.{itemModel, joined, build, fieldNamed}
 use Rattle.rules.specs.Verdict.{modelOf}
 use Rattle.rules.specs.Standing.{nodeName, treesFrom, without, nodeAt, nodesAt, fieldAt, modelIn, Loaded, Here, Row, stop, next}
 use Rattle.rules.proofs.Parts.{stop as end, _also_, pick, parts}
-use Rattle.rules.proofs.Standing.{Stands, stands, nodes-next, parts-behind, row-behind, row-first, row-rest}
+use Rattle.rules.proofs.Records.{group}
+use Rattle.rules.proofs.Standing.{Stands, stands, nodes-next, row-first, row-rest}
 use Rattle.declared.specs.Found.{nodeKind, ofKind, foundNode, foundField, orElse, itemFields, allFields, modelAt, Stretch, Of, Last, ItemAt, Newest, FieldsNamed, FieldNamed}
 use Rattle.declared.specs.Lines.{RecordsAt}
 use Rattle.declared.specs.declared.model.Found.{Found}
@@ -63,10 +62,6 @@ item-fields (node i l ps) a b =
     ((λ e. rw e refl) also (λ e. rw e refl) also (λ e. rw e refl) also (λ e. rw e refl) also (λ e. rw e refl) also end)
     a b refl
 
-map-append : {A B : Type 0} (f : A → B) (as' bs : List A) → map f (as' ++ bs) ≡ map f as' ++ map f bs
-map-append f [] bs = refl
-map-append f (a ∷ as') bs = ap (λ cs. f a ∷ cs) (map-append f as' bs)
-
 -- ... which the item at a line declares
 pub item-here : {s S : List ℕ} {i : ℕ} → Loaded s S → Here S grammar.Item i → itemModel (itemOf (nodeAt s i)) .fields ≡ map fieldOf (itemFields (nodeAt s i))
 unfolding nodeKind
@@ -87,13 +82,6 @@ row-fields {s} {S} {m = suc m} {i} d (next h r) =
     )
     refl
 
--- the parts of a line that are all of one sort
-pub one-sort : {s S : List ℕ} {i : ℕ} {σ : grammar.Sort} (m : ℕ) (t : Stands s S i) → t .line .parts ≡ (m, σ) ∷ []
-    → (nodes (t .parts) ≡ nodesAt s m (suc i)) × Row S σ m (suc i) × (entry S i 5 ≡ m)
-unfolding nodesAt sorts
-one-sort m t e =
-    (ap nodes (parts-behind t ∙ rw (e, append-nil, length-times) refl), row-behind m [] t (rw e refl), t .says .first ∙ rw e refl)
-
 root : {S : List ℕ} {n : ℕ} {t : Node} → Held S n 0 t → formed.Formed grammar.Contract t → (0 < n) × (nodeKind t ≡ 0)
 unfolding nodeKind
 root (held h y r) (formed.formed a p fs) = (h, omega (arith, a .0, a .1))
@@ -106,8 +94,8 @@ items-at {s} {S} d =
     let t = stands d 0 (r .0) in
     let e : d .root ≡ node 0 (t .line) (t .parts) = rw (d .one) at (t .here) in
     let g = parts (t .line) 0 (t .parted) (rw e at (r .1)) in
-    let q = one-sort (g .0) t (g .1) in
-    rw (q .2) (ap build (ap contractOf (d .one) ∙ ap (λ y. contractOf (more y nil)) e ∙ ap (map itemOf) (q .0)), q .1)
+    let q = group d (r .0) grammar.Item (g .0) (g .1) in
+    rw (q .3) (ap build (ap contractOf (d .one) ∙ ap (λ y. contractOf (more y nil)) e ∙ ap (map itemOf) (q .0)), q .2)
 
 -- ------------------------------------------------------------ the fields of an item
 
@@ -130,7 +118,7 @@ unfolding itemFields
 its-fields t e = rw (t .here, itemFields, e) refl
 
 module _ (s S : List ℕ) (i : ℕ) (h : ItemAt s S i) (k : ℕ) (e : k ≡ kindAt S i) where
-  t : Stands s S i
+  abbrev t : Stands s S i
   t = stands (h .loaded) i (h .here .within)
 
   kind-is : t .line .kind ≡ k
@@ -143,10 +131,10 @@ module _ (s S : List ℕ) (i : ℕ) (h : ItemAt s S i) (k : ℕ) (e : k ≡ kind
   pub of-state : (m j : ℕ) → k ≡ 1 → m ≡ entry S i 5 → j ≡ i + 1 → (itemFields (nodeAt s i) ≡ nodesAt s m j) × Row S grammar.Field m j
   of-state m j q c y =
       let p = parts (t .line) 1 (t .parted) (kind-is ∙ q) in
-      let o = one-sort (p .0) t (p .1) in
+      let o = group (h .loaded) (h .here .within) grammar.Field (p .0) (p .1) in
       let z : j ≡ suc i = omega arith in
-      let b : m ≡ p .0 = c ∙ o .2 in
-      rw (z, b) (its-fields t (kind-is ∙ q) ∙ o .0, o .1)
+      let b : m ≡ p .0 = c ∙ o .3 in
+      rw (z, b) (its-fields t (kind-is ∙ q) ∙ o .0, o .2)
 
 module _ (s S : List ℕ) (x : Name) (i : ℕ) (f : Found) (h : ItemAt s S i) (k : ℕ) (e : k ≡ kindAt S i) where
   pub other : k ≢ 1 → Newest s S x i f f
@@ -182,6 +170,10 @@ as-field s Nothing = refl
 pub field-name : (t : Node) → fieldOf t .name ≡ nodeName t
 unfolding fieldOf nodeName
 field-name (node i l ps) = refl
+
+pub param-name : (t : Node) → paramOf t .name ≡ nodeName t
+unfolding paramOf nodeName
+param-name (node i l ps) = refl
 
 -- what is found so far, with left items to go from line at on
 pub record FieldsGoing (s S : List ℕ) (x : Name) (m i left at : ℕ) (f : Found) : Type 0 where

@@ -1,6 +1,6 @@
 -- A search by name among loaded lines. Assumes nothing.
 use mathlib.Core.Path.{_≡_, refl, sym, ap, _∙_}
-use mathlib.Core.List.{List, _∷_}
+use mathlib.Core.List.{List, [], _∷_, map}
 use mathlib.Core.Bool.{Bool, true, false, cond}
 use mathlib.Core.Option.{Option, none, some}
 use Prim.Native.Nat.{ℕ, suc, _-_, _/_, _<_, _≤_}
@@ -11,10 +11,11 @@ use borrow.Author.Tests.{eqb-true}
 use Rattle.text.specs.Text.{same}
 use Rattle.sheet.specs.Scratch.{kindAt, nameAt, endAt}
 use Rattle.sheet.specs.Tree.{Node, takeNodes}
-use Rattle.rules.specs.Text.{Name, lastNamed}
+use Rattle.rules.specs.Text.{Name, among, lastNamed}
 use Rattle.rules.specs.Ast.{nodes}
 use Rattle.rules.specs.Standing.{nodeName, nodeAt, nodesAt, Row}
 use Rattle.rules.proofs.Standing.{stands, nodes-next, row-first, row-rest}
+use Rattle.rules.specs.Typing.{isSome}
 use Rattle.declared.specs.Found.{nodeKind, ofKind, foundNode, newest, orElse, Stretch, Of, Last}
 use Rattle.declared.specs.declared.model.Found.{Found}
 use Rattle.declared.specs.declared.model.Found.the-variants.{At, Nothing}
@@ -33,6 +34,20 @@ last-turn f x a as' o = go (lastNamed f x as') (same x (f a))
     go (some y) b = refl
     go none true = refl
     go none false = refl
+
+-- a name is among those of a list where a search finds one of the list
+pub among-last : {A : Type 0} (f : A → Name) (x : Name) (as' : List A) → among x (map f as') ≡ isSome (lastNamed f x as')
+unfolding among lastNamed isSome
+among-last f x [] = refl
+among-last {A} f x (a ∷ as') = go (lastNamed f x as') (same x (f a)) (among-last f x as')
+  where
+    go : (o : Option A) (b : Bool) → among x (map f as') ≡ isSome o
+        → _≡_ {A = Bool} (elim b as (λ _. Bool) [ true ↦ true | false ↦ among x (map f as') ])
+        (isSome {A = A} (elim o as (λ _. Option A) [ some y ↦ some y | none ↦ elim b as (λ _. Option A) [ true ↦ some a | false ↦ none ] ]))
+    go (some y) true h = refl
+    go none true h = refl
+    go (some y) false h = h
+    go none false h = h
 
 pub or-none : {A : Type 0} (o : Option A) → orElse o none ≡ o
 unfolding orElse

@@ -13,9 +13,10 @@ use Rattle.text.specs.Word.{place}
 use Rattle.sheet.specs.Grammar.{words}
 use Rattle.rules.specs.Text.{Name, is, isOne, pick}
 
-pub or-false : (a : Bool) → (a || false) ≡ a
-or-false true = refl
-or-false false = refl
+-- neither of two tests holds
+pub or-parts : (a b : Bool) → (a || b) ≡ false → (a ≡ false) × (b ≡ false)
+or-parts true b e = absurd (let z : _≡_ {A = ℕ} 0 1 = cc in omega arith)
+or-parts false b e = (refl, e)
 
 -- what a table has for a name is what stands at the name's place among its words
 abbrev pub wordsIn : {A : Type 0} → List (String × A) → List (List ℕ)

@@ -2,7 +2,7 @@
 use mathlib.Core.Logic.{_≢_}
 use mathlib.Core.Path.{_≡_, refl, sym, ap, _∙_}
 use mathlib.Core.List.{List, [], _∷_, zip, zipWith}
-use mathlib.Core.Bool.{Bool, true, false, not, _&&_, _||_}
+use mathlib.Core.Bool.{Bool, true, false, not, _&&_, _||_, or-false}
 use Prim.Native.Nat.{ℕ, suc, _+_, _-_, _/_, _<_, _≤_}
 use native.Mathlib.Numerals.{add-one}
 use native.Mathlib.Omega.{arith}
@@ -17,15 +17,15 @@ use Rattle.sheet.specs.Tree.{takeNodes}
 use Rattle.rules.specs.Text.{Name}
 use Rattle.rules.specs.Ast.{Expr, Exprs, nil, more, Param, Stmt, emit, list, span, exprsOf}
 use Rattle.rules.specs.Check.{checkBody}
-use Rattle.rules.specs.Asking.{Ty, code, Res, ok, refused, Rule, ret, _>>=_, _>>_, expect, ifSome, forEach}
+use Rattle.rules.specs.Asking.{Ty, code, ok, Rule, ret, _>>=_, _>>_, expect, ifSome, forEach}
 use Rattle.rules.specs.Kept.{Table, kept}
 use Rattle.rules.specs.Declared.{eqTy, isTy, oneWord, tyOfDecl}
 use Rattle.rules.specs.Typing.{Env as Environment, asked, askOf, tyOf, typings, askEach, isNameParam}
 use Rattle.rules.specs.Statements.{emitMismatch, emitText, checkEmitField, checkEmitFields}
 use Rattle.rules.specs.Standing.{eventAt, exprAt, exprsAt, paramAt, paramsAt, typeAt, Here, Row}
-use Rattle.rules.proofs.Binding.{andThen, kept-bind, then-ok, then-refused}
+use Rattle.rules.proofs.Binding.{kept-assoc, kept-behind}
 use Rattle.rules.proofs.Parts.{parts}
-use Rattle.rules.proofs.Records.{event-at, param-at, params-next, no-params}
+use Rattle.rules.proofs.Records.{event-at, param-at, params-next, no-params, group}
 use Rattle.rules.proofs.Standing.{stands, exprs-next, row-first, row-rest}
 use Rattle.declared.specs.Codes.{tyFrom, Tests}
 use Rattle.declared.specs.Lines.{Typed as TypeAt}
@@ -38,20 +38,19 @@ use Rattle.declared.specs.declared.refusal.Done.{Done}
 use Rattle.declared.specs.declared.refusal.Done.the-variants.{Fine, Refused}
 use Rattle.declared.proofs.Answers.{fits, misfits}
 use Rattle.declared.proofs.Codes.{from-code}
-use Rattle.declared.proofs.Fields.{one-sort}
-use Rattle.declared.proofs.Tables.{or-false}
+use Rattle.declared.proofs.Tables.{or-parts}
 use Rattle.env.specs.Force.{envOf, ExprIn}
 use Rattle.env.specs.declared.env.Env.{Env}
 use Rattle.env.specs.declared.judge.Typed.{Typed}
 use Rattle.env.specs.declared.judge.Typed.the-variants.{Is, Refused as No}
 use Rattle.typing.specs.Asks.{Asks, AsksAll, Types, Does}
 use Rattle.typing.proofs.Calls.{did}
-use Rattle.typing.proofs.Keys.{or-parts}
+use Rattle.typing.proofs.Doing.{typed-then, not-typed, does-then, does-cut}
 use Rattle.typing.proofs.Onward.{Onward, onward}
 use Rattle.typing.proofs.Operators.{gave-code}
 use Rattle.emits.specs.Emit.{emitRule, fieldsRule, EmitIn, FieldIn, FieldsIn, Mismatches, JudgesField}
-use Rattle.emits.specs.Event.{foundEvent, EventNamed}
-use Rattle.emits.proofs.Steps.{not-typed, typed-then, ends, goes-on}
+use Rattle.declared.specs.Answers.{Answers}
+use Rattle.declared.specs.Event.{foundEvent, EventNamed}
 
 -- ------------------------------------------------------------ mismatch and judge_field
 
@@ -101,12 +100,11 @@ module _ (s S : List ℕ) (env : Env) (T : Table) (arg param : ℕ) (h : FieldIn
     field-no r e = not-typed s (tyOf (envOf s T env) (exprAt s arg)) _ T a U k r e
 
     module _ (c want : ℕ) (r : Done) (e : a ≡ Is c) (w : want ≡ code (tyOfDecl (typeAt s (param + 1)))) (j : JudgesField s env arg param want c r) where
-      judged : kept (expect (not (emitMismatch (envOf s T env) (exprAt s arg) (tyOfDecl (paramAt s param .ty)) (tyFrom c))) 43 (span (exprAt s arg)) (emitText (paramAt s param) (tyFrom c))) U
-          ≡ record { res = doneOf s r; table = U }
+      judged : Answers (expect (not (emitMismatch (envOf s T env) (exprAt s arg) (tyOfDecl (paramAt s param .ty)) (tyFrom c))) 43 (span (exprAt s arg)) (emitText (paramAt s param) (tyFrom c))) (doneOf s r)
       unfolding emitMismatch isNameParam envOf
       judged =
           let q : paramAt s param .ty ≡ typeAt s (param + 1) = ap (λ p. p .ty) (typed .0) ∙ rw (add-one param) refl in
-          j .judged (tyOfDecl (paramAt s param .ty)) (tyFrom c) (rw q w) (gave-code s _ T a U k c e) .answers U
+          j .judged (tyOfDecl (paramAt s param .ty)) (tyFrom c) (rw q w) (gave-code s _ T a U k c e)
 
       pub field-ok : Does s (checkEmitField (envOf s T env) (exprAt s arg) (paramAt s param)) T r U
       unfolding checkEmitField
@@ -171,7 +169,7 @@ module _ (s S : List ℕ) (env : Env) (T : Table) (arg args param params : ℕ) 
 
     module _ (d : Done) (U : Table) (k : Does s first T d U) where
       pub fields-no : (r : Refusal) → d ≡ Refused r → Does s Fields T (Refused r) U
-      fields-no r e = record { gives = opened ∙ ends s first rest T d U (k .gives) r e .gives }
+      fields-no r e = record { gives = opened ∙ does-cut s first rest T d U k r e .gives }
 
       module _ (e : d ≡ Fine) (a' p' : ℕ) (ea : a' ≡ endAt S arg) (ep : p' ≡ endAt S param) where
         on : Onward s S env T U
@@ -181,7 +179,7 @@ module _ (s S : List ℕ) (env : Env) (T : Table) (arg args param params : ℕ) 
         fields-rest = record { ready = on .ready; these = rw ea (row-rest these); those = rw ep (row-rest those) }
 
         pub fields-ok : (r : Done) (W : Table) → Does s (fieldsRule (envOf s U env) (list (exprsAt s (args - 1) a')) (paramsAt s (params - 1) p')) U r W → Does s Fields T r W
-        fields-ok r W g' = record { gives = opened ∙ goes-on s first rest T d U (k .gives) r W e (rw (← on .same, ← ea, ← ep) (g' .gives)) .gives }
+        fields-ok r W g' = record { gives = opened ∙ does-then s first rest T d U k e r W (rw (← on .same, ← ea, ← ep) g') .gives }
 
 -- ------------------------------------------------------------ check_emit_fields and check_emit
 
@@ -190,15 +188,8 @@ unsaid p = p >> ret tt
 
 -- a type that is asked and not said, before another rule
 left-out : (p : Rule Ty) (q q' : Rule Unit) (T : Table) → ((U : Table) → kept q U ≡ kept q' U) → kept (unsaid p >>= λ _. q) T ≡ kept (p >>= λ _. q') T
-unfolding _>>_ kept
-left-out p q q' T h = go (kept p T .res) (kept p T .table) refl
-  where
-    none : Ty → Rule Unit
-    none t = ret tt
-
-    go : (x : Res Ty) (U : Table) → kept p T ≡ record { res = x; table = U } → kept (unsaid p >>= λ _. q) T ≡ kept (p >>= λ _. q') T
-    go (ok t) U e = then-ok (unsaid p) (λ _. q) T U tt (kept q' U) (then-ok p none T U t _ e refl) (h U) ∙ sym (then-ok p (λ _. q') T U t (kept q' U) e refl)
-    go (refused r) U e = then-refused (unsaid p) (λ _. q) T U r (then-refused p none T U r e) ∙ sym (then-refused p (λ _. q') T U r e)
+unfolding _>>_ _>>=_
+left-out p q q' T h = kept-assoc (λ _. ret tt) (λ _. q) p T ∙ kept-behind p (λ _. q) (λ _. q') T (λ _. h)
 
 -- the typing of all arguments
 each-typed : (Γ : Environment) (es : Exprs) (T : Table) → kept (forEach (list es) λ arg. tyOf Γ arg >> ret tt) T ≡ kept (askEach (typings Γ es)) T
@@ -211,8 +202,8 @@ module _ (s S : List ℕ) (env : Env) (T : Table) (i : ℕ) (h : EmitIn s S env 
   row =
       let t = stands (h .ready .force .loaded) i (h .within) in
       let p = parts (t .line) 17 (t .parted) (sym (t .says .kind) ∙ h .kind) in
-      let o = one-sort (p .0) t (p .1) in
-      rw (o .2) (o .1)
+      let o = group (h .ready .force .loaded) (h .within) grammar.Expr (p .0) (p .1) in
+      rw (o .3) (o .2)
 
   abbrev es : Exprs
   es = exprsAt s (entry S i 5) (suc i)
@@ -251,16 +242,16 @@ module _ (s S : List ℕ) (env : Env) (T : Table) (i : ℕ) (h : EmitIn s S env 
       abbrev all : Rule Unit
       all = forEach (list es) λ arg. tyOf (envOf s T env) arg >> ret tt
 
-      asks : kept all T ≡ record { res = doneOf s d; table = U }
-      asks = each-typed (envOf s T env) es T ∙ rw (← em, ← add-one i) (k .gives)
+      asks : Does s all T d U
+      asks = record { gives = each-typed (envOf s T env) es T ∙ rw (← em, ← add-one i) (k .gives) }
 
       pub emit-no : (r : Refusal) → d ≡ Refused r → Does s (emitRule (envOf s T env) (nameAt s S i) (list es)) T (Refused r) U
       unfolding emitRule
-      emit-no r e = ends s all Emits T d U asks r e
+      emit-no r e = does-cut s all Emits T d U asks r e
 
       module _ (e : d ≡ Fine) where
         on-emit : Onward s S env T U
-        on-emit = onward s S env T U all tt (h .ready) (did s all T d U asks e)
+        on-emit = onward s S env T U all tt (h .ready) (did s all T d U (asks .gives) e)
 
         pub emit-on : EmitIn s S env U i
         emit-on = record { ready = on-emit .ready; within = h .within; kind = h .kind }
@@ -268,22 +259,11 @@ module _ (s S : List ℕ) (env : Env) (T : Table) (i : ℕ) (h : EmitIn s S env 
         pub emit-ok : (r : Done) (W : Table) → Does s (checkEmitFields (envOf s U env) (nameAt s S i) (list es)) U r W
             → Does s (emitRule (envOf s T env) (nameAt s S i) (list es)) T r W
         unfolding emitRule
-        emit-ok r W g = goes-on s all Emits T d U asks r W e (rw (← on-emit .same) (g .gives))
+        emit-ok r W g = does-then s all Emits T d U asks e r W (rw (← on-emit .same) g)
 
 -- ------------------------------------------------------------ in a body
-
-kept-assoc : (p q r : Rule Unit) (T : Table) → kept ((p >>= λ _. q) >>= λ _. r) T ≡ kept (p >>= λ _. (q >>= λ _. r)) T
-kept-assoc p q r T = go (kept p T .res) (kept p T .table) refl
-  where
-    go : (x : Res Unit) (U : Table) → kept p T ≡ record { res = x; table = U } → kept ((p >>= λ _. q) >>= λ _. r) T ≡ kept (p >>= λ _. (q >>= λ _. r)) T
-    go (ok a) U e =
-        kept-bind (p >>= λ _. q) (λ _. r) T
-        ∙ ap (λ o. andThen o (λ b W. kept r W)) (then-ok p (λ _. q) T U a (kept q U) e refl)
-        ∙ sym (kept-bind q (λ _. r) U)
-        ∙ sym (then-ok p (λ _. (q >>= λ _. r)) T U a _ e refl)
-    go (refused y) U e = then-refused (p >>= λ _. q) (λ _. r) T U y (then-refused p (λ _. q) T U y e) ∙ sym (then-refused p (λ _. (q >>= λ _. r)) T U y e)
 
 -- the `emit` clause of `checkBody` is this rule, then the rest of the body
 pub emit-clause : (Γ : Environment) (x : Name) (as' : List Expr) (ss : List Stmt) (T : Table) → kept (emitRule Γ x as' >>= λ _. checkBody Γ ss) T ≡ kept (checkBody Γ (emit x as' ∷ ss)) T
 unfolding emitRule checkBody _>>_
-emit-clause Γ x as' ss T = kept-assoc (forEach as' λ arg. tyOf Γ arg >> ret tt) (checkEmitFields Γ x as') (checkBody Γ ss) T
+emit-clause Γ x as' ss T = kept-assoc (λ _. checkEmitFields Γ x as') (λ _. checkBody Γ ss) (forEach as' λ arg. tyOf Γ arg >> ret tt) T

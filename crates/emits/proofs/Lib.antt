@@ -1,4 +1,2 @@
 pub mod Emitted
-pub mod Events
 pub mod Recipients
-pub mod Steps

@@ -2,14 +2,11 @@
 use mathlib.Core.Logic.{_≢_}
 use mathlib.Core.Path.{_≡_, refl, sym, ap, _∙_}
 use mathlib.Core.List.{List, [], _∷_}
-use mathlib.Core.Bool.{cond}
-use mathlib.Core.Option.{none, some}
 use Prim.Native.Nat.{ℕ, zero, suc, _+_, _-_, _<_, _≤_}
 use Prim.Native.String.{String}
 use native.Mathlib.Numerals.{add-one}
 use native.Mathlib.Omega.{arith}
 use borrow.Author.Tests.{eq-eqb, ne-eqb}
-use lib.Dec.{eqb}
 use lib.ListN.{getD, take, getElem?}
 use Rattle.text.specs.Text.{bytes, ended}
 use Rattle.text.specs.Word.{place, split}
@@ -21,10 +18,10 @@ use Rattle.rules.specs.Ast.{Expr, more, list, exprsOf}
 use Rattle.rules.specs.Asking.{code, Rule, _>>=_, ifSome, forEach}
 use Rattle.rules.specs.Kept.{Table, kept}
 use Rattle.rules.specs.Declared.{eqTy}
-use Rattle.rules.specs.Typing.{callOf, tyOf}
+use Rattle.rules.specs.Typing.{tyOf}
 use Rattle.rules.specs.Statements.{positions, refuseNameRecipient}
 use Rattle.rules.specs.Standing.{exprAt, exprsAt, Loaded, Row, stop, next}
-use Rattle.rules.proofs.Exprs.{by-kind, call-at, ident-at}
+use Rattle.rules.proofs.Exprs.{call-at, ident-at, is-call-at}
 use Rattle.rules.proofs.Parts.{stop as end, _also_, pick}
 use Rattle.rules.proofs.Standing.{exprs-next, row-first, row-rest, row-take}
 use Rattle.declared.specs.Codes.{tyFrom}
@@ -42,10 +39,10 @@ use Rattle.env.specs.declared.judge.Typed.{Typed}
 use Rattle.env.specs.declared.judge.Typed.the-variants.{Is, Refused as No}
 use Rattle.typing.specs.Asks.{Asks, AsksAll, Types, Does}
 use Rattle.typing.proofs.Calls.{did}
+use Rattle.typing.proofs.Doing.{typed-then, not-typed, does-then, does-cut}
 use Rattle.typing.proofs.Onward.{Onward, onward}
 use Rattle.typing.proofs.Operators.{gave-code}
 use Rattle.emits.specs.Recipient.{recipientRule, recipientsRule, Recipients, JudgesRecipient}
-use Rattle.emits.proofs.Steps.{not-typed, typed-then, ends, goes-on}
 
 -- ------------------------------------------------------------ recipients
 
@@ -97,7 +94,7 @@ module _ (s S : List ℕ) (env : Env) (T : Table) (arg : ℕ) (a : Typed) (U : T
   pub recipient-ok : (c : ℕ) (r : Done) → a ≡ Is c → JudgesRecipient arg c r → Does s (recipientRule (envOf s T env) (exprAt s arg)) T r U
   unfolding recipientRule
   recipient-ok c r e j =
-      typed-then s (tyOf (envOf s T env) (exprAt s arg)) _ T a U k c r e (j .judged s (tyFrom c) (gave-code s _ T a U k c e) .answers U)
+      typed-then s (tyOf (envOf s T env) (exprAt s arg)) _ T a U k c r e (j .judged s (tyFrom c) (gave-code s _ T a U k c e))
 
 -- ------------------------------------------------------------ several recipients
 
@@ -131,7 +128,7 @@ module _ (s S : List ℕ) (env : Env) (T : Table) (left at : ℕ) (h : AsksAll s
 
     module _ (d : Done) (U : Table) (k : Does s first T d U) where
       pub all-no : (r : Refusal) → d ≡ Refused r → Does s All T (Refused r) U
-      all-no r e = record { gives = opened ∙ ends s first rest T d U (k .gives) r e .gives }
+      all-no r e = record { gives = opened ∙ does-cut s first rest T d U k r e .gives }
 
       module _ (e : d ≡ Fine) (m : ℕ) (q : m ≡ endAt S at) where
         on : Onward s S env T U
@@ -141,7 +138,7 @@ module _ (s S : List ℕ) (env : Env) (T : Table) (left at : ℕ) (h : AsksAll s
         all-rest = record { ready = on .ready; row = rw q (row-rest row) }
 
         pub all-ok : (r : Done) (W : Table) → Does s (recipientsRule (envOf s U env) (list (exprsAt s (left - 1) m))) U r W → Does s All T r W
-        all-ok r W g = record { gives = opened ∙ goes-on s first rest T d U (k .gives) r W e (rw (← on .same, ← q) (g .gives)) .gives }
+        all-ok r W g = record { gives = opened ∙ does-then s first rest T d U k e r W (rw (← on .same, ← q) g) .gives }
 
 -- ------------------------------------------------------------ refuse_name_recipient
 
@@ -176,18 +173,9 @@ module _ (s S : List ℕ) (env : Env) (T : Table) (i : ℕ) (h : Asks s S env T 
   abbrev Refuses : Rule Unit
   Refuses = refuseNameRecipient (envOf s T env) (exprAt s i)
 
-  is-call : callOf (exprAt s i) ≡ cond (eqb (kindAt S i) 31) (some (record { callee = exprAt s (suc i); args = exprsAt s (entry S i 6) (endAt S (suc i)) })) none
-  unfolding callOf
-  is-call =
-      by-kind (h .ready .force .loaded) (h .here)
-      (λ k e. callOf e ≡ cond (eqb k 31) (some (record { callee = exprAt s (suc i); args = exprsAt s (entry S i 6) (endAt S (suc i)) })) none)
-      (λ k a b. rw (ne-eqb k 31 (omega arith)) refl)
-      refl refl refl refl
-      (λ k w a. rw (ne-eqb k 31 (omega arith)) refl)
-
   pub no-call : k ≢ 31 → Does s Refuses T Fine T
   unfolding refuseNameRecipient ifSome doneOf kept
-  no-call n = record { gives = rw (is-call, ← ek, ne-eqb k 31 n) refl }
+  no-call n = record { gives = rw (is-call-at (h .ready .force .loaded) (h .here), ← ek, ne-eqb k 31 n) refl }
 
   module _ (e : k ≡ 31) where
     all : Row S grammar.Expr (suc (entry S i 6)) (suc i)
@@ -203,7 +191,7 @@ module _ (s S : List ℕ) (env : Env) (T : Table) (i : ℕ) (h : Asks s S env T 
       opened' : kept Refuses T ≡ kept (recipientsRule (envOf s T env) (take due (list (exprsAt s m at)))) T
       unfolding refuseNameRecipient recipientsRule recipientRule ifSome
       opened' =
-          rw (is-call, ← ek, eq-eqb k 31 e, ← add-one i, r .first, ← em, ← ea)
+          rw (is-call-at (h .ready .force .loaded) (h .here), ← ek, eq-eqb k 31 e, ← add-one i, r .first, ← em, ← ea)
           (first-ones due (r .few) (recipientRule (envOf s T env)) (list (exprsAt s m at)) T)
 
       pub few-asks : m < due → AsksAll s S env T m at

@@ -1,8 +1,8 @@
 // `check_emit_fields`, behind the typing of all arguments.
-use crate::event::event_named;
 use declared::Done;
 use declared::Found;
 use declared::Refusal;
+use declared::event_named;
 use declared::one_word;
 use declared::ty_of_decl;
 use env::Env;

@@ -2,7 +2,7 @@
 use mathlib.Core.Logic.{_≢_}
 use mathlib.Core.Path.{_≡_, refl, sym, _∙_}
 use mathlib.Core.List.{List, [], _∷_}
-use mathlib.Core.Bool.{Bool, true, false, not, _||_, _&&_}
+use mathlib.Core.Bool.{Bool, true, false, not, _||_, _&&_, or-false}
 use Prim.Native.Nat.{ℕ, zero, suc, _-_, _<_, _≤_}
 use Prim.Native.String.{String}
 use native.Mathlib.Omega.{arith}
@@ -26,7 +26,6 @@ use Rattle.declared.specs.declared.refusal.Refusal.the-variants.{Not, Neg, Logi
 use Rattle.declared.specs.declared.refusal.Done.the-variants.{Fine, Refused as Wrong}
 use Rattle.declared.proofs.Answers.{gives, fits, misfits, passes, refuses}
 use Rattle.declared.proofs.Codes.{from-code}
-use Rattle.declared.proofs.Tables.{or-false}
 use Rattle.env.specs.Answers.{typedOf, bothOf, Judged, Judged2, JudgedIn, JudgesAmount, JudgesKey}
 use Rattle.env.specs.Force.{envOf}
 use Rattle.env.specs.declared.env.Env.{Env}

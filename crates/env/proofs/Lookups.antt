@@ -36,7 +36,7 @@ use Rattle.declared.specs.Found.{ofKind, foundNode, foundField, Of, Last, Field
 use Rattle.declared.specs.declared.model.Found.{Found}
 use Rattle.declared.specs.declared.model.Found.the-variants.{At, Nothing}
 use Rattle.declared.proofs.Codes.{code-of}
-use Rattle.declared.proofs.Fields.{last-map, all-kind}
+use Rattle.declared.proofs.Fields.{last-map, all-kind, param-name}
 use Rattle.declared.proofs.Types.{type-name}
 pub use Rattle.declared.proofs.Behind.{TypeBehind, behind, found-typed, found-next}
 use Rattle.env.specs.Force.{paramsIn, localOf, lets, envOf, markOf, InForce, ExprIn, Ready, LetTyped, LetsTyped, no-let, a-let, fieldTy, FieldFound, KeyedFound}
@@ -57,10 +57,6 @@ get-map {A} {B} g f x e as' = rw (get, last-map g (λ p. p .0) f x e as') (go (l
 
 abbrev paramTy : Node → Name × Ty
 paramTy t = (paramOf t .name, tyOfDecl (paramOf t .ty))
-
-param-name : (t : Node) → paramOf t .name ≡ nodeName t
-unfolding paramOf nodeName
-param-name (node i l ps) = refl
 
 params-list : (s : List ℕ) (env : Env) → paramsIn s env ≡ map paramTy (nodesAt s (env .count) (env .params))
 unfolding paramsIn paramTypes

@@ -1,15 +1,14 @@
 -- The names of `let`s that an expression mentions, line by line. Assumes nothing.
 use mathlib.Core.Logic.{_≢_}
 use mathlib.Core.Path.{_≡_, refl, sym, ap, _∙_}
-use mathlib.Core.List.{List, [], _∷_, map, append-nil}
-use mathlib.Core.Bool.{Bool, true, false, _||_, _&&_}
-use mathlib.Core.Option.{Option, none, some}
+use mathlib.Core.List.{List, [], _∷_, append-nil}
+use mathlib.Core.Bool.{Bool, true, false, _||_, _&&_, or-assoc, and-false, or-false}
+use mathlib.Core.Option.{none}
 use Prim.Native.Nat.{ℕ, zero, suc, _+_, _-_, _/_, _<_, _≤_}
 use native.Mathlib.Omega.{arith}
 use lib.Dec.{eqb}
 use lib.ListN.{length}
 use borrow.Author.Tests.{eq-eqb, ne-eqb}
-use Rattle.text.specs.Text.{same}
 use Rattle.sheet.specs.Grammar as grammar
 use Rattle.sheet.specs.Line.{Line}
 use Rattle.sheet.specs.Load.{sorts, times}
@@ -17,16 +16,16 @@ use Rattle.sheet.specs.Scratch.{kindAt, nameAt, endAt}
 use Rattle.sheet.specs.Tree.{Node, node, Nodes, nil, more, takeNodes}
 use Rattle.sheet.specs.Held.{Held, held, HeldAll, no-tree, tree, Among, Parted, Formed, formed, FormedAll, none-due, one-due}
 use Rattle.sheet.proofs.Holds.{all-le}
-use Rattle.rules.specs.Text.{Name, among, lastNamed}
+use Rattle.rules.specs.Text.{Name, among}
 use Rattle.rules.specs.Ast.{exprOf, exprsOf, nodes}
 use Rattle.rules.specs.Typing.{identLeaf, isSome, leafHas, has, hasAny, stale}
 use Rattle.rules.specs.Standing.{nodeName, before, treesFrom, nodeAt, nodesAt, exprAt, Loaded, Here}
 use Rattle.rules.proofs.Parts.{stop, _also_, pick, parts}
 use Rattle.rules.proofs.Standing.{stands}
+use Rattle.declared.proofs.Finding.{among-last}
 use Rattle.declared.specs.Found.{ofKind, foundNode, Stretch, Last}
 use Rattle.declared.specs.declared.model.Found.{Found}
 use Rattle.declared.specs.declared.model.Found.the-variants.{At, Nothing}
-use Rattle.declared.proofs.Tables.{or-false}
 use Rattle.env.specs.Force.{lets, laterNames, InForce, ExprIn}
 use Rattle.env.specs.declared.env.Env.{Env}
 
@@ -35,20 +34,6 @@ use Rattle.env.specs.declared.env.Env.{Env}
 -- line i is an `id` with one of the names
 abbrev pub hit : (s S : List ℕ) → List Name → ℕ → Bool
 hit s S xs i = eqb (kindAt S i) 21 && among (nameAt s S i) xs
-
--- a name is among those of a list where a search finds one of the list
-among-last : {A : Type 0} (f : A → Name) (x : Name) (as' : List A) → among x (map f as') ≡ isSome (lastNamed f x as')
-unfolding among lastNamed isSome
-among-last f x [] = refl
-among-last {A} f x (a ∷ as') = go (lastNamed f x as') (same x (f a)) (among-last f x as')
-  where
-    go : (o : Option A) (b : Bool) → among x (map f as') ≡ isSome o
-        → _≡_ {A = Bool} (elim b as (λ _. Bool) [ true ↦ true | false ↦ among x (map f as') ])
-        (isSome {A = A} (elim o as (λ _. Option A) [ some y ↦ some y | none ↦ elim b as (λ _. Option A) [ true ↦ some a | false ↦ none ] ]))
-    go (some y) true h = refl
-    go none true h = refl
-    go (some y) false h = h
-    go none false h = h
 
 pub later-lets : (s S : List ℕ) (env : Env) → InForce s S env → Stretch s S (env .later) (env .own)
 later-lets s S env f = record { loaded = f .loaded; sort = grammar.Stmt; row = f .later }
@@ -76,10 +61,6 @@ module _ (s S : List ℕ) (env : Env) (i k : ℕ) (e : k ≡ kindAt S i) where
 unfoldable pub any : (ℕ → Bool) → ℕ → ℕ → Bool
 any p i zero = false
 any p i (suc k) = p i || any p (suc i) k
-
-or-assoc : (a b c : Bool) → ((a || b) || c) ≡ (a || (b || c))
-or-assoc true b c = refl
-or-assoc false b c = refl
 
 any-add : (p : ℕ → Bool) (i a b : ℕ) → any p i (a + b) ≡ (any p i a || any p (i + a) b)
 unfolding any
@@ -185,10 +166,6 @@ module _ {s S : List ℕ} (d : Loaded s S) (xs : List Name) where
       rw (t .here) (tree-has (held (h .within) (t .says) (t .held)) (formed (rw (← t .says .kind) (h .kind)) (t .parted) (t .formed)) (t .here))
 
 -- ------------------------------------------------------------ the walk over the lines
-
-and-false : (b : Bool) → (b && false) ≡ false
-and-false true = refl
-and-false false = refl
 
 -- of no names none is mentioned
 stale-has : {s S : List ℕ} (d : Loaded s S) (xs : List Name) (i : ℕ) → Here S grammar.Expr i → stale xs (exprAt s i) ≡ has xs (exprAt s i)

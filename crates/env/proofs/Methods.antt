@@ -2,7 +2,7 @@
 use mathlib.Core.Logic.{_≢_}
 use mathlib.Core.Path.{_≡_, refl, sym, _∙_}
 use mathlib.Core.List.{List, [], _∷_}
-use mathlib.Core.Bool.{Bool, true, false, cond, not, _&&_, _||_}
+use mathlib.Core.Bool.{Bool, true, false, cond, not, _&&_, _||_, or-false}
 use mathlib.Core.Option.{Option, none, some}
 use Prim.Native.String.{String}
 use Prim.Native.Nat.{ℕ, suc, _+_, _<_, _≤_}
@@ -36,7 +36,7 @@ use Rattle.declared.specs.declared.model.Found.the-variants.{At, Nothing}
 use Rattle.declared.specs.declared.refusal.Refusal.the-variants.{Receiver, KeyedOp}
 use Rattle.declared.specs.declared.refusal.Done.the-variants.{Fine, Refused}
 use Rattle.declared.proofs.Answers.{gives, fits, misfits}
-use Rattle.declared.proofs.Tables.{or-false, one-place, wordsIn, valuesIn, place-most, pick-place}
+use Rattle.declared.proofs.Tables.{one-place, wordsIn, valuesIn, place-most, pick-place}
 use Rattle.declared.proofs.Types.{type-name}
 use Rattle.env.specs.Calls.{dotCodes, methodCodes, wantsOf, keyedOf, KeyedOf, Callee, JudgesOp, TypesCall, getTy, methodTy}
 use Rattle.env.specs.Force.{envOf, ExprIn, KeyedFound}

@@ -15,7 +15,7 @@ use Rattle.sheet.specs.Say.{spanAt, nspanAt}
 use Rattle.sheet.proofs.Due.{length-times}
 use Rattle.rules.specs.Ast.{Neg, unaryOps, Shr, binOps, Leaf, int, id, date, str, caller, native, inasset, now, Wrap, Checked, Wrapping, Expr, leaf, unary, binary, field, call, wrap, more, line, leafOf, exprOf, exprsOf, spanOf}
 use Rattle.rules.specs.Declared.{literal, intOf}
-use Rattle.rules.specs.Typing.{identLeaf, identOf, dotOf}
+use Rattle.rules.specs.Typing.{identLeaf, identOf, dotOf, callOf}
 use Rattle.rules.specs.Standing.{exprAt, exprsAt, Loaded, Here, Row}
 use Rattle.rules.proofs.Parts.{stop, _also_, pick, parts}
 use Rattle.rules.proofs.Standing.{Stands, stands, exprs-next, parts-behind, row-behind, row-first, row-rest}
@@ -167,3 +167,11 @@ module _ {s S : List ℕ} (d : Loaded s S) {i : ℕ} (h : Here S grammar.Expr i)
       (λ k a b. rw (ne-eqb k 30 (omega arith)) refl)
       refl refl refl refl
       (λ k w a. rw (ne-eqb k 30 (omega arith)) refl)
+
+  pub is-call-at : callOf (exprAt s i) ≡ cond (eqb (kindAt S i) 31) (some (record { callee = exprAt s (suc i); args = exprsAt s (entry S i 6) (endAt S (suc i)) })) none
+  unfolding callOf
+  is-call-at =
+      by-kind (λ k e. callOf e ≡ cond (eqb k 31) (some (record { callee = exprAt s (suc i); args = exprsAt s (entry S i 6) (endAt S (suc i)) })) none)
+      (λ k a b. rw (ne-eqb k 31 (omega arith)) refl)
+      refl refl refl refl
+      (λ k w a. rw (ne-eqb k 31 (omega arith)) refl)

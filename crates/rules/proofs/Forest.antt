@@ -1,12 +1,9 @@
 -- A walk over the lines of expressions: what is left of them at each line. Assumes nothing.
 use mathlib.Core.Path.{_≡_, refl, sym, ap, _∙_}
-use mathlib.Core.List.{List, [], _∷_, append-nil}
-use mathlib.Core.Bool.{Bool, true, false}
-use Prim.Native.Nat.{ℕ, zero, suc, _+_, _/_, _<_, _≤_}
+use mathlib.Core.List.{List, [], append-nil}
+use Prim.Native.Nat.{ℕ, zero, suc, _+_, _<_, _≤_}
 use native.Mathlib.Omega.{arith}
-use lib.Dec.{ltb}
 use lib.ListN.{length}
-use borrow.Author.Tests.{ltb-true, ltb-false}
 use Rattle.sheet.specs.Grammar as grammar
 use Rattle.sheet.specs.Held.{HeldAll, no-tree, tree, FormedAll, none-due, one-due}
 use Rattle.sheet.specs.Load.{times, sorts}

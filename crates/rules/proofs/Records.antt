@@ -1,11 +1,9 @@
 -- The record at a line that is no expression, by the line's kind. Assumes nothing.
 use mathlib.Core.Path.{_≡_, refl, sym, ap, _∙_, subst}
 use mathlib.Core.List.{List, [], _∷_, _++_, map, append-nil}
-use mathlib.Core.Bool.{Bool, true, false, cond}
-use mathlib.Core.Option.{Option, none, some, Option·map}
-use Prim.Native.Nat.{ℕ, zero, suc, _+_, _-_, _/_, _<_, _≤_}
+use mathlib.Core.Option.{Option·map}
+use Prim.Native.Nat.{ℕ, suc, _+_, _-_, _/_, _<_, _≤_}
 use native.Mathlib.Omega.{arith}
-use lib.Dec.{eqb}
 use lib.ListN.{length, length-append, getD, take, drop, getElem?}
 use Rattle.sheet.specs.Grammar as grammar
 use Rattle.sheet.specs.Held.{Flagged}
@@ -15,10 +13,9 @@ use Rattle.sheet.specs.Scratch.{entry, kindAt, opAt, endAt, nameAt, skip}
 use Rattle.sheet.specs.Say.{spanAt}
 use Rattle.sheet.specs.Tree.{Node, node, Nodes, nil as done, more as then, takeNodes}
 use Rattle.sheet.proofs.Due.{length-times}
-use Rattle.rules.specs.Text.{Name}
-use Rattle.rules.specs.Ast.{Set, assignOps, Expr, Exprs, Stmt, guard, bind, emit, assign, do', Clause, limits, denies, mints, after, Entry, Event, Field, Param, list, nodes, spanOf, exprOf, exprsOf, stmtOf, clauseOf, paramOf, fieldOf, typeOf, entryOf, eventOf}
+use Rattle.rules.specs.Ast.{Set, assignOps, Expr, Stmt, guard, bind, emit, assign, do', Clause, limits, denies, mints, after, Param, list, nodes, exprOf, exprsOf, stmtOf, clauseOf, paramOf, fieldOf, entryOf, eventOf}
 use Rattle.rules.specs.Standing.{nodeName, nodeSpan, namedAt, placeAt, treesFrom, nodeAt, nodesAt, exprAt, exprsAt, typeAt, fieldAt, paramAt, paramsAt, stmtAt, stmtsAt, clauseAt, clausesAt, eventAt, entryAt, Loaded, Here, Row, stop, next}
-use Rattle.rules.proofs.Parts.{stop as end', _also_, pick, parts, flags}
+use Rattle.rules.proofs.Parts.{parts, flags}
 use Rattle.rules.proofs.Standing.{Stands, stands, nodes-next, nodes-length, parts-behind, row-behind, row-group, row-second, row-third, row-first, row-rest}
 use Rattle.rules.proofs.Forest.{skip-add, row-join, parts-end, ends-of}
 

@@ -2,7 +2,7 @@
 use mathlib.Core.Logic.{_≢_}
 use mathlib.Core.Path.{_≡_, refl, sym, ap, _∙_}
 use mathlib.Core.List.{List, [], _∷_}
-use mathlib.Core.Bool.{Bool, true, false, not, _||_}
+use mathlib.Core.Bool.{Bool, true, false, not, _||_, or-false}
 use mathlib.Core.Option.{none}
 use Prim.Native.Nat.{ℕ, suc, _+_}
 use native.Mathlib.Numerals.{add-one}
@@ -14,7 +14,7 @@ use Rattle.sheet.specs.Grammar as grammar
 use Rattle.sheet.specs.Scratch.{kindAt, opAt, endAt, nameAt}
 use Rattle.rules.specs.Text.{Name, isOne}
 use Rattle.rules.specs.Ast.{Set, id, leaf, Field, span, leafOf, assign, do', typeName}
-use Rattle.rules.specs.Asking.{Ty, Boolean, Unknown, code, Rule, _>>=_, _>>_, ifSome}
+use Rattle.rules.specs.Asking.{Ty, Boolean, Unknown, code, _>>=_, _>>_, ifSome}
 use Rattle.rules.specs.Kept.{Table, Kept, kept}
 use Rattle.rules.specs.Declared.{eqTy, isTy}
 use Rattle.rules.specs.Typing as typing
@@ -22,12 +22,11 @@ use Rattle.rules.specs.Typing.{identLeaf, identOf, callOf, typings, checkKeyedC
 use Rattle.rules.specs.Statements.{checkAssign, checkKeyedUse, checkStmtTypes, expectPredicate}
 use Rattle.rules.specs.Check.{madeUp, checkDefault, defaultText}
 use Rattle.rules.specs.Standing.{placeAt, exprAt, fieldAt, stmtAt, typeAt, Here, Row}
-use Rattle.rules.proofs.Binding.{then-ok, then-refused}
-use Rattle.rules.proofs.Exprs.{by-kind}
+use Rattle.rules.proofs.Binding.{then-ok}
+use Rattle.rules.proofs.Exprs.{is-call-at}
 use Rattle.rules.proofs.Parts.{stop, _also_, pick}
 use Rattle.rules.proofs.Records.{named, guard-at, let-at, emit-at, assign-at, do-at, field-at}
 use Rattle.rules.proofs.Standing.{row-first, row-rest}
-use Rattle.declared.specs.Answers.{Answers}
 use Rattle.declared.specs.Codes.{tyFrom}
 use Rattle.declared.specs.Lines.{Typed as Typed'}
 use Rattle.declared.specs.Refusal.{refusalOf, doneOf}
@@ -37,9 +36,7 @@ use Rattle.declared.specs.declared.refusal.Refusal.the-variants.{Predicate, Def
 use Rattle.declared.specs.declared.refusal.Done.{Done}
 use Rattle.declared.specs.declared.refusal.Done.the-variants.{Fine, Refused}
 use Rattle.declared.proofs.Answers.{fits, misfits, refuses}
-use Rattle.declared.proofs.Tables.{or-false}
 use Rattle.declared.proofs.Types.{type-name}
-use Rattle.env.specs.Answers.{typedOf}
 use Rattle.env.specs.Calls.{KeyedOf}
 use Rattle.env.specs.Force.{envOf, ExprIn}
 use Rattle.env.specs.declared.env.Env.{Env}
@@ -48,30 +45,20 @@ use Rattle.env.specs.declared.judge.Typed.the-variants.{Is, Refused as No}
 use Rattle.declared.proofs.Tables.{one-place}
 use Rattle.typing.specs.Asks.{calleeAt, argsAt, Asks, AsksAt, AsksCall, Types, Does}
 use Rattle.typing.proofs.Calls.{parts, call-callee, call-args}
+use Rattle.typing.proofs.Doing.{typed-then, not-typed}
 use Rattle.typing.proofs.Onward.{Onward, onward}
 use Rattle.typing.proofs.Operators.{gave, gave-code}
 use Rattle.statements.specs.Assigned.{opOf, bareAt, TargetAt, JudgesAssign}
 use Rattle.statements.specs.Checked.{noDefaults, StmtIn, StmtOf, DefaultIn, ValueIn, givenTo, Gives}
 use Rattle.statements.proofs.Judged.{target-at}
-
--- ------------------------------------------------------------ an asking, and a rule behind it
-
-module _ (s : List ℕ) (p : Rule Ty) (T : Table) (a : Typed) (U : Table) (k : Types s p T a U) (f : Ty → Rule Unit) where
-  -- the rule asks nothing
-  judges : (c : ℕ) (r : Done) → a ≡ Is c → Answers (f (tyFrom c)) (doneOf s r) → Does s (p >>= f) T r U
-  judges c r e j = record { gives = then-ok p f T U (tyFrom c) _ (gave s p T a U k c e) (j .answers U) }
-
-  -- a refusal ends it
-  ends : (r : Refusal) → a ≡ No r → Does s (p >>= f) T (Refused r) U
-  unfolding typedOf doneOf
-  ends r e = record { gives = then-refused p f T U (refusalOf s r) (k .gives ∙ rw e refl) }
+use borrow.Author.Tests.{ne-eqb}
 
 -- ------------------------------------------------------------ expect_predicate
 
 module _ (s : List ℕ) (env : Env) (T : Table) (i : ℕ) (a : Typed) (U : Table) (k : Types s (tyOf (envOf s T env) (exprAt s i)) T a U) where
   pub no-condition : (r : Refusal) → a ≡ No r → Does s (expectPredicate (envOf s T env) (exprAt s i)) T (Refused r) U
   unfolding expectPredicate
-  no-condition r e = ends s _ T a U k _ r e
+  no-condition r e = not-typed s _ _ T a U k r e
 
   module _ (c : ℕ) (e : a ≡ Is c) where
     boolean : isTy (tyFrom c) (Boolean ∷ Unknown ∷ []) ≡ (eqb c 2 || eqb c 10)
@@ -80,22 +67,22 @@ module _ (s : List ℕ) (env : Env) (T : Table) (i : ℕ) (a : Typed) (U : Table
 
     pub condition : (eqb c 2 || eqb c 10) ≡ true → Does s (expectPredicate (envOf s T env) (exprAt s i)) T Fine U
     unfolding expectPredicate doneOf
-    condition q = judges s _ T a U k _ c Fine e (fits _ 21 _ _ (boolean ∙ q))
+    condition q = typed-then s _ _ T a U k c Fine e (fits _ 21 _ _ (boolean ∙ q))
 
     pub not-condition : (eqb c 2 || eqb c 10) ≡ false → Does s (expectPredicate (envOf s T env) (exprAt s i)) T (Refused (Predicate i)) U
     unfolding expectPredicate doneOf refusalOf
-    not-condition q = judges s _ T a U k _ c (Refused (Predicate i)) e (misfits _ 21 _ _ (boolean ∙ q))
+    not-condition q = typed-then s _ _ T a U k c (Refused (Predicate i)) e (misfits _ 21 _ _ (boolean ∙ q))
 
 -- ------------------------------------------------------------ check_value
 
 module _ (s S : List ℕ) (env : Env) (T : Table) (op target value c : ℕ) (a : Typed) (U : Table) (k : Types s (tyOf (envOf s T env) (exprAt s value)) T a U) where
   pub value-no : (r : Refusal) → a ≡ No r → Gives s S env op target value c T (Refused r) U
   unfolding givenTo
-  value-no r e = record { does = λ x p t q. ends s _ T a U k _ r e }
+  value-no r e = record { does = λ x p t q. not-typed s _ _ T a U k r e }
 
   pub value-ok : (d : ℕ) (r : Done) → a ≡ Is d → JudgesAssign s S env op target value c d r → Gives s S env op target value c T r U
   unfolding givenTo
-  value-ok d r e j = record { does = λ x p t q. judges s _ T a U k _ d r e (j .judged T x p t (tyFrom d) q (gave-code s _ T a U k d e)) }
+  value-ok d r e j = record { does = λ x p t q. typed-then s _ _ T a U k d r e (j .judged T x p t (tyFrom d) q (gave-code s _ T a U k d e)) }
 
 -- ------------------------------------------------------------ check_assign
 
@@ -109,7 +96,7 @@ module _ (s S : List ℕ) (env : Env) (T : Table) (i : ℕ) (h : StmtOf 18 s S e
   module _ (a : Typed) (U : Table) (k : Types s (tyOf (envOf s T env) (exprAt s (i + 1))) T a U) where
     pub assign-no : (r : Refusal) → a ≡ No r → Does s (checkStmtTypes (envOf s T env) (stmtAt s i)) T (Refused r) U
     unfolding checkStmtTypes checkAssign askOf asked tyOf
-    assign-no r e = rw (its-parts .0, ← add-one i) (ends s (tyOf (envOf s T env) (exprAt s (i + 1))) T a U k _ r e)
+    assign-no r e = rw (its-parts .0, ← add-one i) (not-typed s (tyOf (envOf s T env) (exprAt s (i + 1))) _ T a U k r e)
 
     module _ (c m : ℕ) (e : a ≡ Is c) (q : m ≡ endAt S (i + 1)) where
       on : Onward s S env T U
@@ -133,10 +120,7 @@ module _ (s S : List ℕ) (env : Env) (T : Table) (i : ℕ) (h : StmtOf 18 s S e
 
 module _ (s S : List ℕ) (env : Env) (T : Table) (i : ℕ) (h : Asks s S env T i) (n : ℕ) (e : n ≡ kindAt S i) where
   no-call : n ≢ 31 → callOf (exprAt s i) ≡ none
-  unfolding callOf
-  no-call q =
-      by-kind (h .ready .force .loaded) (h .here) (λ k x. k ≢ 31 → callOf x ≡ none)
-      (λ k a b z. refl) (λ z. refl) (λ z. refl) (λ z. refl) (λ z. absurd (z refl)) (λ k w a z. refl) (rw (← e) q)
+  no-call q = is-call-at (h .ready .force .loaded) (h .here) ∙ rw (← e, ne-eqb n 31 q) refl
 
   pub use-none : n ≢ 31 → Does s (checkKeyedUse (envOf s T env) (exprAt s i)) T Fine T
   unfolding checkKeyedUse ifSome doneOf kept
@@ -170,7 +154,7 @@ module _ (s S : List ℕ) (env : Env) (T : Table) (i : ℕ) (h : StmtOf 19 s S e
   module _ (a : Typed) (U : Table) (k : Types s (tyOf (envOf s T env) (exprAt s (i + 1))) T a U) where
     pub do-no : (r : Refusal) → a ≡ No r → Does s (checkStmtTypes (envOf s T env) (stmtAt s i)) T (Refused r) U
     unfolding checkStmtTypes
-    do-no r e = rw (its-part .0, ← add-one i) (ends s (tyOf (envOf s T env) (exprAt s (i + 1))) T a U k _ r e)
+    do-no r e = rw (its-part .0, ← add-one i) (not-typed s (tyOf (envOf s T env) (exprAt s (i + 1))) _ T a U k r e)
 
     module _ (c : ℕ) (e : a ≡ Is c) where
       on-do : Onward s S env T U

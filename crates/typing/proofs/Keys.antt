@@ -36,6 +36,7 @@ use Rattle.declared.specs.declared.model.Found.the-variants.{At, Nothing}
 use Rattle.declared.specs.declared.refusal.Refusal.{Refusal}
 use Rattle.declared.specs.declared.refusal.Done.{Done}
 use Rattle.declared.specs.declared.refusal.Done.the-variants.{Fine, Refused}
+pub use Rattle.declared.proofs.Tables.{or-parts}
 use Rattle.env.proofs.Lookups.{TypeBehind, behind as type-behind}
 use Rattle.env.specs.Answers.{typedOf, JudgesAmount, JudgesKey}
 use Rattle.env.specs.Calls.{wantsOf, keyedOf}
@@ -269,10 +270,6 @@ none-wanted : (Γ : Environment) (f : Name) (key : Bool) (as' : List Asked) (T :
 unfolding checkKeys kept
 none-wanted Γ f key [] T = refl
 none-wanted Γ f key (a ∷ as') T = refl
-
-pub or-parts : (a b : Bool) → (a || b) ≡ false → (a ≡ false) × (b ≡ false)
-or-parts true b e = absurd (let z : _≡_ {A = ℕ} 0 1 = cc in omega arith)
-or-parts false b e = (refl, e)
 
 module _ (s S : List ℕ) (env : Env) (T : Table) (field index wants left at : ℕ) (h : AsksKeys s S env T field wants left at) where
   abbrev Γ : Environment

@@ -1,5 +1,6 @@
 pub mod Asking
 pub mod Calls
+pub mod Doing
 pub mod Keys
 pub mod Onward
 pub mod Operators

@@ -24,7 +24,7 @@ use Rattle.rules.specs.Typing.{Call, Dot, callOf, dotOf, identOf, isSome}
 use Rattle.rules.specs.Assets.{wraps, reaches, reachesText, fieldSlot, valuesSlot, narrowValues, narrowSet, narrowStmt}
 use Rattle.rules.specs.Standing.{exprAt, exprsAt, stmtAt, namedAt, modelIn, Loaded, Here, Row}
 use Rattle.rules.proofs.Standing.{exprs-next, row-first, row-rest}
-use Rattle.rules.proofs.Exprs.{by-kind, ident-at, is-dot-at, dot-at, call-at}
+use Rattle.rules.proofs.Exprs.{ident-at, is-dot-at, dot-at, call-at, is-call-at}
 use Rattle.rules.proofs.Records.{named, assign-at}
 use Rattle.declared.specs.Answers.{Answers}
 use Rattle.declared.specs.Refusal.{refusalOf, doneOf}
@@ -117,15 +117,6 @@ module _ (s S : List ℕ) (i n : ℕ) (e : n ≡ kindAt S i) where
         let j : i + 1 + 1 ≡ suc (suc i) = omega arith in
         rw (← e, eq-eqb n 31 h, p, y, q, z, j, add-one i, ← add-one i) (rw (← f, eq-eqb c 30 g) refl)
 
-call-of : {s S : List ℕ} {i : ℕ} (d : Loaded s S) (h : Here S grammar.Expr i)
-    → callOf (exprAt s i) ≡ cond (eqb (kindAt S i) 31) (some (record { callee = exprAt s (suc i); args = exprsAt s (entry S i 6) (endAt S (suc i)) })) none
-unfolding callOf
-call-of {s} {S} {i} d h =
-    by-kind d h (λ k e. callOf e ≡ cond (eqb k 31) (some (record { callee = exprAt s (suc i); args = exprsAt s (entry S i 6) (endAt S (suc i)) })) none)
-    (λ k a b. rw (ne-eqb k 31 (omega arith)) refl)
-    refl refl refl refl
-    (λ k w a. rw (ne-eqb k 31 (omega arith)) refl)
-
 second-of : {s S : List ℕ} (d : Loaded s S) (m j : ℕ) → Row S grammar.Expr m j → getElem? (list (exprsAt s m j)) 1 ≡ cond (ltb 1 m) (some (exprAt s (endAt S j))) none
 unfolding list exprsAt takeNodes exprsOf
 second-of d zero j r = refl
@@ -174,7 +165,7 @@ module _ (s S M : List ℕ) (k body i : ℕ) (a : After grammar.Expr s S k body 
       set-tests (modelIn s) ys (exprAt s i) (record { callee = exprAt s (suc i); args = exprsAt s (entry S i 6) (endAt S (suc i)) })
       (record { base = exprAt s (suc (suc i)); name = nameAt s S (suc i); nspan = nspanAt s S (suc i) }) x (exprAt s (endAt S (endAt S (suc i))))
       (eqb (kindAt S i) 31) (eqb (kindAt S (suc i)) 30) (is (nameAt s S (suc i)) "set") (eqb (kindAt S (suc (suc i))) 21) (ltb 1 (entry S i 6))
-      (call-of ld (a .here))
+      (is-call-at ld (a .here))
       (λ p. is-dot-at ld (callee (eqb-true _ _ p)))
       refl
       (λ p q. rw n (ident-at ld (row-first (dot-at ld (callee (eqb-true _ _ p)) (eqb-true _ _ q) .1))))

@@ -1,5 +1,5 @@
 -- The statements of an entry, one behind another. Assumes nothing.
-use mathlib.Core.Path.{_≡_, refl, sym, ap, _∙_}
+use mathlib.Core.Path.{_≡_, refl, sym, _∙_}
 use mathlib.Core.Logic.{_≢_}
 use mathlib.Core.List.{List, _∷_}
 use mathlib.Core.Bool.{Bool, true, false, cond}
@@ -30,7 +30,7 @@ use Rattle.declared.specs.declared.refusal.Refusal.{Refusal}
 use Rattle.declared.specs.declared.refusal.Done.{Done}
 use Rattle.declared.specs.declared.refusal.Done.the-variants.{Fine, Refused}
 use Rattle.declared.proofs.Answers.{gives, then-fine, then-refused}
-use Rattle.emits.specs.Event.{foundEvent, EventNamed}
+use Rattle.declared.specs.Event.{foundEvent, EventNamed}
 use Rattle.wrapping.specs.Lines.{FewEntry, After}
 use Rattle.wrapping.specs.Marks.{isMarked, wrappedNames, marksAfter}
 use Rattle.wrapping.specs.Reach.{reachesEach, Emits}
@@ -148,22 +148,15 @@ module _ (s S M : List ℕ) (k body i : ℕ) (a : After grammar.Stmt s S k body 
 
 -- ------------------------------------------------------------ the statements of an entry
 
--- where `after` is: left records from line at on are still to be passed
-module _ (S : List ℕ) (i k left at : ℕ) (g : skip S k i ≡ skip S left at) where
-  pub past-next : (at' : ℕ) → 0 < left → at' ≡ endAt S at → skip S k i ≡ skip S (left - 1) at'
-  unfolding skip
-  past-next at' h e = g ∙ ap (λ n. skip S n at) (let y : left ≡ suc (left - 1) = omega arith in y) ∙ rw e refl
-
-  pub past-over : left ≤ 0 → at ≡ skip S k i
-  unfolding skip
-  past-over h = sym (g ∙ rw (let y : left ≡ 0 = omega arith in y) refl)
-
 module _ (s S : List ℕ) (i n : ℕ) (h : FewEntry s S i) (e : n ≡ entry S i 7) where
   ld : Loaded s S
   ld = h .entry .loaded
 
   at-entry : EntryParts s S i (entry S i 5) (entry S i 6) (entry S i 7)
   at-entry = entry-at ld (h .entry .within) (h .entry .kind)
+
+  pub entry-within : i < length S / 8
+  entry-within = h .entry .within
 
   pub no-body : n ≡ 0 → Answers (narrowWrapping (modelIn s) (entryAt s i)) (doneOf s Fine)
   unfolding narrowWrapping narrowStmts doneOf
@@ -180,12 +173,11 @@ pub record Going (s S M : List ℕ) (i body n k at : ℕ) : Type 0 where
   pub rest : (r : Res Unit) → Answers (narrowStmts (modelIn s) (wrappedNames s S M k body) (stmtsAt s (n - k) at)) r
       → Answers (narrowWrapping (modelIn s) (entryAt s i)) r
 
-pub go-start : (s S M : List ℕ) (i n a b clauses body : ℕ) → FewEntry s S i → n ≡ entry S i 7 → a ≡ entry S i 5 → b ≡ entry S i 6
-    → clauses ≡ skip S a (i + 1) → body ≡ skip S b clauses → length M ≡ 1024 → Going s S M i body n 0 body
+pub go-start : (s S M : List ℕ) (i n body : ℕ) → FewEntry s S i → n ≡ entry S i 7
+    → body ≡ skip S (entry S i 6) (skip S (entry S i 5) (suc i)) → length M ≡ 1024 → Going s S M i body n 0 body
 unfolding narrowWrapping wrappedNames skip
-go-start s S M i n a b clauses body h e f g c z w =
+go-start s S M i n body h e y w =
     let t = at-entry s S i n h e in
-    let y : body ≡ skip S (entry S i 6) (skip S (entry S i 5) (suc i)) = z ∙ rw (c, f, g, add-one i) refl in
     record {
       loaded = h .entry .loaded;
       few = h .few;

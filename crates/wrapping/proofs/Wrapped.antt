@@ -2,7 +2,7 @@
 use mathlib.Core.Path.{_≡_, refl, sym, ap, _∙_}
 use mathlib.Core.Logic.{_≢_}
 use mathlib.Core.List.{List, [], _∷_}
-use mathlib.Core.Bool.{Bool, true, false, cond, _&&_, _||_}
+use mathlib.Core.Bool.{Bool, true, false, cond, _&&_, _||_, or-assoc, and-false, or-false}
 use Prim.Native.Nat.{ℕ, zero, suc, _+_, _-_, _/_, _<_, _≤_}
 use native.Mathlib.Numerals.{add-one}
 use native.Mathlib.Omega.{arith}
@@ -22,22 +22,13 @@ use Rattle.rules.proofs.Standing.{stands, row-first, row-rest}
 use Rattle.rules.proofs.Exprs.{by-kind, leafAt, dot-at, call-at}
 use Rattle.rules.proofs.Forest.{joined, partsOf, Left, At, left-one, left-over, left-at, left-args}
 use Rattle.rules.proofs.Records.{let-at}
-use Rattle.declared.proofs.Tables.{or-false}
 use Rattle.wrapping.specs.Lines.{Before, After}
 use Rattle.wrapping.specs.Marks.{isMarked, wrappedNames, marksAfter, wrapsHere, nextLine}
-
-or-assoc : (a b c : Bool) → ((a || b) || c) ≡ (a || (b || c))
-or-assoc true b c = refl
-or-assoc false b c = refl
 
 or-swap : (a b c : Bool) → (a || (b || c)) ≡ (b || (a || c))
 or-swap true true c = refl
 or-swap true false c = refl
 or-swap false b c = refl
-
-and-false : (b : Bool) → (b && false) ≡ false
-and-false true = refl
-and-false false = refl
 
 -- ------------------------------------------------------------ one `let`
 

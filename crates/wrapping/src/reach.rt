@@ -3,7 +3,7 @@ use crate::marks::wraps;
 use declared::Done;
 use declared::Found;
 use declared::Refusal;
-use emits::event_named;
+use declared::event_named;
 use narrow::narrow_field;
 use narrow::narrow_max;
 use narrow::narrow_values;

@@ -1,7 +1,7 @@
+use mathlib.Core.Bool.{or-false}
 use mathlib.Core.Path.{refl}
 use Rattle.rules.specs.Asking.{code}
 use Rattle.rules.specs.Declared.{isTy, eqTy}
-use Rattle.declared.proofs.Tables.{or-false}
 use Rattle.declarations.specs.Tests.{takesNone}
 use Rattle.declarations.proofs.stored.takes_no_args.Statement.{statement}
 use Rattle.declarations.proofs.stored.takes_no_args.Tie as tie

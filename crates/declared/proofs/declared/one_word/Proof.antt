@@ -1,7 +1,7 @@
+use mathlib.Core.Bool.{or-false}
 use mathlib.Core.Path.{refl}
 use Rattle.rules.specs.Asking.{code}
 use Rattle.rules.specs.Declared.{oneWord, isTy, eqTy}
-use Rattle.declared.proofs.Tables.{or-false}
 use Rattle.declared.proofs.declared.one_word.Statement.{statement}
 use Rattle.declared.proofs.declared.one_word.Tie as tie
 

@@ -17,10 +17,10 @@ use Rattle.rules.specs.Model.{itemModel, joined, build, eventNamed}
 use Rattle.rules.specs.Standing.{nodeName, nodeAt, nodesAt, eventAt, modelIn, Loaded, Row}
 use Rattle.rules.proofs.Parts.{stop, _also_, pick}
 use Rattle.rules.proofs.Standing.{stands, nodes-next, row-first, row-rest}
 use Rattle.declared.specs.Found.{nodeKind}
 use Rattle.declared.specs.declared.model.Found.the-variants.{At, Nothing}
 use Rattle.declared.proofs.Fields.{items-at}
-use Rattle.emits.specs.Event.{foundEvent, EventNamed}
+use Rattle.declared.specs.Event.{foundEvent, EventNamed}
 
 -- what `is_event` answers
 pub is-event : (s S : List ℕ) (x : Name) (i k : ℕ) (y : Name) (b : Bool) → k ≡ kindAt S i → y ≡ nameAt s S i → b ≡ same x y

@@ -1,7 +1,7 @@
 use borrow.Author.Needs.{needs}
-use Rattle.checking.proofs.Entries.{at-body}
-use Rattle.checking.proofs.entry.body_line.Statement.{statement}
-use Rattle.checking.proofs.entry.body_line.Tie as tie
+use Rattle.declared.proofs.Entered.{at-body}
+use Rattle.declared.proofs.lines.body_line.Statement.{statement}
+use Rattle.declared.proofs.lines.body_line.Tie as tie
 
 pub body-line-spec : {M : Type 1} → statement M
 body-line-spec =

@@ -1,9 +1,9 @@
 use mathlib.Core.Path.{_≡_, refl}
 use borrow.Author.Needs.{needs}
 use Rattle.sheet.specs.Scratch.{skip}
-use Rattle.checking.proofs.Bodies.{after-turn, after-over}
-use Rattle.checking.proofs.entry.after.Statement.{statement}
-use Rattle.checking.proofs.entry.after.Tie as tie
+use Rattle.declared.proofs.Entered.{after-turn, after-over}
+use Rattle.declared.proofs.lines.after.Statement.{statement}
+use Rattle.declared.proofs.lines.after.Tie as tie
 
 abbrev Inv : tie.InvT-loop
 Inv lines from count at₀ left₀ at left = skip lines left at ≡ skip lines count from

@@ -1,5 +1,5 @@
 // The event of a name: a search among the items, the first one winning.
-use declared::Found;
+use crate::model::Found;
 use sheet::end;
 use sheet::first;
 use sheet::kind;
@@ -11,7 +11,7 @@ ghost use lib.Dec.{eqb};
 ghost use Rattle.text.specs.Text.{same};
 ghost use Rattle.sheet.specs.Scratch.{kindAt, nameAt};
 ghost use Rattle.rules.specs.Standing.{Loaded};
-ghost use Rattle.emits.specs.Event.{EventNamed};
+ghost use Rattle.declared.specs.Event.{EventNamed};
 
 // Whether line i is an event of the name x.
 fn is_event(sheet: &[u8], lines: &[u16], x: &[u8], i: usize) -> bool

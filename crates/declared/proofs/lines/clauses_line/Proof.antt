@@ -1,7 +1,7 @@
 use borrow.Author.Needs.{needs}
-use Rattle.checking.proofs.Entries.{at-clauses}
-use Rattle.checking.proofs.entry.clauses_line.Statement.{statement}
-use Rattle.checking.proofs.entry.clauses_line.Tie as tie
+use Rattle.declared.proofs.Entered.{at-clauses}
+use Rattle.declared.proofs.lines.clauses_line.Statement.{statement}
+use Rattle.declared.proofs.lines.clauses_line.Tie as tie
 
 pub clauses-line-spec : {M : Type 1} → statement M
 clauses-line-spec =

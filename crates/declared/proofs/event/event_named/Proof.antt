@@ -1,7 +1,7 @@
 use borrow.Author.Needs.{needs}
-use Rattle.emits.proofs.Events.{EventsGoing, events-start, events-hit, events-turn, events-over}
-use Rattle.emits.proofs.event.event_named.Statement.{statement}
-use Rattle.emits.proofs.event.event_named.Tie as tie
+use Rattle.declared.proofs.Events.{EventsGoing, events-start, events-hit, events-turn, events-over}
+use Rattle.declared.proofs.event.event_named.Statement.{statement}
+use Rattle.declared.proofs.event.event_named.Tie as tie
 
 abbrev Inv : tie.InvT-loop
 Inv sheet lines x at₀ left₀ at left = EventsGoing sheet lines x left at

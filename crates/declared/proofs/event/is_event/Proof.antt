@@ -1,7 +1,7 @@
 use borrow.Author.Needs.{needs}
-use Rattle.emits.proofs.Events.{is-event}
-use Rattle.emits.proofs.event.is_event.Statement.{statement}
-use Rattle.emits.proofs.event.is_event.Tie as tie
+use Rattle.declared.proofs.Events.{is-event}
+use Rattle.declared.proofs.event.is_event.Statement.{statement}
+use Rattle.declared.proofs.event.is_event.Tie as tie
 
 pub is-event-spec : {M : Type 1} → statement M
 is-event-spec =

@@ -1,0 +1,36 @@
+// Lines behind records, and the parts of an entry.
+use sheet::end;
+use sheet::first;
+use sheet::second;
+ghost use mathlib.Core.Path.{_≡_};
+ghost use Prim.Native.Nat.{suc, _/_, _<_};
+ghost use lib.ListN.{length};
+ghost use Rattle.sheet.specs.Scratch.{entry, skip};
+
+// The line after `count` records, the first of which stands at line from.
+pub fn after(lines: &[u16], from: usize, count: usize) -> usize
+    ensures { λ r. ⌜ r ≡ skip (now (lines .entry)) count from ⌝ }
+{
+    let mut at = from;
+    let mut left = count;
+    while 0 < left {
+        at = end(lines, at);
+        left -= 1;
+    }
+    at
+}
+
+// The line of the first clause, and of the first statement, of the entry at line i, or of what stands behind where it has none.
+pub fn clauses_line(lines: &[u16], i: usize) -> usize
+    requires { ⌜ i < length (now lines) / 8 ⌝ }
+    ensures { λ r. ⌜ r ≡ skip (now (lines .entry)) (entry (now (lines .entry)) i 5) (suc i) ⌝ }
+{
+    after(lines, i + 1, first(lines, i))
+}
+
+pub fn body_line(lines: &[u16], i: usize) -> usize
+    requires { ⌜ i < length (now lines) / 8 ⌝ }
+    ensures { λ r. ⌜ r ≡ skip (now (lines .entry)) (entry (now (lines .entry)) i 6) (skip (now (lines .entry)) (entry (now (lines .entry)) i 5) (suc i)) ⌝ }
+{
+    after(lines, clauses_line(lines, i), second(lines, i))
+}
