@@ -1,5 +1,6 @@
-//! Cases made from a seed: typed contracts with planted faults, wild sheets, damaged sheets.
+//! Cases made from a seed: typed contracts with planted faults, dense and wild sheets, damaged sheets.
 
+mod dense;
 mod faults;
 mod names;
 mod typed;
@@ -17,7 +18,8 @@ pub fn case(seed: u64, index: u64) -> Case {
     let mut case = match rng.below(10) {
         0..=2 => damage::damaged(&mut rng),
         3 => Case::exact(written(&wild::any_contract(&mut rng), &mut rng)),
-        4 | 5 => Case::exact(changed(&mut rng)),
+        4 => Case::exact(changed(&mut rng)),
+        5 | 6 => Case::exact(written(&dense::dense_contract(&mut rng), &mut rng)),
         _ => Case::exact(written(&planted(&mut rng), &mut rng)),
     };
     lend(&mut case, &mut rng);

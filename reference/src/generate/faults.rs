@@ -206,13 +206,28 @@ fn bad_assignment(plan: &mut Plan, number: u32) {
         }
         27 => {
             let value = int(plan.rng.pick(&["256", "3_0_0", "00000999", "4294967296"]));
-            match plan.rng.below(2) {
+            match plan.rng.below(3) {
                 0 => plan.fields.push(field("narrow", declared("u8"), Some(value))),
+                1 => at_limit(plan),
                 _ => in_body_or_genesis(plan, assign(op, level, value)),
             }
         }
         _ => unfit(plan),
     }
+}
+
+/// A narrow field whose default is its largest value or one more, or an edge of 128 bits.
+fn at_limit(plan: &mut Plan) {
+    let (ty, most, above) = plan.rng.pick(&[
+        ("bool", "1", "2"),
+        ("u8", "255", "256"),
+        ("u16", "65535", "65536"),
+        ("u32", "4294967295", "4294967296"),
+    ]);
+    let wide = "340282366920938463463374607431768211455";
+    let wider = "340282366920938463463374607431768211456";
+    let value = int(plan.rng.pick(&[most, above, above, wide, wider]));
+    plan.fields.push(field("narrow", declared(ty), Some(value)));
 }
 
 fn name_to_address(plan: &mut Plan) {
