@@ -3,7 +3,7 @@ use mathlib.Core.Logic.{_≢_}
 use mathlib.Core.Path.{_≡_, refl, sym, ap, _∙_}
 use mathlib.Core.List.{List, [], _∷_}
 use mathlib.Core.Bool.{Bool, true, false, _&&_, _||_}
-use Prim.Native.Nat.{ℕ, suc, _+_, _-_, _/_, _<_, _≤_}
+use Prim.Native.Nat.{ℕ, suc, _+_, _-_, _<_, _≤_}
 use native.Mathlib.Numerals.{add-one}
 use native.Mathlib.Omega.{arith}
 use mir.Syntax.{w64}
@@ -21,8 +21,9 @@ use Rattle.rules.specs.Arithmetic.{any, limitsCap, limitsBound, isMints, assetP
 use Rattle.rules.specs.Standing.{clauseAt, clausesAt, paramAt, paramsAt, entryAt, Loaded, Here, Row}
 use Rattle.rules.proofs.Parts.{stop, _also_, pick}
 use Rattle.rules.proofs.Standing.{row-first, row-rest}
-use Rattle.rules.proofs.Records.{EntryParts, entry-at, clauses-next, params-next, no-clauses, no-params, limits-at, denies-at, mints-at, after-at}
+use Rattle.rules.proofs.Records.{EntryParts, entry-at, limits-at, denies-at, mints-at, after-at}
 use Rattle.declared.specs.Lines.{EntryAt, RecordAt}
+use Rattle.declared.proofs.Rows.{Listed, clauses, params}
 use Rattle.arithmetic.proofs.Ops.{fits-next}
 
 -- the parts of an entry
@@ -33,17 +34,16 @@ pub entry-next : (s S : List ℕ) (i : ℕ) → EntryAt s S i → length S < 184
 entry-next s S i h l = fits-next S i (h .within) l
 
 -- whether p of one of the records, `left` of which are to go from line at on
-pub record Seeking {A : Type 0} (s S : List ℕ) (σ : grammar.Sort) (items : ℕ → ℕ → List A) (item : ℕ → A) (p : A → Bool) (whole : Bool) (left at : ℕ) : Type 0 where
+pub record Seeking {A : Type 0} (s S : List ℕ) (σ : grammar.Sort) (all : List ℕ → ℕ → ℕ → List A) (one : List ℕ → ℕ → A) (p : A → Bool) (whole : Bool) (left at : ℕ) : Type 0 where
   pub loaded : Loaded s S
   pub row : Row S σ left at
-  pub no-more : (i : ℕ) → items 0 i ≡ []
-  pub step : (m i : ℕ) → i < length S / 8 → items (suc m) i ≡ item i ∷ items m (endAt S i)
-  pub rest : whole ≡ any p (items left at)
+  pub listed : Listed one all
+  pub rest : whole ≡ any p (all s left at)
 
-module _ {A : Type 0} (s S : List ℕ) (σ : grammar.Sort) (items : ℕ → ℕ → List A) (item : ℕ → A) (p : A → Bool) (whole : Bool) (left at : ℕ) (g : Seeking s S σ items item p whole left at) where
+module _ {A : Type 0} (s S : List ℕ) (σ : grammar.Sort) (all : List ℕ → ℕ → ℕ → List A) (one : List ℕ → ℕ → A) (p : A → Bool) (whole : Bool) (left at : ℕ) (g : Seeking s S σ all one p whole left at) where
   pub seek-over : left ≤ 0 → false ≡ whole
   unfolding any
-  seek-over h = sym (g .rest ∙ rw (let e : left ≡ 0 = omega arith in e, g .no-more at) refl)
+  seek-over h = sym (g .rest ∙ rw (let e : left ≡ 0 = omega arith in e, g .listed .empty s at) refl)
 
   module _ (h : 0 < left) where
     more-left : left ≡ suc (left - 1)
@@ -55,21 +55,21 @@ module _ {A : Type 0} (s S : List ℕ) (σ : grammar.Sort) (items : ℕ → ℕ 
     pub seek-here : RecordAt σ s S at
     seek-here = record { loaded = g .loaded; here = row-first some-row }
 
-    turn : whole ≡ (p (item at) || any p (items (left - 1) (endAt S at)))
+    turn : whole ≡ (p (one s at) || any p (all s (left - 1) (endAt S at)))
     unfolding any
-    turn = g .rest ∙ ap (λ m. any p (items m at)) more-left ∙ rw (g .step (left - 1) at (seek-here .here .within)) refl
+    turn = g .rest ∙ ap (λ m. any p (all s m at)) more-left ∙ rw (g .listed .first (g .loaded) (left - 1) (seek-here .here .within)) refl
 
-    pub seek-found : (b : Bool) → b ≡ p (item at) → b ≡ true → true ≡ whole
+    pub seek-found : (b : Bool) → b ≡ p (one s at) → b ≡ true → true ≡ whole
     seek-found b e q = sym (turn ∙ rw (← e, q) refl)
 
-    pub seek-next : (b : Bool) (at' : ℕ) → b ≡ p (item at) → b ≡ false → at' ≡ endAt S at → Seeking s S σ items item p whole (left - 1) at'
+    pub seek-next : (b : Bool) (at' : ℕ) → b ≡ p (one s at) → b ≡ false → at' ≡ endAt S at → Seeking s S σ all one p whole (left - 1) at'
     seek-next b at' e q f =
-        record { loaded = g .loaded; row = rw f (row-rest some-row); no-more = g .no-more; step = g .step; rest = turn ∙ rw (← e, q, f) refl }
+        record { loaded = g .loaded; row = rw f (row-rest some-row); listed = g .listed; rest = turn ∙ rw (← e, q, f) refl }
 
 -- ------------------------------------------------------------ clauses
 
 abbrev pub Clauses : (s S : List ℕ) → (Clause → Bool) → Bool → ℕ → ℕ → Type 0
-Clauses s S p whole left at = Seeking s S grammar.Clause (clausesAt s) (clauseAt s) p whole left at
+Clauses s S p whole left at = Seeking s S grammar.Clause clausesAt clauseAt p whole left at
 
 -- those of an entry
 clauses-from : (s S : List ℕ) (i : ℕ) (p : Clause → Bool) (left at : ℕ) → EntryAt s S i → at ≡ skip S (entry S i 5) (suc i) → left ≡ entry S i 6
@@ -80,8 +80,7 @@ clauses-from s S i p left at h e f =
     (record {
       loaded = h .loaded;
       row = q .clauses;
-      no-more = no-clauses s;
-      step = λ m j w. clauses-next (h .loaded) m w;
+      listed = clauses;
       rest = rw (q .is) refl;
     })
 
@@ -112,16 +111,16 @@ module _ {s S : List ℕ} (d : Loaded s S) {i : ℕ} (h : Here S grammar.Clause 
 
 module _ (s S : List ℕ) (whole : Bool) (left at : ℕ) (g : Clauses s S isMints whole left at) (h : 0 < left) (k : ℕ) (e : k ≡ kindAt S at) where
   here' : RecordAt grammar.Clause s S at
-  here' = seek-here s S grammar.Clause (clausesAt s) (clauseAt s) isMints whole left at g h
+  here' = seek-here s S grammar.Clause clausesAt clauseAt isMints whole left at g h
 
   pub mints-found : k ≡ 13 → true ≡ whole
   mints-found q =
-      seek-found s S grammar.Clause (clausesAt s) (clauseAt s) isMints whole left at g h true
+      seek-found s S grammar.Clause clausesAt clauseAt isMints whole left at g h true
       (rw (is-mints (here' .loaded) (here' .here), ← e) (sym (eq-eqb k 13 q))) refl
 
   pub mints-next : (at' : ℕ) → k ≢ 13 → at' ≡ endAt S at → Clauses s S isMints whole (left - 1) at'
   mints-next at' q f =
-      seek-next s S grammar.Clause (clausesAt s) (clauseAt s) isMints whole left at g h false at'
+      seek-next s S grammar.Clause clausesAt clauseAt isMints whole left at g h false at'
       (rw (is-mints (here' .loaded) (here' .here), ← e) (sym (ne-eqb k 13 q))) refl f
 
 -- ------------------------------------------------------------ parameters
@@ -131,7 +130,7 @@ abbrev pub assetOf : Name → Param → Bool
 assetOf x p = isAssetParam p && same x (p .name)
 
 abbrev pub Params : (s S : List ℕ) → Name → Bool → ℕ → ℕ → Type 0
-Params s S x whole left at = Seeking s S grammar.Param (paramsAt s) (paramAt s) (assetOf x) whole left at
+Params s S x whole left at = Seeking s S grammar.Param paramsAt paramAt (assetOf x) whole left at
 
 among-assets : (x : Name) (ps : List Param) → among x (assetParams ps) ≡ any (assetOf x) ps
 unfolding among assetParams any
@@ -155,7 +154,6 @@ assets-start s S i left at x h e f =
     (record {
       loaded = h .loaded;
       row = q .params;
-      no-more = no-params s;
-      step = λ m j w. params-next (h .loaded) m w;
+      listed = params;
       rest = rw (q .is) (among-assets x (paramsAt s (entry S i 5) (suc i)));
     })

@@ -36,7 +36,7 @@ use Rattle.declared.specs.declared.model.Found.the-variants.{At, Nothing}
 use Rattle.declared.specs.declared.refusal.Refusal.{Refusal}
 use Rattle.declared.specs.declared.refusal.Done.{Done}
 use Rattle.declared.specs.declared.refusal.Done.the-variants.{Fine, Refused}
-pub use Rattle.declared.proofs.Tables.{or-parts}
+use Rattle.declared.proofs.Tables.{or-parts}
 use Rattle.env.proofs.Lookups.{TypeBehind, behind as type-behind}
 use Rattle.env.specs.Answers.{typedOf, JudgesAmount, JudgesKey}
 use Rattle.env.specs.Calls.{wantsOf, keyedOf}
