@@ -1,0 +1,19 @@
+use borrow.Author.Needs.{needs}
+use Rattle.message.proofs.Adding.{add-most, add-unfit, add-fit}
+use Rattle.message.proofs.write.add.Statement.{statement}
+use Rattle.message.proofs.write.add.Tie as tie
+
+pub add-spec : {M : Type 1} → statement M
+add-spec =
+    tie.close
+    (tie.spec
+    (λ c. search needs)
+    (λ c. search (needs, add-most))
+    (λ c. search needs)
+    (λ c. search (needs, add-unfit))
+    (λ c. search needs)
+    (λ c. search needs)
+    (λ c. search needs)
+    (λ c κs. search needs)
+    (λ c. search needs)
+    (λ c. search (needs, add-fit)))
