@@ -1,6 +1,8 @@
 // The pieces of a message, each written into the rest of a buffer: of module 7 what no rule asks.
 mod number;
+mod types;
 mod write;
 
 pub use number::add_decimal;
+pub use types::add_type;
 pub use write::add;
