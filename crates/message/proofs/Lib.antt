@@ -1,3 +1,4 @@
 pub mod Adding
 pub mod Arguments
 pub mod Decimals
+pub mod Literals
