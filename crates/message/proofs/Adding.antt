@@ -1,6 +1,6 @@
 -- Pieces written one behind another. Assumes nothing.
 use mathlib.Core.Path.{_≡_, refl, sym, ap, _∙_}
-use mathlib.Core.List.{List, [], _∷_, _++_, append-assoc, append-nil}
+use mathlib.Core.List.{List, [], _++_, append-assoc, append-nil}
 use mathlib.Core.Bool.{Bool, true, false, cond}
 use Prim.Native.Nat.{ℕ, suc, _+_, _-_, _≤_, _<_}
 use native.Mathlib.Numerals.{add-one}
@@ -9,7 +9,7 @@ use lib.Dec.{leb}
 use lib.ListN.{length, getD, set, take, drop, length-append, length-drop, drop-of-length-le, take-append-drop}
 use lib.Seq.{drop-cons, take-suc, set-at, append-snoc, length-take-le, take-at, drop-at, drop-drop, take-length, take-all}
 use borrow.Rule.Slice.PartMut.{putMid, midOf}
-use borrow.Author.Tests.{le-leb, lt-leb, leb-true, leb-false}
+use borrow.Author.Tests.{le-leb, leb-true, leb-false}
 use Rattle.message.specs.Writing.{MOST, toldAs, Adds}
 
 -- ------------------------------------------------------------ lengths

@@ -17,9 +17,9 @@ use Rattle.sheet.specs.Tree.{takeNodes}
 use Rattle.sheet.specs.Scratch.{nameAt, kindAt, endAt, entry}
 use Rattle.sheet.proofs.Due.{length-times}
 use Rattle.rules.specs.Text.{Piece, lit, raw, dec, is, digits, render}
-use Rattle.rules.specs.Ast.{Arg, ofType, ofInt, mOfN, Args, anil, amore, typeOf, argOf, argsOf}
+use Rattle.rules.specs.Ast.{Arg, Args, anil, amore, typeOf, argsOf}
 use Rattle.rules.specs.Declarations.{argText, argsText, typeText}
-use Rattle.rules.specs.Standing.{typeAt, argAt, treesFrom, Loaded, Here, Row, stop, next}
+use Rattle.rules.specs.Standing.{typeAt, argAt, Loaded, Row}
 use Rattle.rules.proofs.Parts.{parts}
 use Rattle.rules.proofs.Standing.{stands, parts-behind, row-behind, row-first, row-rest}
 use Rattle.declared.specs.Lines.{Typed, RecordAt, RecordsAt}

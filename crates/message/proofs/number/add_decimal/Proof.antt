@@ -1,4 +1,3 @@
-use native.Mathlib.Omega.{arith}
 use borrow.Author.Needs.{needs}
 use Rattle.message.proofs.Decimals.{part-added}
 use Rattle.message.proofs.number.add_decimal.Statement.{statement}
