@@ -2,3 +2,4 @@ pub mod Adding
 pub mod Arguments
 pub mod Decimals
 pub mod Literals
+pub mod Texts

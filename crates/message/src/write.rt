@@ -5,6 +5,7 @@ ghost use Prim.Native.Nat.{_≤_};
 ghost use lib.ListN.{drop, length};
 ghost use Rattle.message.specs.Writing.{Adds};
 
+// The length that is told of a longer message.
 const MOST: usize = 18446744073709551615;
 
 // Writes the piece over the start of the rest.

@@ -39,7 +39,7 @@ unfolding before
 held-before no-tree h = h
 held-before (tree t ts) h = tree t (held-before ts h)
 
-spells-before : {P : ℕ → Line → Type 0} {ps ns : Nodes} → EveryOf P ps → EveryOf P ns → EveryOf P (before ps ns)
+pub spells-before : {P : ℕ → Line → Type 0} {ps ns : Nodes} → EveryOf P ps → EveryOf P ns → EveryOf P (before ps ns)
 unfolding before
 spells-before no-more h = h
 spells-before (and-more e es) h = and-more e (spells-before es h)

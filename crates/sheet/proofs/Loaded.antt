@@ -94,7 +94,7 @@ every-drop zero h = h
 every-drop (suc k) no-more = no-more
 every-drop (suc k) (and-more h r) = every-drop k r
 
-built : {P : ℕ → Line → Type 0} {i : ℕ} {ls : List Line} → Each P i ls → EveryOf P (build i ls)
+pub built : {P : ℕ → Line → Type 0} {i : ℕ} {ls : List Line} → Each P i ls → EveryOf P (build i ls)
 unfolding build grow
 built none = no-more
 built (one h r) = let b = built r in and-more (every h (every-take _ b)) (every-drop _ b)

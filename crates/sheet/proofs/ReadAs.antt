@@ -226,7 +226,7 @@ or-ten (some m) l e = cc
 or-ten nothing l e = absurd (let z : _≡_ {A = ℕ} 0 1 = cc in omega arith)
 
 -- what stands behind a line that is read
-read-as : (k at n : ℕ) (fs : List (List ℕ)) (l : Line) → readAs k at n fs ≡ good l
+pub read-as : (k at n : ℕ) (fs : List (List ℕ)) (l : Line) → readAs k at n fs ≡ good l
     → (k ≢ none) × (readFields (rowOf k .rules) (at + n + 1) fs (begun k at) ≡ some l)
 unfolding readAs
 read-as k at n fs l e = go (eqb k none) (eqb (length fs) (length (rowOf k .rules))) refl e
