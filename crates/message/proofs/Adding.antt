@@ -1,16 +1,17 @@
 -- Pieces written one behind another. Assumes nothing.
 use mathlib.Core.Path.{_≡_, refl, sym, ap, _∙_}
-use mathlib.Core.List.{List, [], _++_, append-assoc, append-nil}
+use mathlib.Core.List.{List, [], _∷_, _++_}
 use mathlib.Core.Bool.{Bool, true, false, cond}
-use Prim.Native.Nat.{ℕ, suc, _+_, _-_, _*_, _^_, _≤_, _<_}
+use Prim.Native.Nat.{ℕ, zero, suc, _+_, _-_, _*_, _^_, _≤_, _<_}
 use native.Mathlib.Numerals.{add-one}
 use native.Mathlib.Omega.{arith}
+use mir.Syntax.{w64}
+use mir.Val.{Fits}
 use lib.Dec.{leb}
-use lib.ListN.{length, getD, set, take, drop, length-append, length-drop, drop-of-length-le, take-append-drop}
-use lib.Seq.{drop-cons, take-suc, set-at, append-snoc, length-take-le, take-at, drop-at, drop-drop, take-length, take-all}
-use borrow.Rule.Slice.PartMut.{putMid, midOf}
+use lib.ListN.{length, getD, set, take, drop, length-append, take-append-drop}
+use lib.Seq.{take-suc, length-take-le, take-all}
 use borrow.Author.Tests.{le-leb, leb-true, leb-false}
-use Rattle.message.specs.Writing.{MOST, toldAs, Adds}
+use Rattle.message.specs.Writing.{MOST, toldAs, overlay, Adds}
 
 -- ------------------------------------------------------------ lengths
 
@@ -35,68 +36,118 @@ told-add a b = go (leb a MOST) refl
         let h = leb-false a MOST e in
         ap (λ x. toldAs (x + b)) (told-most a (omega arith)) ∙ told-most (MOST + b) (omega arith) ∙ sym (told-most (a + b) (omega arith))
 
+-- ------------------------------------------------------------ a text over a buffer
+
+overlay-none : (B : List ℕ) (a : ℕ) → overlay B a [] ≡ B
+unfolding overlay
+overlay-none [] a = refl
+overlay-none (b ∷ B) zero = refl
+overlay-none (b ∷ B) (suc a) = ap (λ U. b ∷ U) (overlay-none B a)
+
+overlay-one : (B : List ℕ) (a c : ℕ) → overlay B a (c ∷ []) ≡ set B a c
+unfolding overlay
+overlay-one [] a c = refl
+overlay-one (b ∷ B) zero c = ap (λ U. c ∷ U) (overlay-none B zero)
+overlay-one (b ∷ B) (suc a) c = ap (λ U. b ∷ U) (overlay-one B a c)
+
+overlay-length : (B : List ℕ) (a : ℕ) (t : List ℕ) → length (overlay B a t) ≡ length B
+unfolding overlay
+overlay-length [] a t = refl
+overlay-length (b ∷ B) (suc a) t = ap suc (overlay-length B a t)
+overlay-length (b ∷ B) zero [] = refl
+overlay-length (b ∷ B) zero (c ∷ t) = ap suc (overlay-length B zero t)
+
+overlay-beyond : (B : List ℕ) (a : ℕ) (t : List ℕ) → length B ≤ a → overlay B a t ≡ B
+unfolding overlay
+overlay-beyond [] a t h = refl
+overlay-beyond (b ∷ B) zero t h = absurd (omega arith)
+overlay-beyond (b ∷ B) (suc a) t h = ap (λ U. b ∷ U) (overlay-beyond B a t (omega arith))
+
+overlay-both : (B : List ℕ) (a : ℕ) (t u : List ℕ) → overlay (overlay B a t) (a + length t) u ≡ overlay B a (t ++ u)
+unfolding overlay
+overlay-both [] a t u = refl
+overlay-both (b ∷ B) (suc a) t u = rw (let q : suc a + length t ≡ suc (a + length t) = omega arith in q) (ap (λ U. b ∷ U) (overlay-both B a t u))
+overlay-both (b ∷ B) zero [] u = refl
+overlay-both (b ∷ B) zero (c ∷ t) u = rw (let q : 0 + suc (length t) ≡ suc (0 + length t) = omega arith in q) (ap (λ U. c ∷ U) (overlay-both B zero t u))
+
+overlay-fit : (B t : List ℕ) → length t ≤ length B → overlay B 0 t ≡ t ++ drop (length t) B
+unfolding overlay
+overlay-fit [] [] h = refl
+overlay-fit [] (c ∷ t) h = absurd (omega arith)
+overlay-fit (b ∷ B) [] h = refl
+overlay-fit (b ∷ B) (c ∷ t) h = ap (λ U. c ∷ U) (overlay-fit B t (omega arith))
+
 -- ------------------------------------------------------------ one text behind another
 
 pub adds-none : (B : List ℕ) (a : ℕ) → a < 18446744073709551616 → Adds [] B a B a
-adds-none B a h = record {
-  told = sym (rw (let q : a + 0 ≡ a = omega arith in q) (told-all a (omega arith)));
-  fits = λ f m. rw (let q : a + 0 ≡ a = omega arith in q, append-nil (take a B)) (sym (take-append-drop a B));
-  same = refl;
-}
+adds-none B a h =
+    record { told = sym (rw (let q : a + 0 ≡ a = omega arith in q) (told-all a (omega arith))); buffer = sym (overlay-none B a) }
 
--- where both fit
-both-fit : (t u B : List ℕ) (a : ℕ) (U W : List ℕ) → a + length t ≤ length B → U ≡ take a B ++ t ++ drop (a + length t) B
-    → W ≡ take (a + length t) U ++ u ++ drop (a + length t + length u) U → W ≡ take a B ++ (t ++ u) ++ drop (a + length t + length u) B
-both-fit t u B a U W h e f =
-    let p = take a B ++ t in
-    let n : length p ≡ a + length t = length-append (take a B) t ∙ ap (λ x. x + length t) (length-take-le a B (omega arith)) in
-    let x : take (a + length t) U ≡ p = ap (take (a + length t)) e ∙ take-at p (drop (a + length t) B) (a + length t) n in
-    let y : drop (a + length t) U ≡ drop (a + length t) B = ap (drop (a + length t)) e ∙ drop-at p (drop (a + length t) B) (a + length t) n in
-    let z : drop (a + length t + length u) U ≡ drop (a + length t + length u) B =
-    sym (drop-drop (length u) (a + length t) U) ∙ ap (drop (length u)) y ∙ drop-drop (length u) (a + length t) B in
-    f ∙ rw (x, z, append-assoc (take a B) t u) refl
+pub adds-same : (t B : List ℕ) (a : ℕ) (U : List ℕ) (b : ℕ) → Adds t B a U b → length U ≡ length B
+adds-same t B a U b x = ap length (x .buffer) ∙ overlay-length B a t
 
-pub both : (t u B : List ℕ) (a : ℕ) (U : List ℕ) (b : ℕ) (W : List ℕ) (c : ℕ) → Adds t B a U b → Adds u U b W c → Adds (t ++ u) B a W c
-both t u B a U b W c x y =
+-- a place that is told as MOST is beyond the buffer, as is the place itself
+overlay-told : (B : List ℕ) (a : ℕ) (t : List ℕ) → length B < 18446744073709551616 → overlay B (toldAs a) t ≡ overlay B a t
+overlay-told B a t l = go (leb a MOST) refl
+  where
+    go : (k : Bool) → leb a MOST ≡ k → overlay B (toldAs a) t ≡ overlay B a t
+    go true e = ap (λ x. overlay B x t) (told-all a (leb-true a MOST e))
+    go false e =
+        let h = leb-false a MOST e in
+        ap (λ x. overlay B x t) (told-most a (omega arith)) ∙ overlay-beyond B MOST t (omega arith) ∙ sym (overlay-beyond B a t (omega arith))
+
+pub both : (t u B : List ℕ) (a : ℕ) (U : List ℕ) (b : ℕ) (W : List ℕ) (c : ℕ) → length B < 18446744073709551616 → Adds t B a U b → Adds u U b W c
+    → Adds (t ++ u) B a W c
+both t u B a U b W c l x y =
     let n : a + length (t ++ u) ≡ a + length t + length u = rw (length-append t u) (omega arith) in
     record {
       told = y .told ∙ rw (x .told, n) (told-add (a + length t) (length u));
-      fits = λ h m.
-          let k : b ≡ a + length t = x .told ∙ told-all (a + length t) (omega (arith, n)) in
-          let f = y .fits (omega (arith, n, k, x .same)) (omega (arith, n, k)) in
-          rw n (both-fit t u B a U W (omega (arith, n)) (x .fits (omega (arith, n)) (omega (arith, n))) (rw k at f));
-      same = y .same ∙ x .same;
+      buffer =
+          y .buffer
+          ∙ rw (x .buffer, x .told) (overlay-told (overlay B a t) (a + length t) u (omega (arith, overlay-length B a t)))
+          ∙ overlay-both B a t u;
     }
 
 -- ------------------------------------------------------------ a piece
 
--- A turn of `put`: r is the rest so far, r₀ as it was, and i the place of the turn.
-module _ (r r₀ p : List ℕ) (i : ℕ) (e : r ≡ take i p ++ drop i r₀) (h : i < length p) (fit : length p ≤ length r₀) where
-  pub put-more : set r i (getD p i 0) ≡ take (i + 1) p ++ drop (i + 1) r₀
-  put-more = rw (e, drop-cons r₀ i 0 (omega arith), set-at (take i p) (getD r₀ i 0) (drop (suc i) r₀) (getD p i 0) i (length-take-le i p (omega arith)), add-one, take-suc p i 0 h, append-snoc)
+-- What holds at a turn of `put`: U is the buffer so far, B as it was, and i and j are the places of the turn in the piece and the buffer.
+pub record Putting (B : List ℕ) (a : ℕ) (p U : List ℕ) (j i : ℕ) : Type 0 where
+  pub so-far : U ≡ overlay B a (take i p)
+  pub place : j ≡ a + i
 
-pub put-over : (r r₀ p : List ℕ) (i : ℕ) → r ≡ take i p ++ drop i r₀ → i ≤ length p → length p ≤ i → r ≡ p ++ drop (length p) r₀
-put-over r r₀ p i e h k = e ∙ rw (let q : i ≡ length p = omega arith in q, take-length p)
+pub put-none : (B : List ℕ) (a : ℕ) (p : List ℕ) → Putting B a p B a 0
+put-none B a p = record { so-far = sym (overlay-none B a); place = omega arith }
 
--- What `add` meets: the length cannot be told, the piece does not fit, or y is what its writer left of the rest.
-module _ (p B : List ℕ) (a : ℕ) where
-  pub add-most : MOST - a < length p → length B < 18446744073709551616 → Adds p B a B MOST
-  add-most h l = record { told = sym (told-most (a + length p) (omega arith)); fits = λ f m. absurd (omega arith); same = refl }
+module _ (B : List ℕ) (a : ℕ) (p U : List ℕ) (j i : ℕ) (x : Putting B a p U j i) where
+  put-next : (t : List ℕ) → i ≤ length p → overlay U j t ≡ overlay B a (take i p ++ t)
+  put-next t h =
+      rw (x .so-far, let q : j ≡ a + length (take i p) = omega (arith, x .place, length-take-le i p h) in q) (overlay-both B a (take i p) t)
 
-  pub add-unfit : (n : ℕ) → n ≡ a + length p → length p ≤ MOST - a → a < 18446744073709551616 → length B < n → Adds p B a B n
-  add-unfit n e h l f = record { told = e ∙ sym (told-all (a + length p) (omega arith)); fits = λ g m. absurd (omega arith); same = refl }
+  pub put-more : i < length p → Putting B a p (set U j (getD p i 0)) (j + 1) (i + 1)
+  put-more h = record {
+    so-far = sym (overlay-one U j (getD p i 0)) ∙ put-next (getD p i 0 ∷ []) (omega arith) ∙ rw (add-one i, take-suc p i 0 h) refl;
+    place = omega (arith, x .place);
+  }
 
-  pub add-fit : (n : ℕ) (y : List ℕ) → n ≡ a + length p → length p ≤ MOST - a → a < 18446744073709551616 → n ≤ length B
-      → y ≡ p ++ drop (length p) (midOf a (length B - a) B) → Adds p B a (putMid a (length B - a) B y) n
-  add-fit n y e h l f g =
-      let whole : take (length B - a) (drop a B) ≡ drop a B = take-all (length B - a) (drop a B) (omega (arith, length-drop a B)) in
-      let over : drop (length B - a) (drop a B) ≡ [] = drop-of-length-le (drop a B) {i = length B - a} (omega (arith, length-drop a B)) in
-      let w : putMid a (length B - a) B y ≡ take a B ++ p ++ drop (a + length p) B = rw (over, append-nil y, g, whole, drop-drop (length p) a B) (sym (append-assoc (take a B) p (drop (a + length p) B))) in
-      record {
-        told = e ∙ sym (told-all (a + length p) (omega arith));
-        fits = λ _ _. w;
-        same = rw (w, length-append (take a B ++ p) (drop (a + length p) B), length-append (take a B) p, length-take-le a B (omega arith)) (omega (arith, length-drop (a + length p) B));
-      }
+  pub put-full : i < length p → length U ≤ j → U ≡ overlay B a p
+  put-full h k = sym (overlay-beyond U j (drop i p) k) ∙ put-next (drop i p) (omega arith) ∙ ap (overlay B a) (take-append-drop i p)
+
+  pub put-over : length p ≤ i → U ≡ overlay B a p
+  put-over h = x .so-far ∙ ap (overlay B a) (take-all i p h)
+
+  pub put-same : length U ≡ length B
+  put-same = ap length (x .so-far) ∙ overlay-length B a (take i p)
+
+  pub put-on : j < length U → length B < 18446744073709551616 → Fits w64 (j + 1)
+  put-on h l = record { fits = omega (arith, put-same) }
+
+-- What `add` meets: the length can be told or not.
+module _ (p B : List ℕ) (a : ℕ) (U : List ℕ) (e : U ≡ overlay B a p) where
+  pub add-most : MOST - a < length p → Adds p B a U MOST
+  add-most h = record { told = sym (told-most (a + length p) (omega arith)); buffer = e }
+
+  pub add-all : length p ≤ MOST - a → a < 18446744073709551616 → Adds p B a U (a + length p)
+  add-all h l = record { told = sym (told-all (a + length p) (omega arith)); buffer = e }
 
 -- ------------------------------------------------------------ a message
 
@@ -112,7 +163,5 @@ told-exact t B a U b m x h l = go (leb (a + length t) MOST) refl
         absurd (omega arith)
 
 -- a message that fits stands at the buffer's start
-pub all-written : (t B U : List ℕ) (b : ℕ) → Adds t B 0 U b → length t ≤ length B → length B < 18446744073709551616 → U ≡ t ++ drop (length t) B
-all-written t B U b x h l =
-    let q : 0 + length t ≡ length t = omega arith in
-    x .fits (omega (arith, q)) (omega (arith, q)) ∙ rw q refl
+pub all-written : (t B U : List ℕ) (b : ℕ) → Adds t B 0 U b → length t ≤ length B → U ≡ t ++ drop (length t) B
+all-written t B U b x h = x .buffer ∙ overlay-fit B t h

@@ -91,11 +91,11 @@ module _ (s S : List ℕ) (i : ℕ) (h : Typed s S i) where
   pub type-args : (m : ℕ) → m ≡ entry S i 5 → RecordsAt grammar.Arg s S m (i + 1)
   type-args m e = rw (e, add-one) (record { loaded = h .loaded; row = type-said s S i h .1 })
 
-  pub type-all : (x B : List ℕ) (a : ℕ) (U : List ℕ) (b m : ℕ) (W : List ℕ) (c : ℕ) → x ≡ nameAt s S i → Adds x B a U b → m ≡ entry S i 5
+  pub type-all : (x B : List ℕ) (a : ℕ) (U : List ℕ) (b m : ℕ) (W : List ℕ) (c : ℕ) → length B < 18446744073709551616 → x ≡ nameAt s S i → Adds x B a U b → m ≡ entry S i 5
       → Adds (render (argsText (before true) (argsAt s m (i + 1)))) U b W c → Adds (render (typeText (typeAt s i))) B a W c
   unfolding before
-  type-all x B a U b m W c e f g y =
-      rw (type-said s S i h .0, ← e, ← g, ← add-one i) (both x (render (argsText "<" (argsAt s m (i + 1)))) B a U b W c f y)
+  type-all x B a U b m W c l e f g y =
+      rw (type-said s S i h .0, ← e, ← g, ← add-one i) (both x (render (argsText "<" (argsAt s m (i + 1)))) B a U b W c l f y)
 
 -- ------------------------------------------------------------ `add_arg`
 
@@ -156,11 +156,11 @@ module _ (s S : List ℕ) (m i : ℕ) (o : Bool) (h : RecordsAt grammar.Arg s S 
       pub args-falls : (t : ℕ) → rank (length S / 8) i 2 ≡ t → rank (length S / 8) n 2 < t
       args-falls t q = omega (arith, row-first row .within, row-first row .after)
 
-      pub args-all : (B : List ℕ) (a : ℕ) (U : List ℕ) (b : ℕ) (W : List ℕ) (c : ℕ) (X : List ℕ) (d : ℕ) → Adds (bytes (before o)) B a U b
+      pub args-all : (B : List ℕ) (a : ℕ) (U : List ℕ) (b : ℕ) (W : List ℕ) (c : ℕ) (X : List ℕ) (d : ℕ) → length B < 18446744073709551616 → Adds (bytes (before o)) B a U b
           → Adds (render (argText (argAt s i))) U b W c → Adds (render (argsText (before false) (argsAt s (m - 1) n))) W c X d
           → Adds (render (argsText (before o) (argsAt s m i))) B a X d
       unfolding before
-      args-all B a U b W c X d x y z =
+      args-all B a U b W c X d l x y z =
           let p : argsAt s m i ≡ amore (argAt s i) (argsAt s (m - 1) n) =
           ap (λ m. argsAt s m i) (let q : m ≡ suc (m - 1) = omega arith in q) ∙ rw f (args-next (h .loaded) (m - 1) i (row-first row .within)) in
-          rw (p, more-said (before o) (argAt s i) (argsAt s (m - 1) n)) (both _ _ B a W c X d (both _ _ B a U b W c x y) z)
+          rw (p, more-said (before o) (argAt s i) (argsAt s (m - 1) n)) (both _ _ B a W c X d l (both _ _ B a U b W c l x y) z)

@@ -178,12 +178,12 @@ module _ (t B : List ℕ) (a : ℕ) (U : List ℕ) (b i : ℕ) (x : Adds (noUnde
   digits-skip e h =
       rw (add-one i, take-suc t i 0 h, e, no-underscores-append (take i t) (95 ∷ []), append-nil (noUnderscores (take i t))) x
 
-  pub digits-add : (W : List ℕ) (c : ℕ) → getD t i 0 ≢ 95 → i < length t → Adds (take (i + 1 - i) (drop i t)) U b W c → Adds (noUnderscores (take (i + 1) t)) B a W c
+  pub digits-add : (W : List ℕ) (c : ℕ) → length B < 18446744073709551616 → getD t i 0 ≢ 95 → i < length t → Adds (take (i + 1 - i) (drop i t)) U b W c → Adds (noUnderscores (take (i + 1) t)) B a W c
   unfolding noUnderscores
-  digits-add W c e h y =
+  digits-add W c l e h y =
       let p : take (i + 1 - i) (drop i t) ≡ getD t i 0 ∷ [] = rw (let q : i + 1 - i ≡ 1 = omega arith in q, drop-cons t i 0 h) refl in
       let z : Adds (getD t i 0 ∷ []) U b W c = rw p at y in
-      rw (add-one i, take-suc t i 0 h, no-underscores-append (take i t) (getD t i 0 ∷ []), no-underscore (getD t i 0) [] e) (both (noUnderscores (take i t)) (getD t i 0 ∷ []) B a U b W c x z)
+      rw (add-one i, take-suc t i 0 h, no-underscores-append (take i t) (getD t i 0 ∷ []), no-underscore (getD t i 0) [] e) (both (noUnderscores (take i t)) (getD t i 0 ∷ []) B a U b W c l x z)
 
   pub digits-over : length t ≤ i → Adds (noUnderscores t) B a U b
   digits-over h = rw (take-all i t h) at x

@@ -4,6 +4,7 @@ use borrow.Author.Needs.{needs}
 use lib.ListN.{length, take}
 use Rattle.rules.specs.Declared.{noUnderscores}
 use Rattle.message.specs.Writing.{Adds}
+use Rattle.message.proofs.Adding.{adds-same}
 use Rattle.message.proofs.Literals.{digits-start, digits-skip, digits-add, digits-over}
 use Rattle.message.proofs.literal.add_digits.Statement.{statement}
 use Rattle.message.proofs.literal.add_digits.Tie as tie
@@ -33,5 +34,5 @@ add-digits-spec =
     (λ c. search needs)
     (λ c. search needs)
     (λ c. search (needs, digits-add))
-    (λ c. search needs)
+    (λ c. search (needs, adds-same))
     (λ c. search (needs, digits-over)))

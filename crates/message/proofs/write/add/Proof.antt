@@ -1,5 +1,5 @@
 use borrow.Author.Needs.{needs}
-use Rattle.message.proofs.Adding.{add-most, add-unfit, add-fit}
+use Rattle.message.proofs.Adding.{add-most, add-all}
 use Rattle.message.proofs.write.add.Statement.{statement}
 use Rattle.message.proofs.write.add.Tie as tie
 
@@ -7,13 +7,10 @@ pub add-spec : {M : Type 1} → statement M
 add-spec =
     tie.close
     (tie.spec
+    (λ c κs. search needs)
+    (λ c. search needs)
     (λ c. search needs)
     (λ c. search (needs, add-most))
     (λ c. search needs)
-    (λ c. search (needs, add-unfit))
     (λ c. search needs)
-    (λ c. search needs)
-    (λ c. search needs)
-    (λ c κs. search needs)
-    (λ c. search needs)
-    (λ c. search (needs, add-fit)))
+    (λ c. search (needs, add-all)))

@@ -1,25 +1,16 @@
 -- `message::write::put` meets its contract. Assumes nothing.
-use mathlib.Core.Path.{_≡_, refl}
-use mathlib.Core.List.{_++_}
-use Prim.Native.Nat.{_≤_, _-_}
-use native.Mathlib.Omega.{arith}
-use lib.ListN.{length, take, drop, length-set}
-use Rattle.message.proofs.Adding.{put-more, put-over}
+use Prim.Native.Nat.{_-_}
+use borrow.Author.Needs.{needs}
+use lib.ListN.{length}
+use Rattle.message.proofs.Adding.{Putting, put-none, put-more, put-full, put-over, put-same, put-on}
 use Rattle.message.proofs.write.put.Statement.{statement}
 use Rattle.message.proofs.write.put.Tie as tie
 
 abbrev Inv : tie.InvT-loop
-Inv rest₀ piece i₀ rest i = (i ≤ length piece) × (length rest ≡ length rest₀) × (rest ≡ take i piece ++ drop i rest₀)
+Inv buffer₀ at piece to₀ i₀ buffer to i = Putting buffer₀ at piece buffer to i
 
 abbrev μ : tie.MeasureT-loop
-μ rest₀ piece i₀ rest i = length piece - i
-
-loop-again : tie.Need-loop-again Inv μ
-loop-again c = let l = c .before in
-    (omega arith, simp length-set (omega arith), put-more _ _ _ _ (l .before .loop .inv .2) (l .loop-test .taken) (l .before .before .pre))
-
-returns : tie.Need-returns Inv μ
-returns c = put-over _ _ _ _ (c .before .loop .inv .2) (c .before .loop .inv .0) (c .loop-test .left)
+μ buffer₀ at piece to₀ i₀ buffer to i = length piece - i
 
 pub put-spec : {M : Type 1} → statement M
 put-spec =
@@ -27,11 +18,14 @@ put-spec =
     (tie.spec
     Inv
     μ
-    (λ c. (omega arith, refl, refl))
-    (λ c. omega arith)
-    (λ c. omega arith)
-    (λ c. omega arith)
-    (λ c. omega arith)
-    loop-again
-    (λ c. omega arith)
-    returns)
+    (λ c. search (needs, put-none))
+    (λ c. search (needs, put-same))
+    (λ c. search (needs, put-full))
+    (λ c. search needs)
+    (λ c. search needs)
+    (λ c. search (needs, put-on))
+    (λ c. search needs)
+    (λ c. search needs)
+    (λ c. search (needs, put-more))
+    (λ c. search (needs, put-same))
+    (λ c. search (needs, put-over)))
