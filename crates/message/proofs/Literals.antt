@@ -16,7 +16,7 @@ use Rattle.text.specs.Field.{digit, plain, letter, valueFrom}
 use Rattle.text.proofs.Fields.{digit-range}
 use Rattle.rules.specs.Text.{digits}
 use Rattle.rules.specs.Declared.{noUnderscores, parse, parseU128, zeroDigit}
-use Rattle.message.specs.Literal.{counting, AddsLiteral}
+use Rattle.message.specs.Literal.{counting, shown, AddsLiteral}
 use Rattle.message.specs.Writing.{Adds}
 use Rattle.message.proofs.Adding.{both, adds-none}
 use Rattle.message.proofs.Decimals.{digits-last, digits-more, digits-enough}
@@ -229,16 +229,19 @@ literal-said t c cs n e p q =
 -- k is the start of the digits that count
 module _ (t B : List ℕ) (a : ℕ) (U : List ℕ) (b k : ℕ) (e : drop k t ≡ counting t) where
   pub literal-zero : length t ≤ k → Adds (48 ∷ []) B a U b → AddsLiteral t B a U b
-  unfolding parseU128 noUnderscores valueFrom digits
-  literal-zero h x = record {
-    number = λ n p q.
-        let c : counting t ≡ [] = sym e ∙ drop-of-length-le t h in
-        let f : n ≡ 0 = parsed _ (noUnderscores t) n q .0 ∙ counts t .value ∙ rw c refl in
-        rw f x;
-  }
+  unfolding parseU128 noUnderscores valueFrom digits shown
+  literal-zero h x =
+      let c : counting t ≡ [] = sym e ∙ drop-of-length-le t h in
+      record {
+        always = rw c x;
+        number = λ n p q. let f : n ≡ 0 = parsed _ (noUnderscores t) n q .0 ∙ counts t .value ∙ rw c refl in rw f x;
+      }
 
   pub literal-digits : k < length t → Adds (noUnderscores (take (length t - k) (drop k t))) B a U b → AddsLiteral t B a U b
+  unfolding shown
   literal-digits h x =
       let d = drop-cons t k 0 h in
+      let c : counting t ≡ getD t k 0 ∷ drop (suc k) t = sym e ∙ d in
       let w = take-all (length t - k) (drop k t) (omega (arith, length-drop k t)) ∙ d in
-      record { number = λ n p q. rw (literal-said t (getD t k 0) (drop (suc k) t) n (sym e ∙ d) p q) (subst (λ y. Adds (noUnderscores y) B a U b) w x) }
+      let y : Adds (noUnderscores (getD t k 0 ∷ drop (suc k) t)) B a U b = subst (λ y. Adds (noUnderscores y) B a U b) w x in
+      record { always = rw c y; number = λ n p q. rw (literal-said t (getD t k 0) (drop (suc k) t) n c p q) y }
