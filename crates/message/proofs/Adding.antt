@@ -1,15 +1,14 @@
 -- Pieces written one behind another. Assumes nothing.
 use mathlib.Core.Path.{_≡_, refl, sym, ap, _∙_}
-use mathlib.Core.List.{List, [], _∷_, _++_}
+use mathlib.Core.List.{List, [], _∷_, _++_, append-nil}
 use mathlib.Core.Bool.{Bool, true, false, cond}
 use Prim.Native.Nat.{ℕ, zero, suc, _+_, _-_, _*_, _^_, _≤_, _<_}
 use native.Mathlib.Numerals.{add-one}
 use native.Mathlib.Omega.{arith}
-use mir.Syntax.{w64}
-use mir.Val.{Fits}
 use lib.Dec.{leb}
-use lib.ListN.{length, getD, set, take, drop, length-append, take-append-drop}
+use lib.ListN.{length, getD, set, take, drop, length-append, length-drop, drop-of-length-le, take-append-drop}
 use lib.Seq.{take-suc, length-take-le, take-all}
+use borrow.Rule.Slice.PartMut.{putMid, midOf}
 use borrow.Author.Tests.{le-leb, leb-true, leb-false}
 use Rattle.message.specs.Writing.{MOST, toldAs, overlay, Adds}
 
@@ -63,6 +62,13 @@ overlay-beyond [] a t h = refl
 overlay-beyond (b ∷ B) zero t h = absurd (omega arith)
 overlay-beyond (b ∷ B) (suc a) t h = ap (λ U. b ∷ U) (overlay-beyond B a t (omega arith))
 
+overlay-rest : (B : List ℕ) (a : ℕ) (t : List ℕ) → a ≤ length B → take a B ++ overlay (drop a B) 0 t ≡ overlay B a t
+unfolding overlay
+overlay-rest [] zero t h = refl
+overlay-rest [] (suc a) t h = absurd (omega arith)
+overlay-rest (b ∷ B) zero t h = refl
+overlay-rest (b ∷ B) (suc a) t h = ap (λ U. b ∷ U) (overlay-rest B a t (omega arith))
+
 overlay-both : (B : List ℕ) (a : ℕ) (t u : List ℕ) → overlay (overlay B a t) (a + length t) u ≡ overlay B a (t ++ u)
 unfolding overlay
 overlay-both [] a t u = refl
@@ -110,36 +116,38 @@ both t u B a U b W c l x y =
 
 -- ------------------------------------------------------------ a piece
 
--- What holds at a turn of `put`: U is the buffer so far, B as it was, and i and j are the places of the turn in the piece and the buffer.
-pub record Putting (B : List ℕ) (a : ℕ) (p U : List ℕ) (j i : ℕ) : Type 0 where
-  pub so-far : U ≡ overlay B a (take i p)
-  pub place : j ≡ a + i
+pub put-none : (B p : List ℕ) → B ≡ overlay B 0 (take 0 p)
+put-none B p = sym (overlay-none B 0)
 
-pub put-none : (B : List ℕ) (a : ℕ) (p : List ℕ) → Putting B a p B a 0
-put-none B a p = record { so-far = sym (overlay-none B a); place = omega arith }
-
-module _ (B : List ℕ) (a : ℕ) (p U : List ℕ) (j i : ℕ) (x : Putting B a p U j i) where
-  put-next : (t : List ℕ) → i ≤ length p → overlay U j t ≡ overlay B a (take i p ++ t)
+-- A turn of `put`: U is the rest so far, B as it was, and i the place of the turn.
+module _ (B p U : List ℕ) (i : ℕ) (e : U ≡ overlay B 0 (take i p)) where
+  put-next : (t : List ℕ) → i ≤ length p → overlay U i t ≡ overlay B 0 (take i p ++ t)
   put-next t h =
-      rw (x .so-far, let q : j ≡ a + length (take i p) = omega (arith, x .place, length-take-le i p h) in q) (overlay-both B a (take i p) t)
+      let q : i ≡ 0 + length (take i p) = omega (arith, length-take-le i p h) in
+      ap (λ k. overlay U k t) q ∙ ap (λ x. overlay x (0 + length (take i p)) t) e ∙ overlay-both B 0 (take i p) t
 
-  pub put-more : i < length p → Putting B a p (set U j (getD p i 0)) (j + 1) (i + 1)
-  put-more h = record {
-    so-far = sym (overlay-one U j (getD p i 0)) ∙ put-next (getD p i 0 ∷ []) (omega arith) ∙ rw (add-one i, take-suc p i 0 h) refl;
-    place = omega (arith, x .place);
-  }
+  pub put-more : i < length p → set U i (getD p i 0) ≡ overlay B 0 (take (i + 1) p)
+  put-more h = sym (overlay-one U i (getD p i 0)) ∙ put-next (getD p i 0 ∷ []) (omega arith) ∙ rw (add-one i, take-suc p i 0 h) refl
 
-  pub put-full : i < length p → length U ≤ j → U ≡ overlay B a p
-  put-full h k = sym (overlay-beyond U j (drop i p) k) ∙ put-next (drop i p) (omega arith) ∙ ap (overlay B a) (take-append-drop i p)
+  pub put-full : i < length p → length U ≤ i → U ≡ overlay B 0 p
+  put-full h k = sym (overlay-beyond U i (drop i p) k) ∙ put-next (drop i p) (omega arith) ∙ ap (overlay B 0) (take-append-drop i p)
 
-  pub put-over : length p ≤ i → U ≡ overlay B a p
-  put-over h = x .so-far ∙ ap (overlay B a) (take-all i p h)
+  pub put-over : length p ≤ i → U ≡ overlay B 0 p
+  put-over h = e ∙ ap (overlay B 0) (take-all i p h)
 
   pub put-same : length U ≡ length B
-  put-same = ap length (x .so-far) ∙ overlay-length B a (take i p)
+  put-same = ap length e ∙ overlay-length B 0 (take i p)
 
-  pub put-on : j < length U → length B < 18446744073709551616 → Fits w64 (j + 1)
-  put-on h l = record { fits = omega (arith, put-same) }
+-- What `write` meets: the place is beyond the buffer's end, or y is what `put` left of the rest.
+module _ (B : List ℕ) (a : ℕ) (p : List ℕ) where
+  pub write-beyond : length B < a → B ≡ overlay B a p
+  write-beyond h = sym (overlay-beyond B a p (omega arith))
+
+  pub write-rest : (y : List ℕ) → a ≤ length B → y ≡ overlay (midOf a (length B - a) B) 0 p → putMid a (length B - a) B y ≡ overlay B a p
+  write-rest y h e =
+      let whole : take (length B - a) (drop a B) ≡ drop a B = take-all (length B - a) (drop a B) (omega (arith, length-drop a B)) in
+      let over : drop (length B - a) (drop a B) ≡ [] = drop-of-length-le (drop a B) {i = length B - a} (omega (arith, length-drop a B)) in
+      rw (over, append-nil y, e, whole) (overlay-rest B a p h)
 
 -- What `add` meets: the length can be told or not.
 module _ (p B : List ℕ) (a : ℕ) (U : List ℕ) (e : U ≡ overlay B a p) where

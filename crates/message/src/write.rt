@@ -5,27 +5,35 @@ ghost use Rattle.message.specs.Writing.{Adds, overlay};
 // The length that is told of a longer message.
 const MOST: usize = 18446744073709551615;
 
-// Writes the piece from `at` on, up to the buffer's end.
-fn put(buffer: &mut [u8], at: usize, piece: &[u8])
-    ensures { λ _. ⌜ now (buffer .exit) ≡ overlay (now (buffer .entry)) at (now (piece .entry)) ⌝ }
+// Writes the piece over the start of the rest, up to its end.
+fn put(rest: &mut [u8], piece: &[u8])
+    ensures { λ _. ⌜ now (rest .exit) ≡ overlay (now (rest .entry)) 0 (now (piece .entry)) ⌝ }
 {
-    let mut to = at;
     let mut i = 0;
     while i < piece.len() {
-        if buffer.len() <= to {
+        if rest.len() <= i {
             return;
         }
-        buffer[to] = piece[i];
-        to += 1;
+        rest[i] = piece[i];
         i += 1;
     }
+}
+
+// Writes the piece into the rest of the buffer from `at` on.
+fn write(buffer: &mut [u8], at: usize, piece: &[u8])
+    ensures { λ _. ⌜ now (buffer .exit) ≡ overlay (now (buffer .entry)) at (now (piece .entry)) ⌝ }
+{
+    if buffer.len() < at {
+        return;
+    }
+    put(&mut buffer[at..], piece);
 }
 
 // Adds a piece to a message of `at` bytes, and answers how many there are then.
 pub fn add(buffer: &mut [u8], at: usize, piece: &[u8]) -> usize
     ensures { λ r. ⌜ Adds (now (piece .entry)) (now (buffer .entry)) at (now (buffer .exit)) r ⌝ }
 {
-    put(buffer, at, piece);
+    write(buffer, at, piece);
     if MOST - at < piece.len() {
         return MOST;
     }

@@ -1,16 +1,18 @@
 -- `message::write::put` meets its contract. Assumes nothing.
+use mathlib.Core.Path.{_≡_}
 use Prim.Native.Nat.{_-_}
 use borrow.Author.Needs.{needs}
-use lib.ListN.{length}
-use Rattle.message.proofs.Adding.{Putting, put-none, put-more, put-full, put-over, put-same, put-on}
+use lib.ListN.{length, take}
+use Rattle.message.specs.Writing.{overlay}
+use Rattle.message.proofs.Adding.{put-none, put-more, put-full, put-over, put-same}
 use Rattle.message.proofs.write.put.Statement.{statement}
 use Rattle.message.proofs.write.put.Tie as tie
 
 abbrev Inv : tie.InvT-loop
-Inv buffer₀ at piece to₀ i₀ buffer to i = Putting buffer₀ at piece buffer to i
+Inv rest₀ piece i₀ rest i = rest ≡ overlay rest₀ 0 (take i piece)
 
 abbrev μ : tie.MeasureT-loop
-μ buffer₀ at piece to₀ i₀ buffer to i = length piece - i
+μ rest₀ piece i₀ rest i = length piece - i
 
 pub put-spec : {M : Type 1} → statement M
 put-spec =
@@ -23,7 +25,6 @@ put-spec =
     (λ c. search (needs, put-full))
     (λ c. search needs)
     (λ c. search needs)
-    (λ c. search (needs, put-on))
     (λ c. search needs)
     (λ c. search needs)
     (λ c. search (needs, put-more))
