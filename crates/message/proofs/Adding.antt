@@ -114,6 +114,13 @@ both t u B a U b W c l x y =
           ∙ overlay-both B a t u;
     }
 
+-- three, as `say` adds them
+pub says : (t u v B : List ℕ) (a : ℕ) (U : List ℕ) (b : ℕ) (X : List ℕ) (c : ℕ) (W : List ℕ) (d : ℕ) → length B < 18446744073709551616 → Adds t B a U b → Adds u U b X c
+    → Adds v X c W d
+    → Adds (t ++ (u ++ v)) B a W d
+says t u v B a U b X c W d l x y z =
+    both t (u ++ v) B a U b W d l x (both u v U b X c W d (omega (arith, adds-same t B a U b x)) y z)
+
 -- ------------------------------------------------------------ a piece
 
 pub put-none : (B p : List ℕ) → B ≡ overlay B 0 (take 0 p)

@@ -8,3 +8,4 @@ pub use literal::add_literal;
 pub use number::add_decimal;
 pub use types::add_type;
 pub use write::add;
+pub use write::say;

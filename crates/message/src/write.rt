@@ -1,4 +1,5 @@
 // A message is told twice by one code: into an empty buffer, which tells its length, and into the lent one, if it fits.
+ghost use mathlib.Core.List.{_++_};
 ghost use mathlib.Core.Path.{_≡_};
 ghost use Rattle.message.specs.Writing.{Adds, overlay};
 
@@ -38,4 +39,13 @@ pub fn add(buffer: &mut [u8], at: usize, piece: &[u8]) -> usize
         return MOST;
     }
     at + piece.len()
+}
+
+// Adds a name between two texts.
+pub fn say(buffer: &mut [u8], at: usize, before: &[u8], name: &[u8], after: &[u8]) -> usize
+    ensures { λ r. ⌜ Adds (now (before .entry) ++ (now (name .entry) ++ now (after .entry))) (now (buffer .entry)) at (now (buffer .exit)) r ⌝ }
+{
+    let named = add(buffer, at, before);
+    let told = add(buffer, named, name);
+    add(buffer, told, after)
 }
