@@ -9,8 +9,8 @@ use lib.ListN.{length, getD, take, drop, set}
 use lib.Seq.{length-take-le, take-all, take-suc-set}
 use borrow.Author.Tests.{ltb-false}
 use Rattle.sheet.specs.Grammar.{Sort}
-use Rattle.sheet.specs.Line.{Line}
-use Rattle.sheet.specs.Load.{Loaded, lines, refused, linesOf, times, scan, unended, firstTrue, tests, early, loadFrom, load}
+use Rattle.sheet.specs.Line.{Line, Read as ReadLine, good, bad}
+use Rattle.sheet.specs.Load.{Loaded, lines, refused, linesOf, after, times, judged, scan, unended, firstTrue, tests, early, loadFrom, load}
 use Rattle.sheet.specs.Scratch.{closed}
 use Rattle.sheet.specs.Scan.{Whole, Scans, scanAll, scanned}
 use Rattle.sheet.specs.Promise.{answer, laid, scratchFrom, scratchAfter}
@@ -83,6 +83,9 @@ module _ (s : List ℕ) (types : ℕ) (S : List ℕ) (k m : ℕ) (e : k ≡ earl
   pub room : 8 * m ≤ length S
   room = rw l (ltb-false _ _ (untrue 4))
 
+  pub types-room : m ≤ types
+  types-room = rw l (ltb-false _ _ (untrue 3))
+
   pub passed : Whole s (take (8 * m) S)
   passed =
       record {
@@ -112,3 +115,32 @@ loaded-whole s types scratch ls = go (early s types scratch)
     go : (k : ℕ) → loadFrom k s ≡ lines ls → (k ≡ 0) × (scanAll s ≡ lines ls)
     go zero e = (refl, e)
     go (suc k) e = absurd (let z : _≡_ {A = ℕ} 0 1 = cc in omega arith)
+
+-- ------------------------------------------------------------ the place of a refusal
+
+judged-place : (i : ℕ) (deep : Bool) (r : ReadLine) (f : Line → Loaded) (n j k : ℕ) → i ≤ k → ((x : Line) → f x ≡ refused n j → j ≤ k) → judged i deep r f ≡ refused n j → j ≤ k
+unfolding judged
+judged-place i true r f n j k h g e = let q : i ≡ j = cc in omega (arith, h, q)
+judged-place i false (bad m) f n j k h g e = let q : i ≡ j = cc in omega (arith, h, q)
+judged-place i false (good x) f n j k h g e = go (f x) refl e
+  where
+    go : (o : Loaded) → f x ≡ o → after x o ≡ refused n j → j ≤ k
+    go (lines ls) q a = absurd (let z : _≡_ {A = ℕ} 0 1 = cc in omega arith)
+    go (refused n' j') q a = g x (q ∙ a)
+
+scan-place : (ls : List (List ℕ)) (i at : ℕ) (ds : List (ℕ × Sort)) (n j : ℕ) → scan i at ds ls ≡ refused n j → j ≤ i + length ls
+unfolding scan
+scan-place [] i at [] n j e = absurd (let z : _≡_ {A = ℕ} 0 1 = cc in omega arith)
+scan-place [] i at (d ∷ ds) n j e = let q : i ≡ j = cc in omega arith
+scan-place (l ∷ ls) i at [] n j e = let q : i ≡ j = cc in omega arith
+scan-place (l ∷ ls) i at (d ∷ ds) n j e =
+    judged-place i _ _ _ n j (i + suc (length ls)) (omega arith) (λ x g. let h = scan-place ls (suc i) _ _ n j g in omega arith) e
+
+-- a refused sheet's place is at most that behind the last line
+pub load-place : (s : List ℕ) (types : ℕ) (S : List ℕ) (n j : ℕ) → load s types (length S) ≡ refused n j → j ≤ 1025
+unfolding load loadFrom
+load-place s types S n j = go (early s types (length S)) refl
+  where
+    go : (k : ℕ) → early s types (length S) ≡ k → loadFrom k s ≡ refused n j → j ≤ 1025
+    go zero z e = let h = passed s types S 0 _ (sym z) refl refl .few in let g = scan-place (linesOf s) 1 0 _ n j e in omega arith
+    go (suc k) z e = let q : 0 ≡ j = cc in omega arith
