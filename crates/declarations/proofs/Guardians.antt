@@ -47,7 +47,7 @@ module _ (s S : List ℕ) (i m : ℕ) (h : Typed s S i) (c : m ≡ entry S i 5) 
     first =
         args-here s S i m h c
         ∙ args-next (h .loaded) (m - 1) m (suc i) some-there here
-        ∙ rw (arg-told s S (suc i) k (h .loaded) here of-kind) refl
+        ∙ rw (arg-told s S (suc i) k (h .loaded) of-kind) refl
 
     pub other-members : k ≢ 9 → false ≡ sizeFits (membersOf (args (typeAt s i)))
     unfolding sizeFits membersOf

@@ -79,14 +79,14 @@ module _ (s S : List ℕ) (i j k : ℕ) (key : Bool) (h : Typed s S i) (a : Here
   pub arg-other : k ≢ 8 → Answers (storableArg (typeAt s i) key (argAt s j)) (doneOf s (Refused (OnlyTypes i)))
   unfolding storableArg doneOf refusalOf
   arg-other e =
-      rw (arg-told s S j k (h .loaded) a f)
+      rw (arg-told s S j k (h .loaded) f)
       (by-kind (λ k. k ≢ 8 → Answers (storableArg (typeAt s i) key (told s S j k)) (doneOf s (Refused (OnlyTypes i)))) k a f
       (λ e. absurd (e refl)) (λ e. misfits false 14 _ _ refl) (λ e. misfits false 14 _ _ refl) e)
 
   pub arg-judged : (b : Bool) (r : Done) → k ≡ 8 → b ≡ innerFits (typeName (typeAt s i)) key (typeAt s j) → r ≡ expected b (Inner i j key)
       → Answers (storableArg (typeAt s i) key (argAt s j)) (doneOf s r)
   unfolding storableArg refusalOf
-  arg-judged b r e q g = rw (arg-told s S j k (h .loaded) a f, e, ← q) (expects s b (Inner i j key) r g)
+  arg-judged b r e q g = rw (arg-told s S j k (h .loaded) f, e, ← q) (expects s b (Inner i j key) r g)
 
 -- ------------------------------------------------------------ all arguments
 

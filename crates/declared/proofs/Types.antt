@@ -12,7 +12,8 @@ use Rattle.text.specs.Text.{bytes, same, ended}
 use Rattle.text.specs.Word.{place, split}
 use Rattle.sheet.specs.Grammar as grammar
 use Rattle.sheet.specs.Load.{sorts}
-use Rattle.sheet.specs.Tree.{Nodes, nil, more, takeNodes}
+use Rattle.sheet.specs.Line.{Line}
+use Rattle.sheet.specs.Tree.{node, Nodes, nil, more, takeNodes}
 use Rattle.sheet.proofs.Due.{length-times}
 use Rattle.sheet.specs.Scratch.{nameAt, kindAt, endAt, entry, skip}
 use Rattle.rules.specs.Text.{Name, is}
@@ -21,7 +22,8 @@ use Rattle.rules.specs.Asking.{Ty, Int, Boolean, Address, Asset, Word64, TName,
 use Rattle.rules.specs.Declared.{isIntegerType, tyOfName, tyOfDecl, tyOfArg, declaredArg}
 use Rattle.rules.specs.Standing.{typeAt, argAt, nodesAt, Loaded, Here, Row}
 use Rattle.rules.proofs.Parts.{stop, _also_, pick, parts}
-use Rattle.rules.proofs.Standing.{stands, nodes-next, parts-behind, row-behind, row-nth, node-nth, nodes-length}
+use Rattle.rules.proofs.Places.{there-or-not, no-kind, named-at, type-name-at}
+use Rattle.rules.proofs.Standing.{stands, beyond as no-record, nodes-next, parts-behind, row-behind, row-nth, node-nth, nodes-length}
 use Rattle.declared.specs.Codes.{namedCodes}
 use Rattle.declared.specs.Lines.{Typed}
 use Rattle.declared.proofs.Tables.{wordsIn, valuesIn, place-most, pick-place, one-of}
@@ -62,8 +64,7 @@ unfolding code
 named x p r e f = f ∙ rw (name-place x, ← e) (sym (code-at (valuesIn table) p (omega (arith, name-most x p e))))
 
 pub type-name : (s S : List ℕ) (i : ℕ) → Typed s S i → nameAt s S i ≡ typeName (typeAt s i)
-unfolding typeAt typeOf typeName
-type-name s S i h = let t = stands (h .loaded) i (h .here .within) in rw (t .here) (t .spells .name)
+type-name s S i h = named-at (h .loaded) i ∙ sym (type-name-at s i)
 
 -- a test of a type's name
 pub named-word : (s S : List ℕ) (i : ℕ) (x : Name) (w : String) (r : Bool) → Typed s S i → x ≡ nameAt s S i → r ≡ same x (bytes w) → r ≡ is (typeName (typeAt s i)) w
@@ -114,15 +115,20 @@ by-kind P k a e x y z = pick {P = P} {i = 8} {n = 3} k (x also y also z also sto
 abbrev pub told : List ℕ → List ℕ → ℕ → ℕ → Arg
 told s S j k = getD (ofType (typeAt s j) ∷ ofInt (nameAt s S j) ∷ []) (k - 8) mOfN
 
-pub arg-told : (s S : List ℕ) (j k : ℕ) → Loaded s S → Here S grammar.Arg j → k ≡ kindAt S j → argAt s j ≡ told s S j k
-unfolding argAt argOf typeAt typeOf
-arg-told s S j k d a e =
-    let t = stands d j (a .within) in
-    by-kind (λ k. k ≡ kindAt S j → argAt s j ≡ told s S j k) k a e
-    (λ e. rw (t .here, sym (t .says .kind) ∙ sym e) refl)
-    (λ e. rw (t .here, sym (t .says .kind) ∙ sym e) (ap ofInt (sym (t .spells .name))))
-    (λ e. rw (t .here, sym (t .says .kind) ∙ sym e) refl)
-    e
+-- a record as an argument
+arg-of : (i : ℕ) (l : Line) (ps : Nodes) (m : ℕ) → l .kind - 8 ≡ m → argOf (node i l ps) ≡ getD (ofType (typeOf (node i l ps)) ∷ ofInt (l .name) ∷ []) m mOfN
+unfolding argOf typeOf
+arg-of i l ps zero e = rw e refl
+arg-of i l ps (suc zero) e = rw e refl
+arg-of i l ps (suc (suc zero)) e = rw e refl
+arg-of i l ps (suc (suc (suc m))) e = rw e refl
+
+pub arg-told : (s S : List ℕ) (j k : ℕ) → Loaded s S → k ≡ kindAt S j → argAt s j ≡ told s S j k
+unfolding argAt argOf argsOf typeAt typeOf
+arg-told s S j k d e =
+    there-or-not d j
+    (λ w. let t = stands d j w in rw (t .here, t .spells .name) (arg-of j (t .line) (t .parts) (k - 8) (ap (λ n. n - 8) (sym (e ∙ t .says .kind)))))
+    (λ w. rw (no-record d j w, e, no-kind S j w) refl)
 
 pub arg-type : (s S : List ℕ) (i j k : ℕ) → Typed s S i → Here S grammar.Arg j → k ≡ kindAt S j → k ≡ 8 → Typed s S j
 arg-type s S i j k h a f e =
@@ -173,7 +179,7 @@ module _ (s S : List ℕ) (i k m : ℕ) (h : Typed s S i) (c : m ≡ entry S i 5
     unfolding argAt argsAt
     nth-there =
         let q = nth-map argOf (nodesAt s m (suc i)) k _ (node-nth k (h .loaded) e (args-row s S i m h c)) in
-        rw (args-here s S i m h c, q, ← f) (ap some (arg-told s S j n (h .loaded) there g))
+        rw (args-here s S i m h c, q, ← f) (ap some (arg-told s S j n (h .loaded) g))
 
     arg-there : declaredArg (typeAt s i) k ≡ tyOfArg (told s S j n)
     unfolding declaredArg

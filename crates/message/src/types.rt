@@ -1,17 +1,16 @@
 // The text of a declared type. Of the functions that call each other the lines left and a phase fall.
 use crate::write::add;
 use sheet::end;
-use sheet::first;
 use sheet::kind;
 use sheet::name;
-ghost use Rattle.sheet.specs.Grammar.{Arg};
+ghost use mathlib.Core.Path.{_≡_};
 ghost use Rattle.text.specs.Text.{bytes};
 ghost use Rattle.rules.specs.Text.{render};
+ghost use Rattle.rules.specs.Ast.{typeName};
 ghost use Rattle.rules.specs.Declarations.{argText, argsText, typeText};
-ghost use Rattle.rules.specs.Standing.{argAt, typeAt};
-ghost use Rattle.declared.specs.Lines.{RecordAt, RecordsAt, Typed};
+ghost use Rattle.rules.specs.Standing.{argAt, fieldAt, Loaded, typeAt};
 ghost use Rattle.message.specs.Writing.{Adds};
-ghost use Rattle.message.specs.Types.{argsAt, before, closing};
+ghost use Rattle.message.specs.Types.{argsUpto, before, closing, LinesUpto, typeLine};
 
 // Adds what stands before an argument, the first or another.
 fn add_before(buffer: &mut [u8], at: usize, first: bool) -> usize
@@ -33,22 +32,25 @@ fn add_closing(buffer: &mut [u8], at: usize, first: bool) -> usize
     add(buffer, at, b">")
 }
 
-// Adds the text of the `type` record at line i.
+// Adds the text of the record at line i as a type, whose arguments are its parts.
 pub fn add_type(sheet: &[u8], lines: &[u16], buffer: &mut [u8], at: usize, i: usize) -> usize
-    requires { ⌜ Typed (now sheet) (now lines) i ⌝ }
+    requires { ⌜ Loaded (now sheet) (now lines) ⌝ }
     ensures { λ r. ⌜ Adds (render (typeText (typeAt (now (sheet .entry)) i))) (now (buffer .entry)) at (now (buffer .exit)) r ⌝ }
 {
+    if lines.len() / 8 <= i {
+        return at;
+    }
     let named = add(buffer, at, name(sheet, lines, i));
-    add_args(sheet, lines, buffer, named, i + 1, first(lines, i), true)
+    add_args(sheet, lines, buffer, named, i + 1, end(lines, i), true)
 }
 
-// Adds an argument.
+// Adds the text of the record at line i as an argument: each kind up to that of a type is a type.
 fn add_arg(sheet: &[u8], lines: &[u16], buffer: &mut [u8], at: usize, i: usize) -> usize
-    requires { ⌜ RecordAt Arg (now sheet) (now lines) i ⌝ }
+    requires { ⌜ Loaded (now sheet) (now lines) ⌝ }
     ensures { λ r. ⌜ Adds (render (argText (argAt (now (sheet .entry)) i))) (now (buffer .entry)) at (now (buffer .exit)) r ⌝ }
 {
     let k = kind(lines, i);
-    if k == 8 {
+    if k <= 8 {
         return add_type(sheet, lines, buffer, at, i);
     }
     if k == 9 {
@@ -57,23 +59,52 @@ fn add_arg(sheet: &[u8], lines: &[u16], buffer: &mut [u8], at: usize, i: usize) 
     add(buffer, at, b"_")
 }
 
-// Adds the arguments that are left, the next of which is the one at line i, and what ends them.
+// Adds the arguments from line i on, up to line stop, and what ends them.
 fn add_args(
     sheet: &[u8],
     lines: &[u16],
     buffer: &mut [u8],
     at: usize,
     i: usize,
-    left: usize,
+    stop: usize,
     first: bool,
 ) -> usize
-    requires { ⌜ RecordsAt Arg (now sheet) (now lines) left i ⌝ }
-    ensures { λ r. ⌜ Adds (render (argsText (before first) (argsAt (now (sheet .entry)) left i))) (now (buffer .entry)) at (now (buffer .exit)) r ⌝ }
+    requires { ⌜ LinesUpto (now sheet) (now lines) stop ⌝ }
+    ensures { λ r. ⌜ Adds (render (argsText (before first) (argsUpto (now (sheet .entry)) i stop))) (now (buffer .entry)) at (now (buffer .exit)) r ⌝ }
 {
-    if left == 0 {
+    if stop <= i {
         return add_closing(buffer, at, first);
     }
     let parted = add_before(buffer, at, first);
     let told = add_arg(sheet, lines, buffer, parted, i);
-    add_args(sheet, lines, buffer, told, end(lines, i), left - 1, false)
+    add_args(sheet, lines, buffer, told, end(lines, i), stop, false)
+}
+
+// The line of the type that the field or parameter at line i declares; one that isn't there where it declares none.
+fn type_line(lines: &[u16], i: usize) -> usize
+    ensures { λ r. ⌜ r ≡ typeLine (now (lines .entry)) i ⌝ }
+{
+    if lines.len() / 8 <= i {
+        return lines.len();
+    }
+    if i + 1 < end(lines, i) {
+        return i + 1;
+    }
+    lines.len()
+}
+
+// Adds the text of the type that the field or parameter at line i declares.
+pub fn add_type_of(sheet: &[u8], lines: &[u16], buffer: &mut [u8], at: usize, i: usize) -> usize
+    requires { ⌜ Loaded (now sheet) (now lines) ⌝ }
+    ensures { λ r. ⌜ Adds (render (typeText (fieldAt (now (sheet .entry)) i .ty))) (now (buffer .entry)) at (now (buffer .exit)) r ⌝ }
+{
+    add_type(sheet, lines, buffer, at, type_line(lines, i))
+}
+
+// The name of that type, as the part of the sheet that holds it; an empty part where there is none.
+pub fn type_name_of<'a>(sheet: &'a [u8], lines: &[u16], i: usize) -> &'a [u8]
+    requires { ⌜ Loaded (now sheet) (now lines) ⌝ }
+    ensures { λ r. ⌜ now r ≡ typeName (fieldAt (now (sheet .entry)) i .ty) ⌝ }
+{
+    name(sheet, lines, type_line(lines, i))
 }

@@ -1,5 +1,5 @@
--- The place of the record at a line, whatever the line's number. Assumes nothing.
-use mathlib.Core.Path.{_≡_, refl, _∙_}
+-- The place and the name of the record at a line, whatever the line's number. Assumes nothing.
+use mathlib.Core.Path.{_≡_, refl, sym, _∙_}
 use mathlib.Core.Logic.{_≢_}
 use mathlib.Core.List.{List}
 use mathlib.Core.Bool.{Bool, true, false}
@@ -16,12 +16,13 @@ use Rattle.sheet.specs.Scratch.{entry, kindAt, nameAt}
 use Rattle.sheet.specs.Say.{nspanAt}
 use Rattle.sheet.specs.Tree.{Node, node, Nodes}
 use Rattle.sheet.proofs.Holds.{all-le}
-use Rattle.rules.specs.Ast.{span, typeSpan, spanOf, exprOf, typeOf}
-use Rattle.rules.specs.Standing.{nodeSpan, nodeAt, exprAt, typeAt, placeAt, Loaded, Here}
+use Rattle.rules.specs.Ast.{span, typeName, typeSpan, spanOf, exprOf, typeOf}
+use Rattle.rules.specs.Standing.{nodeName, nodeSpan, nodeAt, exprAt, typeAt, namedAt, placeAt, Loaded, Here}
 use Rattle.rules.specs.Typing.{dotOf}
 use Rattle.rules.proofs.Parts.{Each, stop, _also_, pick}
 use Rattle.rules.proofs.Standing.{stands, beyond}
 use Rattle.rules.proofs.Exprs.{dot-at}
+use Rattle.rules.proofs.Records.{named}
 
 -- ------------------------------------------------------------ every record as an expression or a type
 
@@ -63,6 +64,10 @@ span-of : (n : Node) → span (exprOf n) ≡ nodeSpan n
 unfolding nodeSpan
 span-of (node i l ps) = as-expr i l ps .0
 
+type-name-of : (n : Node) → typeName (typeOf n) ≡ nodeName n
+unfolding typeName typeOf nodeName
+type-name-of (node i l ps) = refl
+
 type-span-of : (n : Node) → typeSpan (typeOf n) ≡ nodeSpan n
 unfolding typeSpan typeOf nodeSpan
 type-span-of (node i l ps) = refl
@@ -75,15 +80,23 @@ pub type-span-at : (s : List ℕ) (i : ℕ) → typeSpan (typeAt s i) ≡ placeA
 unfolding typeAt placeAt
 type-span-at s i = type-span-of (nodeAt s i)
 
+pub type-name-at : (s : List ℕ) (i : ℕ) → typeName (typeAt s i) ≡ namedAt s i
+unfolding typeAt namedAt
+type-name-at s i = type-name-of (nodeAt s i)
+
 -- ------------------------------------------------------------ lines that are there, and others
 
-no-entry : (S : List ℕ) (i : ℕ) → length S / 8 ≤ i → kindAt S i ≡ 0
-unfolding kindAt entry
-no-entry S i h = rw (le-ltb i (length S / 8) h) refl
+pub no-entry : (S : List ℕ) (i k : ℕ) → length S / 8 ≤ i → entry S i k ≡ 0
+unfolding entry
+no-entry S i k h = rw (le-ltb i (length S / 8) h) refl
+
+pub no-kind : (S : List ℕ) (i : ℕ) → length S / 8 ≤ i → kindAt S i ≡ 0
+unfolding kindAt
+no-kind S i h = rw (no-entry S i 0 h) refl
 
 module _ {s S : List ℕ} (d : Loaded s S) (i : ℕ) where
   -- what holds of a line that is there, and of one that isn't, holds of every line
-  there-or-not : {P : Type 0} → (i < length S / 8 → P) → (length S / 8 ≤ i → P) → P
+  pub there-or-not : {P : Type 0} → (i < length S / 8 → P) → (length S / 8 ≤ i → P) → P
   there-or-not {P} f g = go (ltb i (length S / 8)) refl
     where
       go : (t : Bool) → ltb i (length S / 8) ≡ t → P
@@ -92,7 +105,11 @@ module _ {s S : List ℕ} (d : Loaded s S) (i : ℕ) where
 
   -- a line of a kind that is not the first is there
   pub is-there : kindAt S i ≢ 0 → i < length S / 8
-  is-there h = there-or-not (λ w. w) (λ w. absurd (h (no-entry S i w)))
+  is-there h = there-or-not (λ w. w) (λ w. absurd (h (no-kind S i w)))
+
+  pub named-at : nameAt s S i ≡ namedAt s i
+  unfolding nameAt namedAt nodeName
+  named-at = there-or-not (λ w. sym (named d w)) (λ w. rw (no-entry S i 4 w, beyond d i w) refl)
 
   pub no-place : length S / 8 ≤ i → placeAt s i ≡ 0
   unfolding placeAt nodeSpan

@@ -108,6 +108,7 @@ pub record Stands (s S : List ℕ) (i : ℕ) : Type 0 where
   pub held : HeldAll S (length S / 8) (suc i) (endAt S i) parts
   pub behind : treesFrom s (suc i) ≡ before parts (treesFrom s (endAt S i))
   pub next : treesFrom s i ≡ more (nodeAt s i) (treesFrom s (endAt S i))
+  pub ends : endAt S i ≤ length S / 8
 
 module _ {s S : List ℕ} (d : Loaded s S) where
   abbrev n : ℕ
@@ -149,17 +150,21 @@ module _ {s S : List ℕ} (d : Loaded s S) where
         held = r;
         behind = rw end behind;
         next = rw (q, end) refl;
+        ends = all-le rs;
       }
 
   pub stands : (i : ℕ) → i < n → Stands s S i
   stands i h = let t = from-line i (omega arith) in first-of i (treesFrom s i) refl h (t .formed) (t .held) (t .spells)
 
   -- behind the last line stands nothing
+  pub none-beyond : (i : ℕ) → n ≤ i → treesFrom s i ≡ nil
+  none-beyond i h =
+      let none : treesFrom s n ≡ nil = no-trees (omega arith) (from-line n (omega arith) .held) in
+      rw (taken n i h, none) (without-none (i - n))
+
   pub beyond : (i : ℕ) → n ≤ i → nodeAt s i ≡ blankNode
   unfolding nodeAt
-  beyond i h =
-      let none : treesFrom s n ≡ nil = no-trees (omega arith) (from-line n (omega arith) .held) in
-      rw (taken n i h, none, without-none (i - n)) refl
+  beyond i h = rw (none-beyond i h) refl
 
   -- one record, and those behind it
   pub nodes-next : (k i : ℕ) → i < n → nodesAt s (suc k) i ≡ nodeAt s i ∷ nodesAt s k (endAt S i)

@@ -6,10 +6,9 @@ use borrow.Author.Needs.{needs}
 use borrow.Fn.Kinds.{In}
 use borrow.Fn.PlainCycle.{Measures, is, falls, and}
 use Rattle.sheet.proofs.end.Reads as end-reads
-use Rattle.sheet.proofs.first.Reads as first-reads
 use Rattle.sheet.proofs.kind.Reads as kind-reads
 use Rattle.sheet.proofs.name.Reads as name-reads
-use Rattle.message.proofs.Arguments.{rank, type-next, type-falls, type-args, type-all, arg-falls, arg-typed, arg-type, arg-num, arg-mofn, args-none, args-arg, args-arg-falls, args-rest, args-falls, args-all}
+use Rattle.message.proofs.Arguments.{rank, type-none, type-next, type-falls, type-args, type-all, arg-falls, arg-type, arg-num, arg-mofn, args-none, args-arg-falls, args-falls, args-all}
 use Rattle.message.proofs.write.add.Reads as add-reads
 use Rattle.message.proofs.types.add_before.Reads as add-before-reads
 use Rattle.message.proofs.types.add_closing.Reads as add-closing-reads
@@ -63,7 +62,7 @@ add-arg-met : {M : Type 1} (t : ℕ) → add-arg-lts.Closed (add-arg-claims t) (
 add-arg-met t =
     add-arg-lts.spec (add-arg-claims t) (add-arg-at t) add-arg.Post
     (λ c κs. search needs)  -- kind-requires
-    (λ c κs. search (needs, arg-falls, arg-typed))  -- add-type-requires
+    (λ c κs. search (needs, arg-falls))  -- add-type-requires
     (λ c. search needs)  -- same-length
     (λ c. search (needs, arg-type))  -- returns
     (λ c κs. search needs)  -- name-requires
@@ -85,26 +84,26 @@ add-args-met t =
     (λ c. search needs)  -- same-length
     (λ c. search (needs, args-none))  -- returns
     (λ c κs. search needs)  -- add-before-requires
-    (λ c κs. search (needs, args-arg-falls, args-arg))  -- add-arg-requires
+    (λ c κs. search (needs, args-arg-falls))  -- add-arg-requires
     (λ c κs. search needs)  -- end-requires
-    (λ c. search needs)  -- sub-add-args
-    (λ c κs. search (needs, args-falls, args-rest))  -- add-args-requires
+    (λ c κs. search (needs, args-falls))  -- add-args-requires
     (λ c. search needs)  -- same-length-2
     (λ c. search (needs, args-all))  -- returns-2
 
 abbrev add-type-claims : ℕ → add-type-lts.Claims
-add-type-claims t = (name-reads.Asked, name-reads.Learnt, add-reads.Asked, add-reads.Learnt, first-reads.Asked, first-reads.Learnt, add-args-below t, add-args.Post)
+add-type-claims t = (name-reads.Asked, name-reads.Learnt, add-reads.Asked, add-reads.Learnt, end-reads.Asked, end-reads.Learnt, add-args-below t, add-args.Post)
 
 add-type-met : {M : Type 1} (t : ℕ) → add-type-lts.Closed (add-type-claims t) (add-type-at t) add-type.Post M
 add-type-met t =
     add-type-lts.spec (add-type-claims t) (add-type-at t) add-type.Post
+    (λ c. search (needs, type-none))  -- returns
     (λ c κs. search needs)  -- name-requires
     (λ c κs. search needs)  -- add-requires
     (λ c. search (needs, type-next))  -- add-add-args
-    (λ c κs. search needs)  -- first-requires
+    (λ c κs. search needs)  -- end-requires
     (λ c κs. search (needs, type-falls, type-args))  -- add-args-requires
     (λ c. search needs)  -- same-length
-    (λ c. search (needs, type-all))  -- returns
+    (λ c. search (needs, type-all))  -- returns-2
 
 pub +add-arg+add-args+add-type-spec : {M : Type 1} → statement M
 +add-arg+add-args+add-type-spec = close μ-add-arg μ-add-args μ-add-type add-arg-met add-args-met add-type-met
