@@ -3,3 +3,4 @@ pub mod Arguments
 pub mod Decimals
 pub mod Literals
 pub mod Texts
+pub mod Lengths

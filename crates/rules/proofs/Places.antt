@@ -83,7 +83,7 @@ no-entry S i h = rw (le-ltb i (length S / 8) h) refl
 
 module _ {s S : List ℕ} (d : Loaded s S) (i : ℕ) where
   -- what holds of a line that is there, and of one that isn't, holds of every line
-  there-or-not : {P : Type 0} → (i < length S / 8 → P) → (length S / 8 ≤ i → P) → P
+  pub there-or-not : {P : Type 0} → (i < length S / 8 → P) → (length S / 8 ≤ i → P) → P
   there-or-not {P} f g = go (ltb i (length S / 8)) refl
     where
       go : (t : Bool) → ltb i (length S / 8) ≡ t → P
