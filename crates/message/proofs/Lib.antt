@@ -4,3 +4,4 @@ pub mod Decimals
 pub mod FieldTypes
 pub mod Literals
 pub mod Texts
+pub mod Lengths
