@@ -2,11 +2,11 @@
 #[derive(Clone, Copy, Debug, PartialEq, Eq, Hash)]
 #[repr(u8)]
 pub enum Type {
-    /// No type was asked for: the line is no expression, or the verdict came before.
+    /// No rule asked for its type before the verdict.
     NotReached = 0,
     /// A number.
     Int = 1,
-    /// A condition.
+    /// A boolean.
     Bool = 2,
     /// An address.
     Address = 3,
