@@ -51,7 +51,7 @@ pub fn event_field_type(sheet: &[u8], lines: &[u16], ty: usize) -> Done
 }
 
 // How many arguments a Map or Registry takes; 0 for any other name.
-fn arity_of(name: &[u8]) -> usize
+pub fn arity_of(name: &[u8]) -> usize
     ensures { λ r. ⌜ r ≡ arityIn (now (name .entry)) ⌝ }
 {
     if is_word(name, b"Map") {

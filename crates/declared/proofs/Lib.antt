@@ -6,6 +6,7 @@ pub mod Events
 pub mod Fields
 pub mod Finding
 pub mod Items
+pub mod Literals
 pub mod Rows
 pub mod Tables
 pub mod Types

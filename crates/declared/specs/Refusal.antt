@@ -1,12 +1,15 @@
 -- Document 01's number, place and text for each refusal of the code. Lines are those of the sheet s.
 use Prim.Native.Nat.{ℕ, suc}
 use mathlib.Core.List.{List, [], _∷_}
+use mathlib.Core.Bool.{Bool, cond}
 use mathlib.Core.Option.{none, some}
+use lib.Dec.{eqb}
+use Rattle.sheet.specs.Tree.{Node, node}
 use Rattle.rules.specs.Text.{Name, lit}
 use Rattle.rules.specs.Ast.{span, typeName, typeSpan}
 use Rattle.rules.specs.Asking.{Refusal as Ruled, Res, ok, refused}
 use Rattle.rules.specs.Declarations.{guardianText, innerText, onlyTypesText, arityText, arityOf, unknownText, noArgumentsText, nameText, digestText}
-use Rattle.rules.specs.Standing.{exprAt, typeAt, paramAt, fieldAt, namedAt, placeAt}
+use Rattle.rules.specs.Standing.{nodeAt, exprAt, typeAt, paramAt, fieldAt, namedAt, placeAt}
 use Rattle.rules.specs.Typing.{Dot, dotOf, straightText, byNameText, holdsText, amountText, keyedOpText, receiverText, notText, negText, logicalText, arithmeticText, orderingText, namesText, comparedText}
 use Rattle.rules.specs.Declared.{parseU128}
 use Rattle.rules.specs.Statements.{emitText, addressText, wrappingText, literalText, assetSlotText, slotText, predicateText, recipientText}
@@ -28,9 +31,17 @@ dotAt s i = elim (dotOf (exprAt s i)) [ some d ↦ d | none ↦ record { base = 
 unfoldable pub arity : Name → ℕ
 arity x = elim (arityOf x) [ some n ↦ n | none ↦ 0 ]
 
+-- the record is an `int`
+unfoldable pub isLiteral : Node → Bool
+isLiteral (node i l ps) = eqb (l .kind) 20
+
+-- the number of a literal's text
+unfoldable pub numberIn : Name → ℕ
+numberIn text = elim (parseU128 text) [ none ↦ 0 | some n ↦ n ]
+
 -- the number of the literal at a line
 unfoldable pub literalAt : List ℕ → ℕ → ℕ
-literalAt s i = elim (parseU128 (namedAt s i)) [ some n ↦ n | none ↦ 0 ]
+literalAt s i = cond (isLiteral (nodeAt s i)) (numberIn (namedAt s i)) 0
 
 unfoldable pub refusalOf : List ℕ → Refusal → Ruled
 refusalOf s (NameStored ty) = record { number = 12; place = typeSpan (typeAt s ty); text = nameText }

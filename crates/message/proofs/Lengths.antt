@@ -27,7 +27,7 @@ use Rattle.declared.specs.Refusal.{dotAt, refusalOf}
 use Rattle.declared.specs.Codes.{tyFrom}
 use Rattle.declared.specs.declared.refusal.Refusal.{Refusal}
 use Rattle.declared.specs.declared.refusal.Refusal.the-variants.{NameStored, Arity, OnlyTypes, Inner, UnknownType, NoArguments, Digest, Default, Guardian, Predicate, ReachesField, ReachesValues, ReachesEvent, Local, AssetSlot, NameIntoAddress, WrappingIntoNarrow, LiteralIntoNarrow, Slot, Recipient, Receiver, KeyedOp, Amount, Straight, ByName, Holds, Not, Neg, Logical, Arithmetic, Ordering, Names, Compared, EmitField, Dropped, Overflow, KeyKinds}
-use Rattle.message.proofs.Texts.{Named, blank-named, named-at}
+use Rattle.pieces.proofs.Texts.{Named, blank-named, named-at}
 
 -- ------------------------------------------------------------ pieces
 

@@ -1,7 +1,2 @@
-pub mod Adding
-pub mod Arguments
-pub mod Decimals
-pub mod FieldTypes
-pub mod Literals
-pub mod Texts
+pub mod Told
 pub mod Lengths

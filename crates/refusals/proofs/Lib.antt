@@ -1,3 +1,3 @@
-mod Tags
+pub mod Tags
 mod Spans
 mod Counting

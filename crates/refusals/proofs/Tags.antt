@@ -1,9 +1,9 @@
 -- The refusals by their place in the enum: their numbers, and the lines that they tell. Assumes nothing.
 use mathlib.Core.Path.{_≡_, refl, sym, ap, _∙_}
 use mathlib.Core.Logic.{inl, inr}
-use mathlib.Core.Bool.{Bool, true, not, _&&_, _||_, and-eq-true-iff}
+use mathlib.Core.Bool.{Bool, true, false, not, _&&_, _||_, and-eq-true-iff}
 use mathlib.Core.List.{List, [], _∷_}
-use Prim.Native.Nat.{ℕ, suc}
+use Prim.Native.Nat.{ℕ, zero, suc, _≤_}
 use native.Mathlib.Omega.{arith}
 use lib.Dec.{eqb, leb, ltb}
 use lib.ListN.{getD}
@@ -17,14 +17,14 @@ use Rattle.declared.specs.Refusal.{dotAt, refusalOf}
 use Rattle.declared.specs.declared.refusal.Refusal.{Refusal}
 use Rattle.declared.specs.declared.refusal.Refusal.the-variants.{NameStored, Arity, OnlyTypes, Inner, UnknownType, NoArguments, Digest, Default, Guardian, Predicate, ReachesField, ReachesValues, ReachesEvent, Local, AssetSlot, NameIntoAddress, WrappingIntoNarrow, LiteralIntoNarrow, Slot, Recipient, Receiver, KeyedOp, Amount, Straight, ByName, Holds, Not, Neg, Logical, Arithmetic, Ordering, Names, Compared, EmitField, Dropped, Overflow, KeyKinds}
 use Rattle.declared.proofs.refusal.Refusal.{the-type}
-use Rattle.refusals.specs.Numbers.{Numbers, From30}
+use Rattle.refusals.specs.Numbers.{Numbers, From}
 use Rattle.refusals.specs.Places.{lineOf}
 
 abbrev tag : Refusal → ℕ
 tag r = tagOf the-type r
 
 -- what passes of each key passes of the one that it is
-abbrev every : (ℕ → Bool) → List ℕ → Bool
+abbrev pub every : (ℕ → Bool) → List ℕ → Bool
 every t [] = true
 every t (k ∷ ks) = t k && every t ks
 
@@ -34,17 +34,15 @@ one-of t (k ∷ []) x a h = rw h (and-eq-true-iff (t k) true .0 a .0)
 one-of t (k ∷ l ∷ ks) x a (inl h) = rw h (and-eq-true-iff (t k) _ .0 a .0)
 one-of t (k ∷ l ∷ ks) x a (inr h) = one-of t (l ∷ ks) x (and-eq-true-iff (t k) _ .0 a .1) h
 
+-- n places in the enum, from i on
+abbrev pub places : ℕ → ℕ → List ℕ
+places i zero = []
+places i (suc n) = i ∷ places (suc i) n
+
 -- ------------------------------------------------------------ numbers
 
-abbrev numbers : List ℕ
+abbrev pub numbers : List ℕ
 numbers = 12 ∷ 13 ∷ 14 ∷ 15 ∷ 16 ∷ 17 ∷ 18 ∷ 19 ∷ 20 ∷ 21 ∷ 22 ∷ 22 ∷ 22 ∷ 23 ∷ 24 ∷ 25 ∷ 26 ∷ 27 ∷ 28 ∷ 29 ∷ 30 ∷ 31 ∷ 32 ∷ 33 ∷ 34 ∷ 35 ∷ 36 ∷ 37 ∷ 38 ∷ 39 ∷ 40 ∷ 41 ∷ 42 ∷ 43 ∷ 44 ∷ 45 ∷ 46 ∷ []
-
--- where 12 to 29 stand in the enum, and 30 to 46
-abbrev pub low : List ℕ
-low = 0 ∷ 1 ∷ 2 ∷ 3 ∷ 4 ∷ 5 ∷ 6 ∷ 7 ∷ 8 ∷ 9 ∷ 10 ∷ 11 ∷ 12 ∷ 13 ∷ 14 ∷ 15 ∷ 16 ∷ 17 ∷ 18 ∷ 19 ∷ []
-
-abbrev pub high : List ℕ
-high = 20 ∷ 21 ∷ 22 ∷ 23 ∷ 24 ∷ 25 ∷ 26 ∷ 27 ∷ 28 ∷ 29 ∷ 30 ∷ 31 ∷ 32 ∷ 33 ∷ 34 ∷ 35 ∷ 36 ∷ []
 
 number-of : (s : List ℕ) (r : Refusal) → refusalOf s r .number ≡ getD numbers (tag r) 0
 unfolding refusalOf
@@ -86,17 +84,33 @@ number-of s (Dropped made) = refl
 number-of s (Overflow assign) = refl
 number-of s (KeyKinds map key) = refl
 
+-- a number that is below j or from k on, and isn't below j
+either : (j k n : ℕ) → j ≤ n → (ltb n j || leb k n) ≡ true → k ≤ n
+either j k n h = go (ltb n j) (leb k n) refl refl
+  where
+    go : (u v : Bool) → ltb n j ≡ u → leb k n ≡ v → (u || v) ≡ true → k ≤ n
+    go true v p q w = absurd (omega (arith, ltb-true n j p))
+    go false true p q w = leb-true k n q
+    go false false p q w = absurd (let z : _≡_ {A = ℕ} 0 1 = cc w in omega arith)
+
 module _ (r : Refusal) where
   pub number-told : (t n : ℕ) → tagOf the-type r ≡ t → n ≡ getD numbers t 0 → Numbers r n
   number-told t n e f = record { numbers = λ s. f ∙ ap (λ k. getD numbers k 0) (sym e) ∙ sym (number-of s r) }
 
-  -- the refusals behind 12 to 29
-  pub from-30 : OneOf high (tagOf the-type r) → From30 r
-  from-30 h = record { from30 = λ s. rw (number-of s r) (leb-true 30 _ (one-of (λ k. leb 30 (getD numbers k 0)) high (tag r) refl h)) }
+  -- the refusal stands among some whose numbers are all k or above; or all below k
+  pub from-keys : (k : ℕ) (ks : List ℕ) → OneOf ks (tagOf the-type r) → every (λ t. leb k (getD numbers t 0)) ks ≡ true → From k r
+  from-keys k ks h e = record { from = λ s. rw (number-of s r) (leb-true k _ (one-of (λ t. leb k (getD numbers t 0)) ks (tag r) e h)) }
 
-  -- none of 12 to 29 is among 30 to 46
-  pub not-from-30 : {P : Type 0} → From30 r → OneOf low (tagOf the-type r) → P
-  not-from-30 f h = absurd (omega (arith, f .from30 [], number-of [] r, ltb-true (getD numbers (tag r) 0) 30 (one-of (λ k. ltb (getD numbers k 0) 30) low (tag r) refl h)))
+  -- ... and so it is among some others below j, where its number is not below j
+  pub past-keys : (j k : ℕ) (ks : List ℕ) → From j r → OneOf ks (tagOf the-type r) → every (λ t. ltb (getD numbers t 0) j || leb k (getD numbers t 0)) ks ≡ true → From k r
+  past-keys j k ks f h e =
+      record {
+        from = λ s. rw (number-of s r) (either j k _ (rw (number-of s r) at (f .from s)) (one-of (λ t. ltb (getD numbers t 0) j || leb k (getD numbers t 0)) ks (tag r) e h));
+      }
+
+  pub not-from : {P : Type 0} (k : ℕ) (ks : List ℕ) → From k r → OneOf ks (tagOf the-type r) → every (λ t. ltb (getD numbers t 0) k) ks ≡ true → P
+  not-from k ks f h e =
+      absurd (omega (arith, f .from [], number-of [] r, ltb-true (getD numbers (tag r) 0) k (one-of (λ t. ltb (getD numbers t 0) k) ks (tag r) e h)))
 
 -- ------------------------------------------------------------ places
 

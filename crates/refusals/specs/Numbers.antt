@@ -9,6 +9,6 @@ use Rattle.declared.specs.declared.refusal.Refusal.{Refusal}
 pub record Numbers (r : Refusal) (n : ℕ) : Type 0 where
   pub numbers : (s : List ℕ) → n ≡ refusalOf s r .number
 
--- the refusal r is one of 30 to 46
-pub record From30 (r : Refusal) : Type 0 where
-  pub from30 : (s : List ℕ) → 30 ≤ refusalOf s r .number
+-- the number of the refusal r is k or above
+pub record From (k : ℕ) (r : Refusal) : Type 0 where
+  pub from : (s : List ℕ) → k ≤ refusalOf s r .number

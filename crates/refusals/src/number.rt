@@ -1,6 +1,6 @@
 // Document 01's number of a refusal.
 use declared::Refusal;
-ghost use Rattle.refusals.specs.Numbers.{From30, Numbers};
+ghost use Rattle.refusals.specs.Numbers.{From, Numbers};
 
 pub fn number_of(r: Refusal) -> u32
     ensures { λ n. ⌜ Numbers r n ⌝ }
@@ -32,7 +32,7 @@ pub fn number_of(r: Refusal) -> u32
 
 // The same of 30 to 46.
 fn number_from_30(r: Refusal) -> u32
-    requires { ⌜ From30 r ⌝ }
+    requires { ⌜ From 30 r ⌝ }
     ensures { λ n. ⌜ Numbers r n ⌝ }
 {
     match r {

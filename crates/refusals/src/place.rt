@@ -8,7 +8,7 @@ ghost use Prim.Native.Nat.{suc};
 ghost use Rattle.rules.specs.Ast.{span as spanOf};
 ghost use Rattle.rules.specs.Standing.{Loaded, placeAt};
 ghost use Rattle.declared.specs.Refusal.{dotAt, refusalOf};
-ghost use Rattle.refusals.specs.Numbers.{From30};
+ghost use Rattle.refusals.specs.Numbers.{From};
 ghost use Rattle.refusals.specs.Places.{lineOf, spanned};
 
 // Whether a record of kind k has a SPAN, or an NSPAN: a field, a type, an assignment, an expression.
@@ -97,7 +97,7 @@ fn line_of(r: Refusal) -> usize
 
 // The same of 30 to 46.
 fn line_from_30(r: Refusal) -> usize
-    requires { ⌜ From30 r ⌝ }
+    requires { ⌜ From 30 r ⌝ }
     ensures { λ i. ⌜ i ≡ lineOf r ⌝ }
 {
     match r {

@@ -25,11 +25,12 @@ use Rattle.rules.proofs.Parts.{stop, _also_, pick}
 use Rattle.rules.proofs.Records.{named}
 use Rattle.rules.proofs.Standing.{stands}
 use Rattle.declared.specs.Answers.{Answers}
-use Rattle.declared.specs.Refusal.{literalAt, refusalOf, doneOf}
+use Rattle.declared.specs.Refusal.{numberIn, refusalOf, doneOf}
 use Rattle.declared.specs.declared.refusal.Refusal.the-variants.{AssetSlot, NameIntoAddress, WrappingIntoNarrow, LiteralIntoNarrow, Slot}
 use Rattle.declared.specs.declared.refusal.Done.the-variants.{Fine, Refused}
 use Rattle.declared.proofs.Answers.{gives, then-fine, then-refused, fits, misfits, passes, refuses}
 use Rattle.declared.proofs.Codes.{from-code}
+use Rattle.declared.proofs.Literals.{literal-at}
 use Rattle.env.specs.Force.{envOf}
 use Rattle.env.specs.declared.env.Env.{Env}
 use Rattle.narrow.specs.Narrow.{exceedsOf, mostOf}
@@ -217,13 +218,13 @@ module _ (s S : List ℕ) (env : Env) (op target value c d : ℕ) (h : AssignAt 
         (λ y. slot-below _ (field-slot (modelIn s) (namedAt s target)) m (narrow-is b) (nameAt s S value) _ _ (rw y at f)))
 
     literal-no : aboveNarrow s S value m ≡ true → Answers literalRule (refused (refusalOf s (LiteralIntoNarrow target value m)))
-    unfolding literalIntoNarrow envOf aboveNarrow refusalOf literalAt
+    unfolding literalIntoNarrow envOf aboveNarrow refusalOf numberIn
     literal-no f =
         let b = is-bare _ f in
         let y = and-eq-true-iff (eqb (kindAt S value) 20) _ .0 (and-eq-true-iff (not (eqb m 0)) _ .0 f .1) .0 in
         if-named (identOf e) (bareAt S target) (namedAt s target) _ (p .ident) _ b
         (if-named (intOf given) (eqb (kindAt S value) 20) (nameAt s S value) _ text-is _ y
-        (rw (literalAt, named (h .loaded) (h .here .within)) (slot-above _ (field-slot (modelIn s) (namedAt s target)) m (narrow-is b) (nameAt s S value) _ _ (rw y at f))))
+        (rw (literal-at (h .loaded) value, y) (slot-above _ (field-slot (modelIn s) (namedAt s target)) m (narrow-is b) (nameAt s S value) _ _ (rw y at f))))
 
 -- ------------------------------------------------------------ return by return
 

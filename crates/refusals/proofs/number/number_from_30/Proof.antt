@@ -1,5 +1,6 @@
+use mathlib.Core.Path.{refl}
 use borrow.Author.Needs.{needs}
-use Rattle.refusals.proofs.Tags.{number-told, not-from-30}
+use Rattle.refusals.proofs.Tags.{number-told, not-from, places}
 use Rattle.refusals.proofs.number.number_from_30.Statement.{statement}
 use Rattle.refusals.proofs.number.number_from_30.Tie as tie
 
@@ -41,4 +42,4 @@ number-from-30-spec =
     (λ c. search (needs, number-told))
     (λ c. search (needs, number-told))
     (λ c. search (needs, number-told))
-    (λ c. not-from-30 _ (c .before .pre) (c .match .keys18)))
+    (λ c. not-from _ 30 (places 0 20) (c .before .pre) (c .match .keys18) refl))

@@ -1,6 +1,7 @@
+use mathlib.Core.Path.{refl}
 use borrow.Author.Needs.{needs}
 use Rattle.refusals.specs.Places.{lineOf}
-use Rattle.refusals.proofs.Tags.{line-told, not-from-30}
+use Rattle.refusals.proofs.Tags.{line-told, not-from, places}
 use Rattle.refusals.proofs.place.line_from_30.Statement.{statement}
 use Rattle.refusals.proofs.place.line_from_30.Tie as tie
 
@@ -43,4 +44,4 @@ line-from-30-spec =
     (λ c. search (needs, line-told))
     (λ c. search (needs, line-told))
     (λ c. search (needs, line-told))
-    (λ c. not-from-30 _ (c .before .pre) (c .match .keys18)))
+    (λ c. not-from _ 30 (places 0 20) (c .before .pre) (c .match .keys18) refl))
