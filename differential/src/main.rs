@@ -1,10 +1,10 @@
 //! Runs generated sheets through the compiled library and through the reference, and compares what
-//! both answer: `differential [--seed S] [--count N]`.
+//! both answer and every byte of every lent buffer: `differential [--seed S] [--count N]`.
 
-mod reader;
-
-use reference::generate::case;
+use differential::tally::Tally;
 use std::process::ExitCode;
+use std::thread;
+use std::time::Instant;
 
 struct Options {
     seed: u64,
@@ -12,10 +12,7 @@ struct Options {
 }
 
 fn options() -> Result<Options, String> {
-    let mut options = Options {
-        seed: 1,
-        count: 100_000,
-    };
+    let mut options = Options { seed: 1, count: 100_000 };
     let mut words = std::env::args().skip(1);
     while let Some(word) = words.next() {
         let value = words.next().and_then(|value| value.parse().ok());
@@ -29,6 +26,26 @@ fn options() -> Result<Options, String> {
     Ok(options)
 }
 
+/// Every `step`-th sheet from `first` on.
+fn share(options: &Options, first: u64, step: u64) -> Tally {
+    let mut tally = Tally::new();
+    for index in (first..options.count).step_by(step as usize) {
+        tally.add(options.seed, index);
+    }
+    tally
+}
+
+/// All sheets, by one thread for each core.
+fn run(options: &Options) -> Tally {
+    let threads = thread::available_parallelism().map_or(1, |threads| threads.get() as u64);
+    thread::scope(|scope| {
+        let start = |first| scope.spawn(move || share(options, first, threads));
+        let running: Vec<_> = (0..threads).map(start).collect();
+        let tallies = running.into_iter().map(|thread| thread.join().expect("a thread ends"));
+        tallies.fold(Tally::new(), Tally::join)
+    })
+}
+
 fn main() -> ExitCode {
     let options = match options() {
         Ok(options) => options,
@@ -37,14 +54,14 @@ fn main() -> ExitCode {
             return ExitCode::from(2);
         }
     };
-    for index in 0..options.count {
-        let case = case(options.seed, index);
-        if let Err(difference) = reader::compare(&case) {
-            println!("seed {} index {index}: {difference}", options.seed);
-            println!("{}", case.sheet.escape_ascii());
-            return ExitCode::FAILURE;
-        }
+    let began = Instant::now();
+    let tally = run(&options);
+    let seconds = began.elapsed().as_secs_f64();
+    print!("{tally}");
+    println!("{:.0} s, {:.0} sheets a second", seconds, options.count as f64 / seconds);
+    println!("{} sheets agree, {} differ", options.count - tally.differing, tally.differing);
+    match tally.differing {
+        0 => ExitCode::SUCCESS,
+        _ => ExitCode::FAILURE,
     }
-    println!("{} sheets agree", options.count);
-    ExitCode::SUCCESS
 }

@@ -87,16 +87,8 @@ pub fn compare(case: &Case) -> Result<(), String> {
     let (answer, buffer) = load(case);
     let expected = case.read(Spans::Own);
     let wanted = match &expected {
-        Ok(loaded) => Load {
-            number: 0,
-            line: 0,
-            lines: loaded.lines.len(),
-        },
-        Err(Refusal { number, place }) => Load {
-            number: *number,
-            line: *place as usize,
-            lines: 0,
-        },
+        Ok(loaded) => Load { number: 0, line: 0, lines: loaded.lines.len() },
+        Err(Refusal { number, place }) => Load { number: *number, line: *place as usize, lines: 0 },
     };
     if answer != wanted {
         return Err(format!("answered {answer:?}, wanted {wanted:?}"));
@@ -116,14 +108,8 @@ fn compare_scratch(
     };
     let (entries, rest) = buffer[GUARD..].split_at(written);
     let untouched = |at: usize, value: &u16| *value == noise(at);
-    let before = buffer[..GUARD]
-        .iter()
-        .enumerate()
-        .all(|(at, value)| untouched(at, value));
-    let after = rest
-        .iter()
-        .enumerate()
-        .all(|(at, value)| untouched(GUARD + written + at, value));
+    let before = buffer[..GUARD].iter().enumerate().all(|(at, value)| untouched(at, value));
+    let after = rest.iter().enumerate().all(|(at, value)| untouched(GUARD + written + at, value));
     if !before || !after {
         return Err("the scratch is touched where it must not be".to_string());
     }
@@ -141,10 +127,7 @@ fn compare_lines(lines: &[Line], entries: &[u16]) -> Result<(), String> {
         let kind = entries[ENTRIES * at] % 64;
         let end = entries[ENTRIES * at + 2];
         if WORDS.get(kind as usize) != Some(&line.word) || u32::from(end) + 1 != line.end {
-            return Err(format!(
-                "line {}: kind {kind}, end {end}, wanted {line:?}",
-                at + 1
-            ));
+            return Err(format!("line {}: kind {kind}, end {end}, wanted {line:?}", at + 1));
         }
     }
     Ok(())

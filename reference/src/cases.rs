@@ -22,7 +22,7 @@ pub fn all() -> Vec<HandCase> {
 }
 
 /// One paragraph; none if it is only remarks.
-fn parse(paragraph: &str) -> Option<HandCase> {
+pub fn parse(paragraph: &str) -> Option<HandCase> {
     let mut lines = paragraph.lines().filter(|line| !line.starts_with('#') && !line.is_empty());
     let title = lines.next()?.to_string();
     let expected = lines.next().unwrap_or_else(|| panic!("{title}: nothing expected"));
