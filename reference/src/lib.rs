@@ -35,6 +35,12 @@ mod types {
     include!(concat!(env!("OUT_DIR"), "/types.rs"));
 }
 
+/// The pass as it is timed: `check` with no askings noted.
+#[allow(clippy::collapsible_match)]
+pub mod plain {
+    include!(concat!(env!("OUT_DIR"), "/plain.rs"));
+}
+
 pub use ast::*;
 pub use error::TypeError;
 pub use model::Model;

@@ -3,7 +3,7 @@
 use reference::askings::listed;
 use reference::generate::case;
 use reference::reader::Spans;
-use reference::{check, Model};
+use reference::{check, plain, Model};
 
 const SEED: u64 = 1;
 
@@ -25,7 +25,8 @@ fn a_case_is_its_seed_and_index() {
     }
 }
 
-/// The sheet's own spans in the tree lead to the same verdict as numbered ones.
+/// The sheet's own spans in the tree lead to the same verdict as numbered ones, and so does the pass
+/// that notes no askings.
 #[test]
 fn both_ways_of_spans_agree() {
     let mut read_sheets = 0;
@@ -38,12 +39,13 @@ fn both_ways_of_spans_agree() {
             continue;
         };
         read_sheets += 1;
-        match check(&Model::build(&loaded.contract)) {
-            Ok(()) => assert_eq!(answer.number, 0, "{index}"),
-            Err(error) => {
-                assert!(answer.places.contains(&error.span.0), "{index}");
-                assert_eq!(answer.message, error.message, "{index}");
-            }
+        let model = Model::build(&loaded.contract);
+        for verdict in [check(&model), plain::check(&model)] {
+            let message = verdict.as_ref().err().map_or("", |error| &error.message);
+            let place = verdict.as_ref().err().map_or(0, |error| error.span.0);
+            assert_eq!(answer.number == 0, verdict.is_ok(), "{index}");
+            assert_eq!(answer.message, message, "{index}");
+            assert!(answer.places.contains(&place), "{index}");
         }
     }
     assert!(read_sheets >= 2_000, "only {read_sheets} sheets are read");
