@@ -1,8 +1,11 @@
-//! That the comparison can fail: right outcomes are made wrong in one place, and each is told.
+//! That the comparison can fail: right outcomes, made from the reference's answers, are made wrong in one
+//! place each, and each is told. The library has no part in it.
 
+use differential::ffi;
 use differential::lengths::{generated, lines, Generated};
 use differential::lent::Lent;
-use differential::verdict::{differences, run, Outcome};
+use differential::verdict::{differences, Outcome};
+use reference::answer::Answer;
 use reference::case::Case;
 use reference::reader::ENTRIES;
 use reference::rng::Rng;
@@ -90,12 +93,38 @@ fn guards<T: Element>(lent: &mut Lent<T>, before: bool) -> bool {
     true
 }
 
+/// What a right library answers and leaves, as document 01 states it.
+fn right(case: &Case, answer: &Answer, rng: &mut Rng) -> Outcome {
+    let mut right = Outcome {
+        answer: ffi::Answer {
+            number: answer.number,
+            place: answer.places[0],
+            count: answer.count,
+            length: answer.message.len() as u32,
+        },
+        sheet: Lent::holding(&case.sheet, rng, |bits| bits as u8),
+        scratch: Lent::noise(case.scratch_len, rng, |bits| bits as u16),
+        types: Lent::noise(case.types_len, rng, |bits| bits as u8),
+        message: Lent::noise(case.message_len, rng, |bits| bits as u8),
+    };
+    if !matches!(answer.number, 1..=5) {
+        right.scratch.slice()[..ENTRIES * lines(case)].fill(0);
+    }
+    if let Some(types) = &answer.types {
+        right.types.slice()[..lines(case)].copy_from_slice(types);
+    }
+    if answer.number > 11 && answer.message.len() <= case.message_len {
+        right.message.slice()[..answer.message.len()].copy_from_slice(answer.message.as_bytes());
+    }
+    right
+}
+
 /// How often the fault could be made; each time it must be told.
 fn told(name: &str, word: &str, fault: Fault) -> usize {
     let mut made_wrong = 0;
     for index in 0..SHEETS {
         let mut made = generated(5, index);
-        let mut outcome = run(&made.case, &mut made.rng);
+        let mut outcome = right(&made.case, &made.answer, &mut made.rng);
         if !fault(&made, &mut outcome) {
             continue;
         }
@@ -118,7 +147,7 @@ fn every_fault_is_told_and_nothing_else() {
 fn outcomes_that_are_left_as_they_are_agree() {
     for index in 0..SHEETS {
         let mut made = generated(5, index);
-        let outcome = run(&made.case, &mut made.rng);
+        let outcome = right(&made.case, &made.answer, &mut made.rng);
         let told = differences(&made.case, &made.answer, &outcome);
         assert!(told.is_empty(), "index {index}: {told:?}");
     }
@@ -131,7 +160,7 @@ fn refusal_20_may_name_any_of_its_places() {
     let case = Case::exact(sheet.to_vec());
     let wanted = case.answer();
     assert_eq!((wanted.number, wanted.places.as_slice()), (20, &[2, 4][..]));
-    let mut outcome = run(&case, &mut Rng::new(1));
+    let mut outcome = right(&case, &wanted, &mut Rng::new(1));
     for (place, right) in [(1, false), (2, true), (3, false), (4, true)] {
         outcome.answer.place = place;
         assert_eq!(differences(&case, &wanted, &outcome).is_empty(), right, "{place}");
