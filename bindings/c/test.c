@@ -1,6 +1,6 @@
 /*
  * Tests of the call: test SHEETS EXPECTED, the stored answers of the Rust, whose format is in
- * reference/stored/README.md. Document 01's cases P1 to P10 are the first of them.
+ * reference/README.md. Document 01's cases P1 to P10 are the first of them.
  */
 #include "quanta_check.h"
 
@@ -16,16 +16,21 @@ struct call {
     size_t sheet_len, scratch_len, types_len, message_len;
 };
 
-/* The answer, and what is written to type table and message. */
+/* The answer, and what is written to scratch, type table and message. */
 struct wanted {
     quanta_answer answer;
+    size_t zeros;
     uint8_t types[QUANTA_MAX_LINES];
     size_t types_len;
     const uint8_t *message;
     size_t message_len;
 };
 
-/* The answer is written as in the stored ones: number,place,count,length;types;message */
+/*
+ * The answer is written as in the stored ones, where the second four numbers are the zeros in the
+ * scratch and how much of scratch, types and message is untouched:
+ * number,place,count,length;zeros,scratch,types,message;TYPES;MESSAGE
+ */
 struct row {
     const char *sheet;
     size_t scratch_len, types_len, message_len;
@@ -33,33 +38,34 @@ struct row {
 };
 
 #define EXAMPLE "contract,1\nstate,1\nfield,10,level,1\ntype,11,u8,0\nint,17,300\n"
-#define JUDGED "27,17,1,52;0 0 0 0 1;"
+#define ANSWER "27,17,1,52;"
+#define TYPES "0 0 0 0 1;"
 #define MESSAGE "300 does not fit `level`, whose largest value is 255"
 
 static const struct row rows[] = {
     /* Buffers that are exact, and longer ones. */
-    {EXAMPLE, 40, 5, 52, JUDGED MESSAGE},
-    {EXAMPLE, 99, 23, 77, JUDGED MESSAGE},
+    {EXAMPLE, 40, 5, 52, ANSWER "40,0,0,0;" TYPES MESSAGE},
+    {EXAMPLE, 99, 23, 77, ANSWER "40,59,18,25;" TYPES MESSAGE},
     /* A message that does not fit. */
-    {EXAMPLE, 40, 5, 51, JUDGED},
-    {EXAMPLE, 40, 5, 0, JUDGED},
+    {EXAMPLE, 40, 5, 51, ANSWER "40,0,0,51;" TYPES},
+    {EXAMPLE, 40, 5, 0, ANSWER "40,0,0,0;" TYPES},
     /* Short tables; of two faults the lower number. */
-    {EXAMPLE, 40, 4, 52, "4,0,0,0;;"},
-    {EXAMPLE, 40, 0, 52, "4,0,0,0;;"},
-    {EXAMPLE, 39, 5, 52, "5,0,0,0;;"},
-    {EXAMPLE, 0, 5, 52, "5,0,0,0;;"},
-    {EXAMPLE, 0, 0, 0, "4,0,0,0;;"},
+    {EXAMPLE, 40, 4, 52, "4,0,0,0;0,40,4,52;;"},
+    {EXAMPLE, 40, 0, 52, "4,0,0,0;0,40,0,52;;"},
+    {EXAMPLE, 39, 5, 52, "5,0,0,0;0,39,5,52;;"},
+    {EXAMPLE, 0, 5, 52, "5,0,0,0;0,0,5,52;;"},
+    {EXAMPLE, 0, 0, 0, "4,0,0,0;0,0,0,0;;"},
     /* An empty sheet, with nothing and with something lent. */
-    {"", 0, 0, 0, "2,0,0,0;;"},
-    {"", 8, 1, 16, "2,0,0,0;;"},
+    {"", 0, 0, 0, "2,0,0,0;0,0,0,0;;"},
+    {"", 8, 1, 16, "2,0,0,0;0,8,1,16;;"},
     /* Accepted without a message buffer. */
-    {"contract,0\n", 8, 1, 0, "0,0,0,0;0;"},
+    {"contract,0\n", 8, 1, 0, "0,0,0,0;8,0,0,0;0;"},
     /* Sheets that are not read, by line. */
-    {"contract,0\n\n", 16, 2, 8, "6,2,0,0;;"},
-    {"contract,1\ntype,1,u8,0\n", 16, 2, 8, "8,2,0,0;;"},
-    {"contract,1\nstate\n", 16, 2, 8, "9,2,0,0;;"},
-    {"contract,\xff\n", 8, 1, 8, "10,1,0,0;;"},
-    {"contract,1\n", 8, 1, 8, "11,2,0,0;;"},
+    {"contract,0\n\n", 16, 2, 8, "6,2,0,0;16,0,2,8;;"},
+    {"contract,1\ntype,1,u8,0\n", 16, 2, 8, "8,2,0,0;16,0,2,8;;"},
+    {"contract,1\nstate\n", 16, 2, 8, "9,2,0,0;16,0,2,8;;"},
+    {"contract,\xff\n", 8, 1, 8, "10,1,0,0;8,0,1,8;;"},
+    {"contract,1\n", 8, 1, 8, "11,2,0,0;8,0,1,8;;"},
 };
 
 /* Bytes on either side of a lent buffer, which must stay as they are. */
@@ -101,16 +107,6 @@ static bool returns(struct lent lent, const uint8_t *bytes, size_t length) {
     return same;
 }
 
-/* How many bytes of the scratch are zeros afterwards. */
-static size_t zeros_of(const struct call *call, uint32_t number) {
-    size_t lines = 0;
-    for (size_t at = 0; at < call->sheet_len; at++) {
-        lines += call->sheet[at] == '\n';
-    }
-    bool untouched = number >= 1 && number <= 5;
-    return untouched ? 0 : lines * QUANTA_SCRATCH_PER_LINE * sizeof(uint16_t);
-}
-
 static bool agrees(const struct call *call, const struct wanted *wanted) {
     static const uint8_t zeros[QUANTA_MAX_SCRATCH * sizeof(uint16_t)];
     struct lent sheet = lend(call->sheet_len);
@@ -127,7 +123,7 @@ static bool agrees(const struct call *call, const struct wanted *wanted) {
     bool same_answer = got.number == want->number && got.place == want->place &&
                        got.count == want->count && got.length == want->length;
     bool same_sheet = returns(sheet, call->sheet, call->sheet_len);
-    bool same_scratch = returns(scratch, zeros, zeros_of(call, want->number));
+    bool same_scratch = returns(scratch, zeros, wanted->zeros * sizeof(uint16_t));
     bool same_types = returns(types, wanted->types, wanted->types_len);
     bool same_message = returns(message, wanted->message, wanted->message_len);
     return same_answer && same_sheet && same_scratch && same_types && same_message;
@@ -146,22 +142,32 @@ static const char *parse_types(const char *text, struct wanted *wanted) {
     return text;
 }
 
-/* Takes number,place,count,length;types;message apart; false if it is no such line. */
-static bool parse(const char *line, struct wanted *wanted) {
-    quanta_answer *answer = &wanted->answer;
+/* Takes what the buffers hold; false if that is not all of what the call lends. */
+static bool parse_held(const char *text, const struct call *call, struct wanted *wanted) {
+    size_t scratch, types, message;
     int head = 0;
-    sscanf(line, "%" SCNu32 ",%" SCNu32 ",%" SCNu32 ",%" SCNu32 ";%n", &answer->number,
-           &answer->place, &answer->count, &answer->length, &head);
+    sscanf(text, "%zu,%zu,%zu,%zu;%n", &wanted->zeros, &scratch, &types, &message, &head);
     if (head == 0) {
         return false;
     }
-    const char *rest = parse_types(line + head, wanted);
+    const char *rest = parse_types(text + head, wanted);
     if (*rest != ';') {
         return false;
     }
     wanted->message = (const uint8_t *)rest + 1;
     wanted->message_len = strcspn(rest + 1, "\n");
-    return true;
+    return wanted->zeros + scratch == call->scratch_len &&
+           wanted->types_len + types == call->types_len &&
+           wanted->message_len + message == call->message_len;
+}
+
+/* Takes a line apart; false if it is no answer to the call. */
+static bool parse(const char *line, const struct call *call, struct wanted *wanted) {
+    quanta_answer *answer = &wanted->answer;
+    int head = 0;
+    sscanf(line, "%" SCNu32 ",%" SCNu32 ",%" SCNu32 ",%" SCNu32 ";%n", &answer->number,
+           &answer->place, &answer->count, &answer->length, &head);
+    return head > 0 && parse_held(line + head, call, wanted);
 }
 
 static bool test_rows(void) {
@@ -171,7 +177,7 @@ static bool test_rows(void) {
         struct call call = {(const uint8_t *)row->sheet, strlen(row->sheet), row->scratch_len,
                             row->types_len, row->message_len};
         struct wanted wanted;
-        if (!parse(row->answer, &wanted) || !agrees(&call, &wanted)) {
+        if (!parse(row->answer, &call, &wanted) || !agrees(&call, &wanted)) {
             printf("row %zu differs: %s\n", at + 1, row->answer);
             wrong++;
         }
@@ -198,7 +204,7 @@ static bool test_stored(FILE *sheets, FILE *expected) {
         struct call call;
         struct wanted wanted;
         count++;
-        if (!read_frame(sheets, &call) || !parse(line, &wanted) || !agrees(&call, &wanted)) {
+        if (!read_frame(sheets, &call) || !parse(line, &call, &wanted) || !agrees(&call, &wanted)) {
             printf("stored answer %zu differs: %s", count, line);
             wrong++;
         }

@@ -18,8 +18,14 @@ const LONG_MESSAGE: usize = 16_384;
 impl Case {
     /// A sheet with tables of exactly the wanted length and a long message buffer.
     pub fn exact(sheet: Vec<u8>) -> Case {
-        let lines = sheet.iter().filter(|&&byte| byte == b'\n').count();
-        Case { sheet, scratch_len: ENTRIES * lines, types_len: lines, message_len: LONG_MESSAGE }
+        let mut case = Case { sheet, scratch_len: 0, types_len: 0, message_len: LONG_MESSAGE };
+        case.types_len = case.lines();
+        case.scratch_len = ENTRIES * case.lines();
+        case
+    }
+
+    pub fn lines(&self) -> usize {
+        self.sheet.iter().filter(|&&byte| byte == b'\n').count()
     }
 
     pub fn read(&self, spans: Spans) -> Result<Loaded, Refusal> {

@@ -2,7 +2,7 @@
 
 use crate::case::Case;
 use crate::generate::case;
-use crate::stored::{frames, replay_lines};
+use crate::stored::{answer_lines, frames};
 use std::io::{self, Write};
 use std::process::{Command, Stdio};
 use std::thread;
@@ -24,7 +24,7 @@ pub fn compare(program: &str, seed: u64, count: u64) -> Result<String, String> {
         let wanted: Vec<Wanted> = (first..count.min(first + AT_ONCE))
             .map(|index| {
                 let case = case(seed, index);
-                let lines = replay_lines(&case);
+                let lines = answer_lines(&case, &case.answer());
                 Wanted { index, case, lines }
             })
             .collect();
@@ -53,5 +53,5 @@ fn answers(program: &str, wanted: &[Wanted]) -> io::Result<String> {
     let writer = thread::spawn(move || input.write_all(&frames(&cases)));
     let output = running.wait_with_output()?;
     writer.join().expect("the writer ends")?;
-    String::from_utf8(output.stdout).map_err(io::Error::other)
+    Ok(String::from_utf8_lossy(&output.stdout).into_owned())
 }

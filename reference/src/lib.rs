@@ -10,6 +10,7 @@ pub mod case;
 pub mod cases;
 pub mod compare;
 pub mod damage;
+pub mod deep;
 pub mod fields;
 pub mod generate;
 pub mod node;

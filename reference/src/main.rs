@@ -4,14 +4,15 @@ use reference::case::Case;
 use reference::compare::compare;
 use reference::generate::case;
 use reference::reader::Spans;
-use reference::stored::{answer_line, files};
+use reference::stored::{answer_lines, files};
 use std::io::{Read, Write};
 use std::process::ExitCode;
 use std::{env, fs, io};
 
 const HELP: &str = "\
 reference answer [--scratch N] [--types N] [--message N] [FILE]
-    The answer as a stored line: number,place,count,length;types;message
+    The answer and what the lent buffers hold then, as a stored line:
+    number,place,count,length;zeros,scratch,types,message;TYPES;MESSAGE
     Lengths not given: exact for the sheet, message 16384. Where refusal 20 may name several
     places, the first in the sheet.
 reference shelfcheck [FILE]
@@ -117,7 +118,7 @@ fn answer(args: &Args) -> Outcome<Vec<u8>> {
     case.scratch_len = length("--scratch", case.scratch_len);
     case.types_len = length("--types", case.types_len);
     case.message_len = length("--message", case.message_len);
-    Ok((answer_line(&case.answer()) + "\n").into())
+    Ok((answer_lines(&case, &case.answer()).remove(0) + "\n").into())
 }
 
 fn shelfcheck(args: &Args) -> Outcome<Vec<u8>> {

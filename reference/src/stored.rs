@@ -1,12 +1,12 @@
-//! The stored answers, which a program in another language replays. stored/README.md has the
-//! format.
+//! The stored answers, which proved programs replay. README.md has the format.
 
 use crate::answer::Answer;
 use crate::case::Case;
 use crate::cases;
 use crate::damage::edges;
+use crate::deep;
 use crate::generate::case;
-use crate::reader::{Loaded, Refusal, Spans};
+use crate::reader::{Loaded, Refusal, Spans, ENTRIES};
 
 const SEED: u64 = 200_069_746;
 
@@ -23,19 +23,18 @@ fn most_bytes(number: u32) -> usize {
 pub type File = (&'static str, Vec<u8>);
 
 pub fn files() -> Vec<File> {
-    let answers = answer_cases();
+    let mut answered = answer_cases();
+    let mut answers = expected(&answered, |case| answer_lines(case, &case.answer()).remove(0));
+    // Not the Rust's answer: see deep.rs.
+    let deep = deep::case(deep::STORED);
+    answers.extend((answer_lines(&deep, &deep::answer(deep::STORED)).remove(0) + "\n").bytes());
+    answered.push(deep);
     let readings = reader_cases();
-    let replayed = replayed_cases();
     vec![
-        ("reference/stored/answers.sheets", frames(&answers)),
-        (
-            "reference/stored/answers.expected",
-            expected(&answers, |case| answer_line(&case.answer())),
-        ),
         ("crates/replay_reader/stdin", frames(&readings)),
         ("crates/replay_reader/stdout", expected(&readings, reading_line)),
-        ("crates/replay/stdin", frames(&replayed)),
-        ("crates/replay/stdout", expected(&replayed, |case| replay_lines(case).remove(0))),
+        ("crates/replay/stdin", frames(&answered)),
+        ("crates/replay/stdout", answers),
     ]
 }
 
@@ -55,32 +54,35 @@ fn expected(cases: &[Case], line: impl Fn(&Case) -> String) -> Vec<u8> {
     cases.iter().flat_map(|case| (line(case) + "\n").into_bytes()).collect()
 }
 
-/// `number,place,count,length;types;message`.
-pub fn answer_line(answer: &Answer) -> String {
+/// `number,place,count,length;zeros,scratch,types,message;TYPES;MESSAGE`, once for each place that the verdict may name. The first
+/// of these lines has the place of the first bad field in the sheet, which is the one that crates/checking names.
+pub fn answer_lines(case: &Case, answer: &Answer) -> Vec<String> {
+    let Answer { number, places, count, message, .. } = answer;
+    let length = message.len();
+    let held = held(case, answer);
+    places.iter().map(|place| format!("{number},{place},{count},{length};{held}")).collect()
+}
+
+/// What document 01 says of the lent buffers afterwards: the zeros in the scratch, how much of each buffer is untouched up to its
+/// end, and what stands before that in type table and message.
+fn held(case: &Case, answer: &Answer) -> String {
+    let zeros = match answer.number {
+        1..=5 => 0,
+        _ => ENTRIES * case.lines(),
+    };
+    let types = answer.types.as_deref().unwrap_or_default();
+    let message = answer.written();
     format!(
-        "{},{},{},{};{};{}",
-        answer.number,
-        answer.places[0],
-        answer.count,
-        answer.message.len(),
-        codes(answer.types.as_deref().unwrap_or_default()),
-        answer.written(),
+        "{zeros},{},{},{};{};{message}",
+        case.scratch_len - zeros,
+        case.types_len - types.len(),
+        case.message_len - message.len(),
+        codes(types),
     )
 }
 
 fn codes(types: &[u8]) -> String {
     types.iter().map(u8::to_string).collect::<Vec<_>>().join(" ")
-}
-
-/// `number,place` of the reader's refusal, or `number,place,count;types`, once for each place that the verdict may name. The
-/// first of these lines has the place of the first bad field in the sheet, which is the one that crates/checking names.
-pub fn replay_lines(case: &Case) -> Vec<String> {
-    let Answer { number, places, count, types, .. } = case.answer();
-    let line = |place| match &types {
-        None => format!("{number},{place}"),
-        Some(types) => format!("{number},{place},{count};{}", codes(types)),
-    };
-    places.into_iter().map(line).collect()
 }
 
 /// `number,place`, or `0,LINES;` and `word:depth:end` for each line.
@@ -95,24 +97,14 @@ fn reading_line(case: &Case) -> String {
     }
 }
 
-/// The cases of `checked_cases` with one right place, and a message buffer about as long as each message.
+/// The hand cases, the edges, message buffers about as long as the message, guardian sets, and generated sheets up to a share for
+/// each number.
 fn answer_cases() -> Vec<Case> {
     let mut cases = hand_cases();
     cases.extend(edges());
     cases.extend(message_lengths());
-    cases.extend(generated(answer_share, |case| {
-        let answer = case.answer();
-        (answer.places.len() == 1).then_some(answer.number)
-    }));
-    cases
-}
-
-/// The hand cases, the edges, guardian sets, and generated sheets up to a share for each number.
-fn replayed_cases() -> Vec<Case> {
-    let mut cases = hand_cases();
-    cases.extend(edges());
     cases.extend((0..64).map(guardian_sets));
-    cases.extend(generated(answer_share, |case| Some(case.answer().number)));
+    cases.extend(generated(answer_share, |case| case.answer().number));
     cases
 }
 
@@ -151,7 +143,7 @@ fn reader_cases() -> Vec<Case> {
     };
     cases.extend(generated(share, |case| {
         let reading = case.read(Spans::Numbered);
-        Some(reading.map_or_else(|refusal| refusal.number, |_| 0))
+        reading.map_or_else(|refusal| refusal.number, |_| 0)
     }));
     cases
 }
@@ -174,15 +166,13 @@ fn message_lengths() -> Vec<Case> {
 }
 
 /// Generated cases up to `share` for each number that `number` gives them.
-fn generated(share: impl Fn(u32) -> usize, number: impl Fn(&Case) -> Option<u32>) -> Vec<Case> {
+fn generated(share: impl Fn(u32) -> usize, number: impl Fn(&Case) -> u32) -> Vec<Case> {
     const TRIED: u64 = 20_000;
     let mut kept = [0; 47];
     let mut out = Vec::new();
     for index in 0..TRIED {
         let case = case(SEED, index);
-        let Some(number) = number(&case) else {
-            continue;
-        };
+        let number = number(&case);
         let seen = &mut kept[number as usize];
         let small = case.sheet.len() <= most_bytes(number);
         if small && *seen < share(number) {

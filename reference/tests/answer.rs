@@ -3,8 +3,9 @@
 use reference::answer::answer;
 use reference::askings::listed;
 use reference::case::Case;
+use reference::deep;
 use reference::reader::{read, Spans};
-use reference::stored::replay_lines;
+use reference::stored::answer_lines;
 use reference::{check, Model};
 
 const EXAMPLE: &[u8] = b"contract,1\nstate,1\nfield,10,level,1\ntype,11,u8,0\nint,17,300\n";
@@ -61,16 +62,39 @@ type,8,GuardianSet,0
 ";
     let case = Case::exact(sheet.to_vec());
     assert_eq!(case.answer().places, [8, 6]);
-    assert_eq!(replay_lines(&case), ["20,8,0;0 0 0 0 0 0 0 0", "20,6,0;0 0 0 0 0 0 0 0"]);
+    let rest =
+        "0,53;64,0,0,16331;0 0 0 0 0 0 0 0;a guardian set must declare between 1 and 256 members";
+    assert_eq!(lines(&case), [format!("20,8,{rest}"), format!("20,6,{rest}")]);
+}
+
+fn lines(case: &Case) -> Vec<String> {
+    answer_lines(case, &case.answer())
 }
 
 #[test]
-fn lines_of_a_replay() {
-    let lines = |sheet: &[u8]| replay_lines(&Case::exact(sheet.to_vec()));
-    assert_eq!(lines(EXAMPLE), ["27,17,1;0 0 0 0 1"]);
-    assert_eq!(lines(b"contract,1\ninvariant\nnow,3\n"), ["21,3,1;0 0 1"]);
-    assert_eq!(lines(b"contract,1\ninvariant\nbin,3,eq\nnow,4\nnow,5\n"), ["0,0,3;0 0 2 1 1"]);
-    assert_eq!(lines(b"contract,1\n"), ["11,2"]);
+fn lines_of_an_answer() {
+    let lines = |sheet: &[u8]| lines(&Case::exact(sheet.to_vec()));
+    let message = "300 does not fit `level`, whose largest value is 255";
+    assert_eq!(lines(EXAMPLE), [format!("27,17,1,52;40,0,0,16332;0 0 0 0 1;{message}")]);
+    assert_eq!(
+        lines(b"contract,1\ninvariant\nbin,3,eq\nnow,4\nnow,5\n"),
+        ["0,0,3,0;40,0,0,16384;0 0 2 1 1;"]
+    );
+    assert_eq!(lines(b"contract,1\n"), ["11,2,0,0;8,0,1,16384;;"]);
+    assert_eq!(lines(b"contract,0"), ["2,0,0,0;0,0,0,16384;;"]);
+}
+
+/// Refusals 1 to 5 leave the scratch; every other call leaves zeros for the lines and the rest untouched.
+#[test]
+fn lines_of_longer_and_shorter_buffers() {
+    let line = |scratch_len, types_len, message_len| {
+        lines(&Case { sheet: EXAMPLE.to_vec(), scratch_len, types_len, message_len }).remove(0)
+    };
+    let message = "300 does not fit `level`, whose largest value is 255";
+    assert_eq!(line(47, 9, 60), format!("27,17,1,52;40,7,4,8;0 0 0 0 1;{message}"));
+    assert_eq!(line(40, 5, 51), "27,17,1,52;40,0,0,51;0 0 0 0 1;");
+    assert_eq!(line(39, 5, 60), "5,0,0,0;0,39,5,60;;");
+    assert_eq!(line(40, 4, 60), "4,0,0,0;0,40,4,60;;");
 }
 
 /// A type table may be longer than the sheet and arrive full of anything: from 12 on, and where the sheet is accepted, every
@@ -86,23 +110,24 @@ fn every_line_has_a_code_whatever_the_length_of_the_table() {
     }
 }
 
-/// `do m.get(m.get(.. m.get(1)))`, of so many calls.
-fn nested(calls: usize) -> Vec<u8> {
-    let head = "contract,2\nstate,1\nfield,1,m,0\ntype,2,Map,2\ntype,3,u64,0\ntype,4,u64,0\n";
-    let inner = "call,5,1\ndot,6,get,7\nid,8,m\n".repeat(calls);
-    format!("{head}entry,0,0,1\ndo\n{inner}int,9,1\n").into_bytes()
-}
-
 #[test]
 fn askings_double_for_each_keyed_level() {
     // A level asks itself once and its key twice, so 12 levels make 2^13 - 1; the second look at
     // the `do` asks the key of the outermost once more: 2^12 - 1.
     for (calls, askings) in [(1, 4), (2, 10), (12, 12_286)] {
-        let sheet = nested(calls);
-        let loaded = read(&sheet, 8_192, 1_024, Spans::Numbered).expect("a sheet");
+        let loaded = deep::case(calls).read(Spans::Numbered).expect("a sheet");
         let (result, list) = listed(|| check(&Model::build(&loaded.contract)));
         assert_eq!((result, list.len()), (Ok(()), askings));
     }
+}
+
+/// The rule by which the stored answer to the deep sheet is made, where the Rust can answer.
+#[test]
+fn the_answer_by_hand_is_the_pass_s_up_to_12_deep() {
+    for calls in 1..=12 {
+        assert_eq!(deep::answer(calls), deep::case(calls).answer());
+    }
+    assert!(deep::case(deep::STORED).read(Spans::Numbered).is_ok());
 }
 
 #[test]

@@ -35,11 +35,13 @@ fn shelfcheck() {
 
 #[test]
 fn answer() {
-    let told = "27,17,1,52;0 0 0 0 1;300 does not fit `level`, whose largest value is 255\n";
+    let told =
+        "27,17,1,52;40,0,0,16332;0 0 0 0 1;300 does not fit `level`, whose largest value is 255\n";
     assert_eq!(output(&["answer"], EXAMPLE), told);
-    assert_eq!(output(&["answer", "--message", "51"], EXAMPLE), "27,17,1,52;0 0 0 0 1;\n");
-    assert_eq!(output(&["answer", "--types", "4"], EXAMPLE), "4,0,0,0;;\n");
-    assert_eq!(output(&["answer", "--scratch", "39"], EXAMPLE), "5,0,0,0;;\n");
+    let short = "27,17,1,52;40,0,0,51;0 0 0 0 1;\n";
+    assert_eq!(output(&["answer", "--message", "51"], EXAMPLE), short);
+    assert_eq!(output(&["answer", "--types", "4"], EXAMPLE), "4,0,0,0;0,40,4,16384;;\n");
+    assert_eq!(output(&["answer", "--scratch", "39"], EXAMPLE), "5,0,0,0;0,39,5,16384;;\n");
 }
 
 #[test]

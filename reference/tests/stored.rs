@@ -1,12 +1,12 @@
 //! The stored answers are what the program writes now, and hold enough of everything.
 
+use reference::answer::Answer;
 use reference::case::Case;
+use reference::deep;
 use reference::fields::SHAPES;
-use reference::stored::{files, replay_lines};
+use reference::stored::{answer_lines, files};
 
 const COMMITTED: &[(&str, &[u8])] = &[
-    ("reference/stored/answers.sheets", include_bytes!("../stored/answers.sheets")),
-    ("reference/stored/answers.expected", include_bytes!("../stored/answers.expected")),
     ("crates/replay_reader/stdin", include_bytes!("../../crates/replay_reader/stdin")),
     ("crates/replay_reader/stdout", include_bytes!("../../crates/replay_reader/stdout")),
     ("crates/replay/stdin", include_bytes!("../../crates/replay/stdin")),
@@ -59,7 +59,7 @@ fn stored_files_are_current() {
 
 #[test]
 fn answers_hold_every_number() {
-    let lines = expected("reference/stored/answers.expected");
+    let lines = expected("crates/replay/stdout");
     assert!(lines.len() >= 500);
     for (number, times) in times(&lines).into_iter().enumerate() {
         assert!(times >= if number == 1 { 3 } else { 5 }, "{number}: {times}");
@@ -80,39 +80,83 @@ fn readings_hold_every_refusal_and_word() {
     }
 }
 
-#[test]
-fn replayed_answers_hold_every_number() {
-    let lines = expected("crates/replay/stdout");
-    assert!(lines.len() >= 500);
-    for (number, times) in times(&lines).into_iter().enumerate() {
-        assert!(times >= if number == 1 { 3 } else { 5 }, "{number}: {times}");
-    }
-}
-
 /// Where the verdict may name several places, the first line is the one that is stored.
 #[test]
-fn replayed_answers_hold_some_with_several_places() {
-    let several = cases("crates/replay/stdin").into_iter().zip(expected("crates/replay/stdout"));
+fn answers_hold_some_with_several_places() {
+    let mut stored: Vec<_> = cases("crates/replay/stdin");
+    assert_eq!(stored.pop(), Some(deep::case(deep::STORED)));
+    let several = stored.into_iter().zip(expected("crates/replay/stdout"));
     let several = several.filter(|(case, line)| {
-        let lines = replay_lines(case);
+        let lines = answer_lines(case, &case.answer());
         assert_eq!(&lines[0], line);
         lines.len() > 1
     });
     assert!(several.count() >= 8);
 }
 
+/// The last line is by hand.
+#[test]
+fn the_deep_sheet_is_accepted_with_its_types() {
+    let codes = format!("0 0 0 0 0 0 0 0 {}1", "1 0 0 ".repeat(40));
+    let line = format!("0,0,41,0;1032,0,0,16384;{codes};");
+    assert_eq!(expected("crates/replay/stdout").last(), Some(&line.as_str()));
+}
+
+/// A number that is told before a `,` or `;`, and the rest.
+fn number(text: &str) -> (usize, &str) {
+    let (number, rest) = text.split_once([',', ';']).expect("a number");
+    (number.parse().expect("digits"), rest)
+}
+
+/// Takes a line apart again: the answer and the zeros in the scratch. The rests are those of the lent lengths.
+fn parsed(line: &str, case: &Case) -> (Answer, usize) {
+    let mut rest = line;
+    let [code, place, count, length, zeros, scratch, types, message] = [(); 8].map(|()| {
+        let (told, after) = number(rest);
+        rest = after;
+        told
+    });
+    let (codes, written) = rest.split_once(';').expect("types and message");
+    let codes: Vec<u8> = codes.split_whitespace().map(|code| code.parse().unwrap()).collect();
+    assert_eq!(zeros + scratch, case.scratch_len, "{line}");
+    assert_eq!(codes.len() + types, case.types_len, "{line}");
+    assert_eq!(written.len() + message, case.message_len, "{line}");
+    assert!(written.is_empty() || written.len() == length, "{line}");
+    let answer = Answer {
+        number: code as u32,
+        places: vec![place as u32],
+        count: count as u32,
+        message: written.to_string(),
+        fits: written.len() == length,
+        types: (code == 0 || code > 11).then_some(codes),
+    };
+    (answer, zeros)
+}
+
+/// Every stored line says the four numbers, all of each lent buffer, the count of its marks, and the zeros of document 01.
+#[test]
+fn answers_parse() {
+    for (case, line) in cases("crates/replay/stdin").iter().zip(expected("crates/replay/stdout")) {
+        let (answer, zeros) = parsed(line, case);
+        let marked = answer.types.iter().flatten().filter(|&&code| code != 0).count();
+        assert_eq!(answer.count as usize, marked, "{line}");
+        let untouched = (1..=5).contains(&answer.number);
+        assert_eq!(zeros, if untouched { 0 } else { 8 * case.lines() }, "{line}");
+    }
+}
+
 /// What the program `replay` lends is as long as this.
 #[test]
 fn replayed_sheets_fit_the_program() {
     for case in cases("crates/replay/stdin") {
-        assert!(case.sheet.len() <= 32_768 && case.scratch_len <= 32_768);
+        let lent = [case.sheet.len(), case.scratch_len, case.types_len, case.message_len];
+        assert!(lent.into_iter().all(|length| length <= 32_768), "{lent:?}");
     }
 }
 
 #[test]
 fn frames_are_whole() {
     for (sheets, lines) in [
-        ("reference/stored/answers.sheets", expected("reference/stored/answers.expected")),
         ("crates/replay_reader/stdin", expected("crates/replay_reader/stdout")),
         ("crates/replay/stdin", expected("crates/replay/stdout")),
     ] {

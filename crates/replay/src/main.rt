@@ -1,15 +1,19 @@
-// Reads the stored sheets of standard input, each behind a header of 24 bytes, and writes the answer to each: the reader's
-// number and line, or number, place and count of `check`, number and place 0 for acceptance, and the type of each line.
-use checking::check;
-use declared::Done;
-use declared::Refusal;
-use refusals::marked;
-use refusals::number_of;
-use refusals::place_of;
-use sheet::Answer;
+// Reads the stored sheets of standard input, each behind a header of 24 bytes, lends to each what its header says, full of noise,
+// and writes a line with the answer and what each lent buffer holds then:
+//
+//     number,place,count,length;zeros,scratch,types,message;TYPES;MESSAGE
+//
+// `zeros` is how many entries of the scratch are zero from its start on; `scratch`, `types` and `message` are how many entries or
+// bytes still hold the noise up to the buffer's end. TYPES are the bytes of the type table before those, MESSAGE those of the message.
+mod noise;
+
+use noise::fill;
+use noise::fill_scratch;
+use noise::written;
+use noise::written_scratch;
+use noise::zeros;
+use verdict::Answer;
 ghost use Prim.Native.Nat.{_≤_};
-ghost use Rattle.rules.specs.Standing.{Loaded, LoadedIn};
-ghost use Rattle.checking.specs.Walk.{SheetIn};
 
 fn digit(b: u8) -> usize
     ensures { λ r. ⌜ r ≤ 9 ⌝ }
@@ -49,90 +53,96 @@ fn write_types(types: &[u8]) {
     }
 }
 
-// Number and place.
-fn write_refusal(text: &[u8], lines: &[u16], r: Refusal)
-    requires { ⌜ Loaded (now text) (now lines) ⌝ }
-{
-    io::print_decimal(1, number_of(r) as u64);
+// Four numbers parted by commas.
+fn write_four(a: u64, b: u64, c: u64, d: u64) {
+    io::print_decimal(1, a);
     io::write_all(1, b",");
-    io::print_decimal(1, place_of(text, lines, r) as u64);
-}
-
-// The answer of `check` on a table of zeros.
-fn write_checked(text: &[u8], lines: &[u16], table: &mut [u8])
-    requires { ⌜ SheetIn (now text) (now lines) (now table) ⌝ }
-{
-    match check(text, lines, table) {
-        Done::Fine => {
-            io::write_all(1, b"0,0");
-        }
-        Done::Refused(r) => {
-            write_refusal(text, lines, r);
-        }
-    }
+    io::print_decimal(1, b);
     io::write_all(1, b",");
-    io::print_decimal(1, marked(table) as u64);
+    io::print_decimal(1, c);
+    io::write_all(1, b",");
+    io::print_decimal(1, d);
     io::write_all(1, b";");
-    write_types(table);
 }
 
-// The same of a sheet whose n lines are loaded.
-fn write_loaded(text: &[u8], scratch: &[u16], n: usize)
-    requires { ⌜ LoadedIn (now text) (now scratch) n ⌝ }
-{
-    let mut table = [0u8; 1024];
-    write_checked(text, &scratch[..8 * n], &mut table[..n]);
-}
-
-fn write_answer(text: &[u8], scratch: &mut [u16], types: usize) {
-    match sheet::load(text, scratch, types) {
-        Answer::Lines(n) => {
-            write_loaded(text, scratch, n);
-        }
-        Answer::Refused { number, line } => {
-            io::print_decimal(1, number as u64);
-            io::write_all(1, b",");
-            io::print_decimal(1, line as u64);
-        }
-    }
+fn write_line(answer: Answer, scratch: &[u16], types: &[u8], message: &[u8]) {
+    let marked = written(types);
+    let length = written(message);
+    write_four(
+        answer.number as u64,
+        answer.place as u64,
+        answer.count as u64,
+        answer.length as u64,
+    );
+    write_four(
+        zeros(scratch) as u64,
+        (scratch.len() - written_scratch(scratch)) as u64,
+        (types.len() - marked) as u64,
+        (message.len() - length) as u64,
+    );
+    write_types(&types[..marked]);
+    io::write_all(1, b";");
+    io::write_all(1, &message[..length]);
     io::write_all(1, b"\n");
 }
 
+fn write_answer(sheet: &[u8], scratch: &mut [u16], types: &mut [u8], message: &mut [u8]) {
+    fill_scratch(scratch);
+    fill(types);
+    fill(message);
+    let answer = verdict::verdict(sheet, scratch, types, message);
+    write_line(answer, scratch, types, message);
+}
+
 // Fills the sheet and writes its answer; whether there was as much.
-fn one(text: &mut [u8], scratch: &mut [u16], types: usize) -> bool {
-    let got = io::read_full(0, &mut text[..]);
-    if got != text.len() {
+fn one(sheet: &mut [u8], scratch: &mut [u16], types: &mut [u8], message: &mut [u8]) -> bool {
+    let got = io::read_full(0, &mut sheet[..]);
+    if got != sheet.len() {
         return false;
     }
-    write_answer(&text[..], scratch, types);
+    write_answer(&sheet[..], scratch, types, message);
     true
 }
 
+// A lent length of the header, and no more than there is.
+fn lent(head: &[u8; 24], at: usize, most: usize) -> usize
+    requires { ⌜ at ≤ 19 ⌝ }
+    ensures { λ r. ⌜ r ≤ most ⌝ }
+{
+    let n = number(head, at);
+    if most < n {
+        return most;
+    }
+    n
+}
+
 // One sheet with its header; whether there was one.
-fn turn(text: &mut [u8], scratch: &mut [u16]) -> bool {
+fn turn(sheet: &mut [u8], scratch: &mut [u16], types: &mut [u8], message: &mut [u8]) -> bool {
     let mut head = [0u8; 24];
     let got = io::read_full(0, &mut head);
     if got != 24 {
         return false;
     }
-    let bytes = number(&head, 0);
-    let entries = number(&head, 6);
-    let types = number(&head, 12);
-    if text.len() < bytes {
-        return false;
-    }
-    if scratch.len() < entries {
-        return false;
-    }
-    one(&mut text[..bytes], &mut scratch[..entries], types)
+    let bytes = lent(&head, 0, sheet.len());
+    let entries = lent(&head, 6, scratch.len());
+    let codes = lent(&head, 12, types.len());
+    let room = lent(&head, 18, message.len());
+    one(
+        &mut sheet[..bytes],
+        &mut scratch[..entries],
+        &mut types[..codes],
+        &mut message[..room],
+    )
 }
 
 fn main() {
-    let mut text = [0u8; 32768];
+    let mut sheet = [0u8; 32768];
     let mut scratch = [0u16; 32768];
+    let mut types = [0u8; 32768];
+    let mut message = [0u8; 32768];
     let mut left: u32 = 1000000;
     while 0 < left {
-        if !turn(&mut text, &mut scratch) {
+        if !turn(&mut sheet, &mut scratch, &mut types, &mut message) {
             return;
         }
         left -= 1;

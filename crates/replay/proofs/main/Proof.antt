@@ -5,10 +5,11 @@ use Rattle.replay.proofs.main.Statement.{statement}
 use Rattle.replay.proofs.main.Tie as tie
 
 abbrev Inv-loop : tie.InvT-loop
-Inv-loop text₀ scratch₀ left₀ text scratch left = (length text ≡ 32768) × (length scratch ≡ 32768)
+Inv-loop sheet₀ scratch₀ types₀ message₀ left₀ sheet scratch types message left =
+    (length sheet ≡ 32768) × (length scratch ≡ 32768) × (length types ≡ 32768) × (length message ≡ 32768)
 
 abbrev μ-loop : tie.MeasureT-loop
-μ-loop text₀ scratch₀ left₀ text scratch left = left
+μ-loop sheet₀ scratch₀ types₀ message₀ left₀ sheet scratch types message left = left
 
 pub main-spec : {M : Type 1} → statement M
 main-spec =
@@ -16,6 +17,8 @@ main-spec =
     (tie.spec
     Inv-loop
     μ-loop
+    (λ c. search needs)
+    (λ c. search needs)
     (λ c. search needs)
     (λ c. search needs)
     (λ c. search needs)
