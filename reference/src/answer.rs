@@ -30,6 +30,16 @@ impl Answer {
             ""
         }
     }
+
+    /// What the program `shelfcheck` writes.
+    pub fn verdict_line(&self) -> String {
+        let (number, place) = (self.number, self.places[0]);
+        match number {
+            0 => "accepted\n".to_string(),
+            1..=11 => format!("{number},{place}\n"),
+            _ => format!("{number},{place},{}\n", self.written()),
+        }
+    }
 }
 
 pub fn answer(sheet: &[u8], scratch_len: usize, types_len: usize, message_len: usize) -> Answer {

@@ -18,26 +18,37 @@ pub struct HandCase {
 }
 
 pub fn all() -> Vec<HandCase> {
-    FILES.iter().flat_map(|text| text.split("\n\n").filter_map(parse)).collect()
+    FILES.iter().flat_map(|text| paragraphs(text)).map(|lines| parse(&lines)).collect()
 }
 
-/// One paragraph; none if it is only remarks.
-pub fn parse(paragraph: &str) -> Option<HandCase> {
-    let mut lines = paragraph.lines().filter(|line| !line.starts_with('#') && !line.is_empty());
-    let title = lines.next()?.to_string();
-    let expected = lines.next().unwrap_or_else(|| panic!("{title}: nothing expected"));
+/// The lines of each paragraph, without remarks.
+pub fn paragraphs(text: &str) -> Vec<Vec<&str>> {
+    let kept = |line: &&str| !line.starts_with('#') && !line.is_empty();
+    let lines = text.split("\n\n").map(|part| part.lines().filter(kept).collect::<Vec<_>>());
+    lines.filter(|lines| !lines.is_empty()).collect()
+}
+
+/// One paragraph.
+pub fn parse(lines: &[&str]) -> HandCase {
+    let [title, expected, sheet_lines @ ..] = lines else {
+        panic!("{lines:?}: nothing expected");
+    };
     let mut parts = expected.splitn(3, ';');
     let verdict = parts.next().unwrap_or_default();
     let (number, place) = verdict.split_once(',').unwrap_or_else(|| panic!("{title}: {verdict}"));
     let given = |part: &str| (part != "*").then(|| part.to_string());
-    Some(HandCase {
+    HandCase {
         number: number.parse().unwrap_or_else(|_| panic!("{title}: {number}")),
         place: place.parse().unwrap_or_else(|_| panic!("{title}: {place}")),
         types: parts.next().and_then(given),
         message: parts.next().and_then(given),
-        sheet: lines.flat_map(sheet_line).collect(),
-        title,
-    })
+        sheet: sheet(sheet_lines),
+        title: title.to_string(),
+    }
+}
+
+pub fn sheet(lines: &[&str]) -> Vec<u8> {
+    lines.iter().flat_map(|line| sheet_line(line)).collect()
 }
 
 /// A line of the sheet: `N x LINE` stands for N such lines, `\xNN` for a byte, and a `\` at the

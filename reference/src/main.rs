@@ -122,14 +122,7 @@ fn answer(args: &Args) -> Outcome<Vec<u8>> {
 }
 
 fn shelfcheck(args: &Args) -> Outcome<Vec<u8>> {
-    let answer = Case::exact(args.sheet()?).answer();
-    let place = answer.places[0];
-    let line = match answer.number {
-        0 => "accepted\n".to_string(),
-        number @ 1..=11 => format!("{number},{place}\n"),
-        number => format!("{number},{place},{}\n", answer.message),
-    };
-    Ok(line.into())
+    Ok(Case::exact(args.sheet()?).answer().verdict_line().into())
 }
 
 fn lines(args: &Args) -> Outcome<Vec<u8>> {
