@@ -45,14 +45,14 @@ fn byte_text(&byte: &u8) -> String {
 mod tests {
     use super::*;
     use crate::lengths::generated;
-    use reference::cases::parse;
+    use reference::cases::{paragraphs, parse};
 
     #[test]
     fn a_paragraph_is_read_as_the_case_it_was_made_of() {
         for index in 0..5_000 {
             let made = generated(3, index);
             let text = paragraph("made", &made.case, &made.answer);
-            let case = parse(&text).expect("a case");
+            let case = parse(&paragraphs(&text)[0]);
             assert_eq!(case.sheet, made.case.sheet, "{text}");
             let verdict = (made.answer.number, made.answer.places[0]);
             assert_eq!((case.number, case.place), verdict, "{text}");
