@@ -1,5 +1,5 @@
 -- Known types, and how many arguments they take. Assumes nothing.
-use mathlib.Core.Path.{_≡_, refl, sym, _∙_}
+use mathlib.Core.Path.{_≡_, refl, sym, ap, _∙_}
 use mathlib.Core.Logic.{_≢_}
 use mathlib.Core.List.{List}
 use mathlib.Core.Bool.{Bool, not, _||_}
@@ -12,13 +12,14 @@ use Rattle.rules.specs.Declared.{tyOfDecl, eqTy}
 use Rattle.rules.specs.Declarations.{known, eventFieldType}
 use Rattle.rules.specs.Standing.{typeAt}
 use Rattle.declared.specs.Answers.{Answers, expected}
-use Rattle.declared.specs.Codes.{Tests}
+use Rattle.declared.specs.Codes.{tyFrom}
 use Rattle.declared.specs.Lines.{Typed}
 use Rattle.declared.specs.Refusal.{refusalOf, doneOf}
 use Rattle.declared.specs.declared.refusal.Refusal.the-variants.{UnknownType, NoArguments}
 use Rattle.declared.specs.declared.refusal.Done.{Done}
 use Rattle.declared.specs.declared.refusal.Done.the-variants.{Refused}
 use Rattle.declared.proofs.Answers.{passes, refuses, expects}
+use Rattle.declared.proofs.Codes.{from-code}
 use Rattle.declared.proofs.Types.{args-count}
 use Rattle.declarations.specs.Tests.{takesNone}
 
@@ -28,12 +29,12 @@ module _ (s S : List ℕ) (i d : ℕ) (h : Typed s S i) (e : d ≡ code (tyOfDec
   unfolding known eqTy code doneOf refusalOf
   known-unknown f = refuses _ 16 _ _ _ (rw (sym e ∙ f) refl)
 
-  module _ (m : ℕ) (t : Bool) (f : d ≢ 10) (q : Tests takesNone d t) (c : m ≡ entry S i 5) where
+  module _ (m : ℕ) (t : Bool) (f : d ≢ 10) (q : t ≡ takesNone (tyFrom d)) (c : m ≡ entry S i 5) where
     pub known-args : (r : Done) → r ≡ expected (not t || eqb m 0) (NoArguments i) → Answers (known (typeAt s i)) (doneOf s r)
     unfolding known eqTy code refusalOf takesNone
     known-args r g =
         passes _ 16 _ _ _ _ (rw (← e, ne-eqb d 10 f) refl)
-        (rw (args-count s S i m h c, ← q .tests _ e) (expects s (not t || eqb m 0) (NoArguments i) r g))
+        (rw (args-count s S i m h c, ← (q ∙ ap takesNone (from-code d (tyOfDecl (typeAt s i)) e))) (expects s (not t || eqb m 0) (NoArguments i) r g))
 
 pub event-known : (s : List ℕ) (i : ℕ) (r : Done) → Answers (known (typeAt s i)) (doneOf s r) → Answers (eventFieldType (typeAt s i)) (doneOf s r)
 unfolding eventFieldType

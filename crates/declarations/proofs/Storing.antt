@@ -19,8 +19,9 @@ use Rattle.rules.specs.Declared.{tyOfDecl, eqTy}
 use Rattle.rules.specs.Declarations.{innerFits, storableArg, storableArgs, storableKeyed, known, arityOf, storableAs, storable}
 use Rattle.rules.specs.Standing.{typeAt, argAt, Here, Row}
 use Rattle.rules.proofs.Standing.{row-first, row-rest}
+use Rattle.declared.proofs.Codes.{from-code}
 use Rattle.declared.specs.Answers.{Answers, expected}
-use Rattle.declared.specs.Codes.{Tests}
+use Rattle.declared.specs.Codes.{tyFrom}
 use Rattle.declared.specs.Lines.{Typed}
 use Rattle.declared.specs.Refusal.{arity, refusalOf, doneOf}
 use Rattle.declared.specs.declared.refusal.Refusal.{Refusal}
@@ -70,9 +71,9 @@ module _ (s S : List ℕ) (i j d : ℕ) (key : Bool) (h : Typed s S i) (g : Type
   unfolding innerFits eqTy code
   inner-name x w f y z = rw (innerFits, sym e ∙ f, named-word s S i x "Map" w h y z) refl
 
-  pub inner-other : (m : ℕ) (t : Bool) → d ≢ 6 → Tests refusedInside d t → m ≡ entry S j 5 → (not t && eqb m 0) ≡ innerFits (typeName (typeAt s i)) key (typeAt s j)
+  pub inner-other : (m : ℕ) (t : Bool) → d ≢ 6 → t ≡ refusedInside (tyFrom d) → m ≡ entry S j 5 → (not t && eqb m 0) ≡ innerFits (typeName (typeAt s i)) key (typeAt s j)
   unfolding innerFits eqTy code refusedInside
-  inner-other m t f q c = rw (innerFits, ← e, ne-eqb d 6 f, args-count s S j m g c, q .tests _ e) refl
+  inner-other m t f q c = rw (innerFits, ← e, ne-eqb d 6 f, args-count s S j m g c, q, from-code d _ e) refl
 
 -- What `storable_arg` meets: an argument at line j, of the kind k.
 module _ (s S : List ℕ) (i j k : ℕ) (key : Bool) (h : Typed s S i) (a : Here S grammar.Arg j) (f : k ≡ kindAt S j) where

@@ -3,6 +3,7 @@ use crate::answer::expect;
 use declared::Done;
 use declared::Refusal;
 use declared::ty_of_decl;
+use declared::type_code;
 use sheet::end;
 use sheet::first;
 use sheet::kind;
@@ -16,16 +17,17 @@ ghost use Rattle.rules.specs.Declarations.{eventFieldType, innerFits, storableA
 ghost use Rattle.rules.specs.Declarations.{known as knownOf, storable as storableOf};
 ghost use Rattle.rules.specs.Standing.{Here, argAt, typeAt};
 ghost use Rattle.declared.specs.Answers.{Answers};
-ghost use Rattle.declared.specs.Codes.{Tests};
+ghost use Rattle.declared.specs.Codes.{tyFrom};
 ghost use Rattle.declared.specs.Lines.{Typed};
 ghost use Rattle.declared.specs.Refusal.{arity as arityIn, doneOf};
 ghost use Rattle.declarations.specs.Tests.{refusedInside, takesNone};
 
 // Int, Bool, Time, Address, Word64 or Name.
 fn takes_no_args(ty: u8) -> bool
-    ensures { λ r. ⌜ Tests takesNone ty r ⌝ }
+    ensures { λ r. ⌜ r ≡ takesNone (tyFrom ty) ⌝ }
 {
-    (ty == 1) | ((ty == 2) | ((ty == 7) | ((ty == 3) | ((ty == 5) | (ty == 6)))))
+    let t = type_code(ty);
+    (t == 1) | ((t == 2) | ((t == 7) | ((t == 3) | ((t == 5) | (t == 6)))))
 }
 
 // The last arm of `storable`, and the whole of `event_field_type`.
@@ -65,9 +67,10 @@ pub fn arity_of(name: &[u8]) -> usize
 
 // Unknown, Asset, Str or Collection.
 fn is_refused_inside(ty: u8) -> bool
-    ensures { λ r. ⌜ Tests refusedInside ty r ⌝ }
+    ensures { λ r. ⌜ r ≡ refusedInside (tyFrom ty) ⌝ }
 {
-    (ty == 10) | ((ty == 4) | ((ty == 8) | (ty == 9)))
+    let t = type_code(ty);
+    (t == 10) | ((t == 4) | ((t == 8) | (t == 9)))
 }
 
 // Whether the type at line inner may be a key or value of the Map or Registry at line ty.

@@ -1,13 +1,15 @@
 -- Codes of types. Assumes nothing.
-use mathlib.Core.Path.{_≡_, refl}
-use mathlib.Core.Bool.{true, false, _&&_, and-eq-true-iff}
+use mathlib.Core.Logic.{_≢_}
+use mathlib.Core.Path.{_≡_, refl, sym, _∙_}
+use mathlib.Core.Bool.{Bool, true, false, true≢false, _&&_, _||_, and-eq-true-iff}
 use mathlib.Core.Option.{none, some}
-use Prim.Native.Nat.{ℕ, zero, suc, _≤_}
+use Prim.Native.Nat.{ℕ, zero, suc, _≤_, _<_}
 use native.Mathlib.Omega.{arith}
-use lib.Dec.{leb}
-use borrow.Author.Tests.{leb-true, leb-false, le-leb}
+use lib.Dec.{leb, eqb}
+use borrow.Author.Tests.{leb-true, leb-false, le-leb, ne-eqb}
 use Rattle.rules.specs.Asking.{Ty, Int, Boolean, Address, Asset, Word64, TName, Time, Str, Collection, Unknown, code}
 use Rattle.rules.specs.Kept.{types, tyOfMark}
+use Rattle.rules.specs.Declared.{compatible, eqTy, oneWord}
 use Rattle.rules.proofs.AnyTable.{tells}
 use Rattle.rules.proofs.Keeps.{code-tells}
 use Rattle.declared.specs.Codes.{IsCode, tyFrom}
@@ -46,3 +48,33 @@ untold (suc n) e =
     let q : leb (suc n) 10 ≡ false = rw (le-leb 1 (suc n) (omega arith)) at e in
     let h : 10 ≤ n = omega (arith, leb-false (suc n) 10 q) in
     beyond types n h
+
+-- What `type_code` meets.
+module _ (c : ℕ) (b : Bool) (e : b ≡ (leb 1 c && leb c 10)) where
+  pub code-kept : b ≡ true → c ≡ code (tyFrom c)
+  code-kept q = sym (code-of c (told c (sym e ∙ q)) .1)
+
+  pub code-lost : b ≡ false → 10 ≡ code (tyFrom c)
+  unfolding tyFrom code
+  code-lost q = rw (tyFrom, untold c (sym e ∙ q)) refl
+
+-- a code that is not Unknown's is told by the byte itself
+pub same-code : (c k : ℕ) → 1 ≤ k → k < 10 → eqb (code (tyFrom c)) k ≡ eqb c k
+same-code c k h g = go (leb 1 c && leb c 10) refl
+  where
+    go : (b : Bool) → (leb 1 c && leb c 10) ≡ b → eqb (code (tyFrom c)) k ≡ eqb c k
+    go true e = rw (code-of c (told c e) .1) refl
+    go false e =
+        let n : c ≢ k = λ q. true≢false (sym (rw (le-leb 1 c (omega arith), le-leb c 10 (omega arith)) refl) ∙ e) in
+        rw (← code-lost c false (sym e) refl, ne-eqb c k n, ne-eqb 10 k (λ q. omega arith)) refl
+
+-- What `compatible` meets: the codes w and g of two types.
+module _ (t u : Ty) (w g : ℕ) (e : w ≡ code t) (f : g ≡ code u) where
+  pub alike : (eqb w 6 || eqb g 6 || eqb w 9 || eqb g 9) ≡ true → eqb w g ≡ compatible t u
+  unfolding compatible eqTy code
+  alike q = let k = rw (e, f) at q in rw (compatible, k, e, f) refl
+
+  pub mixed : (x y : Bool) → (eqb w 6 || eqb g 6 || eqb w 9 || eqb g 9) ≡ false → x ≡ oneWord t → y ≡ oneWord u
+      → (eqb w g || eqb w 10 || eqb g 10 || (x && y)) ≡ compatible t u
+  unfolding compatible eqTy code
+  mixed x y q h k = let l = rw (e, f) at q in rw (compatible, l, e, f, h, k) refl

@@ -1,27 +1,17 @@
 -- Types as codes, and answers with them.
 use Prim.Native.Nat.{ℕ, _≤_}
-use mathlib.Core.Path.{_≡_}
-use mathlib.Core.Bool.{Bool}
 use mathlib.Core.List.{List, [], _∷_}
 use mathlib.Core.Option.{none, some}
-use Rattle.rules.specs.Asking.{Ty, Unknown, code}
+use Rattle.rules.specs.Asking.{Ty, Unknown}
 use Rattle.rules.specs.Kept.{tyOfMark}
 
 -- a code of a type
 abbrev pub IsCode : ℕ → Type 0
 IsCode c = (1 ≤ c) × (c ≤ 10)
 
--- the type that a code tells
+-- the type that a code tells; Unknown where it is no code
 unfoldable pub tyFrom : ℕ → Ty
 tyFrom c = elim (tyOfMark c) [ none ↦ Unknown | some t ↦ t ]
-
--- r is f's answer for the type whose code is c
-pub record Tests (f : Ty → Bool) (c : ℕ) (r : Bool) : Type 0 where
-  pub tests : (t : Ty) → c ≡ code t → r ≡ f t
-
--- ... for the types whose codes are c and d
-pub record Tests2 (f : Ty → Ty → Bool) (c d : ℕ) (r : Bool) : Type 0 where
-  pub tests : (t u : Ty) → c ≡ code t → d ≡ code u → r ≡ f t u
 
 -- the codes of the named types, in the order of the code's table, and one for any other name
 abbrev pub namedCodes : List ℕ

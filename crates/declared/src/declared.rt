@@ -1,4 +1,5 @@
 // Declared types: module 1. A type is its code, 1 to 10.
+use rules::is_type;
 use sheet::end;
 use sheet::first;
 use sheet::kind;
@@ -13,7 +14,7 @@ ghost use Rattle.text.specs.Text.{all};
 ghost use Rattle.rules.specs.Standing.{exprAt, typeAt};
 ghost use lib.ListN.{getD, length};
 ghost use Rattle.sheet.specs.Scratch.{skip};
-ghost use Rattle.declared.specs.Codes.{Tests, Tests2, namedCodes};
+ghost use Rattle.declared.specs.Codes.{namedCodes, tyFrom};
 ghost use Rattle.declared.specs.Lines.{ExprAt, Typed};
 
 // The type that the name at a place of the table in ty_of_name means, 10 behind its end.
@@ -65,27 +66,38 @@ pub fn ty_of_decl(sheet: &[u8], lines: &[u16], i: usize) -> u8
     ty_of_name(name(sheet, lines, i))
 }
 
-pub fn numeric(ty: u8) -> bool
-    ensures { λ r. ⌜ Tests numericOf ty r ⌝ }
+// The code of the type that a byte tells: Unknown's where the byte is no code.
+pub fn type_code(c: u8) -> u8
+    ensures { λ r. ⌜ r ≡ code (tyFrom c) ⌝ }
 {
-    (ty == 1) | ((ty == 7) | (ty == 10))
+    if is_type(c) { c } else { 10 }
+}
+
+pub fn numeric(ty: u8) -> bool
+    ensures { λ r. ⌜ r ≡ numericOf (tyFrom ty) ⌝ }
+{
+    let t = type_code(ty);
+    (t == 1) | ((t == 7) | (t == 10))
 }
 
 pub fn one_word(ty: u8) -> bool
-    ensures { λ r. ⌜ Tests oneWord ty r ⌝ }
+    ensures { λ r. ⌜ r ≡ oneWord (tyFrom ty) ⌝ }
 {
-    (ty == 1) | ((ty == 7) | (ty == 2))
+    let t = type_code(ty);
+    (t == 1) | ((t == 7) | (t == 2))
 }
 
 // Whether a value of one type may stand where the other is wanted.
 pub fn compatible(want: u8, got: u8) -> bool
-    ensures { λ r. ⌜ Tests2 compatibleOf want got r ⌝ }
+    ensures { λ r. ⌜ r ≡ compatibleOf (tyFrom want) (tyFrom got) ⌝ }
 {
-    let same = want == got;
-    if (want == 6) | (got == 6) | (want == 9) | (got == 9) {
+    let w = type_code(want);
+    let g = type_code(got);
+    let same = w == g;
+    if (w == 6) | (g == 6) | (w == 9) | (g == 9) {
         same
     } else {
-        same | (want == 10) | (got == 10) | (one_word(want) & one_word(got))
+        same | (w == 10) | (g == 10) | (one_word(want) & one_word(got))
     }
 }
 

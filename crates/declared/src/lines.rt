@@ -8,7 +8,7 @@ ghost use lib.ListN.{length};
 ghost use Rattle.sheet.specs.Scratch.{entry, skip};
 
 // The line after `count` records, the first of which stands at line from.
-pub fn after(lines: &[u16], from: usize, count: usize) -> usize
+fn after(lines: &[u16], from: usize, count: usize) -> usize
     ensures { λ r. ⌜ r ≡ skip (now (lines .entry)) count from ⌝ }
 {
     let mut at = from;

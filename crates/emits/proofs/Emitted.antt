@@ -27,7 +27,7 @@ use Rattle.rules.proofs.Binding.{kept-assoc, kept-behind}
 use Rattle.rules.proofs.Parts.{parts}
 use Rattle.rules.proofs.Records.{event-at, param-at, params-next, no-params, group}
 use Rattle.rules.proofs.Standing.{stands, exprs-next, row-first, row-rest}
-use Rattle.declared.specs.Codes.{tyFrom, Tests}
+use Rattle.declared.specs.Codes.{tyFrom}
 use Rattle.declared.specs.Lines.{Typed as TypeAt}
 use Rattle.declared.specs.Refusal.{refusalOf, doneOf}
 use Rattle.declared.specs.declared.model.Found.{Found}
@@ -59,10 +59,10 @@ module _ (c d : ℕ) (b : Bool) where
   unfolding emitMismatch eqTy code
   mismatch-name e = record { tests = λ Γ arg want got n k l. rw (emitMismatch, ← k, eq-eqb c 6 e, ← l, ← n) refl }
 
-  pub mismatch-other : (w : Bool) → c ≢ 6 → Tests oneWord c w → Mismatches c d b (((eqb d 6 || eqb d 9) || eqb c 9) || (eqb d 3 && w))
+  pub mismatch-other : (w : Bool) → c ≢ 6 → w ≡ oneWord (tyFrom c) → Mismatches c d b (((eqb d 6 || eqb d 9) || eqb c 9) || (eqb d 3 && w))
   unfolding emitMismatch eqTy isTy code
   mismatch-other w e h =
-      record { tests = λ Γ arg want got n k l. rw (emitMismatch, ← k, ne-eqb c 6 e, ← h .tests want k, ← k, ← l, or-false) refl }
+      record { tests = λ Γ arg want got n k l. rw (emitMismatch, ← k, ne-eqb c 6 e, h, from-code c want k, ← k, ← l, or-false) refl }
 
 module _ (s : List ℕ) (env : Env) (arg param c d : ℕ) (n m : Bool) (e : n ≡ isNameParam (envOf s [] env) (exprAt s arg)) (h : Mismatches c d n m) where
   fitting : (want got : Ty) (x : Bool) → c ≡ code want → d ≡ code got → m ≡ x → not (emitMismatch (envOf s [] env) (exprAt s arg) want got) ≡ not x

@@ -19,13 +19,13 @@ use Rattle.rules.specs.Typing.{expectNumericOr, expectNumber, judgeUnary, logic
 use Rattle.rules.proofs.All.{All}
 use Rattle.rules.proofs.Parts.{stop, _also_, pick}
 use Rattle.declared.specs.Answers.{Answers}
-use Rattle.declared.specs.Codes.{IsCode, tyFrom, Tests, Tests2}
+use Rattle.declared.specs.Codes.{IsCode, tyFrom}
 use Rattle.declared.specs.Refusal.{refusalOf, doneOf}
 use Rattle.declared.specs.declared.refusal.Refusal.{Refusal}
 use Rattle.declared.specs.declared.refusal.Refusal.the-variants.{Not, Neg, Logical, Arithmetic, Ordering, Names, Compared, Amount, Straight, ByName, Holds}
 use Rattle.declared.specs.declared.refusal.Done.the-variants.{Fine, Refused as Wrong}
 use Rattle.declared.proofs.Answers.{gives, fits, misfits, passes, refuses}
-use Rattle.declared.proofs.Codes.{from-code}
+use Rattle.declared.proofs.Codes.{same-code}
 use Rattle.env.specs.Answers.{typedOf, bothOf, Judged, Judged2, JudgedIn, JudgesAmount, JudgesKey}
 use Rattle.env.specs.Force.{envOf}
 use Rattle.env.specs.declared.env.Env.{Env}
@@ -43,13 +43,13 @@ pub record Wants (f : Ty → Bool) (why : ℕ → Refusal) : Type 0 where
 abbrev pub want : {f : Ty → Bool} {why : ℕ → Refusal} → Wants f why → Ty → Expr → Rule Unit
 want {f} w t e = expect (f t) (w .number) (span e) (lit (w .text) ∷ [])
 
-module _ {f : Ty → Bool} {why : ℕ → Refusal} (w : Wants f why) (b : Bool) (c : ℕ) (h : Tests f c b) (s : List ℕ) (t : Ty) (k : c ≡ code t) (i : ℕ) (q : Rule Ty) where
+module _ {f : Ty → Bool} {why : ℕ → Refusal} (w : Wants f why) (b : Bool) (t : Ty) (h : b ≡ f t) (s : List ℕ) (i : ℕ) (q : Rule Ty) where
   operand-fine : (r : Res Ty) → b ≡ true → Answers q r → Answers (want w t (exprAt s i) >> q) r
-  operand-fine r e a = passes (f t) (w .number) (span (exprAt s i)) (lit (w .text) ∷ []) q r (sym (h .tests t k) ∙ e) a
+  operand-fine r e a = passes (f t) (w .number) (span (exprAt s i)) (lit (w .text) ∷ []) q r (sym h ∙ e) a
 
   operand-wrong : b ≡ false → Answers (want w t (exprAt s i) >> q) (typedOf s (Refused (why i)))
   unfolding typedOf
-  operand-wrong e = rw (w .told s i) (refuses (f t) (w .number) (span (exprAt s i)) (lit (w .text) ∷ []) q (sym (h .tests t k) ∙ e))
+  operand-wrong e = rw (w .told s i) (refuses (f t) (w .number) (span (exprAt s i)) (lit (w .text) ∷ []) q (sym h ∙ e))
 
 -- the rule of a unary operator, whose answer has the code n
 pub record Unary (op : UnaryOp) (f : Ty → Bool) (why : ℕ → Refusal) (n : ℕ) : Type 1 where
@@ -63,40 +63,44 @@ pub record Binary (rule : (left right : Expr) (l r : Ty) → Rule Ty) (f : Ty �
   pub is : (a b : Expr) (l r : Ty) → rule a b l r ≡ (want wants l a >> (want wants r b >> ret (tyFrom n)))
   pub code : IsCode n
 
-module _ {op : UnaryOp} {f : Ty → Bool} {why : ℕ → Refusal} {n : ℕ} (u : Unary op f why n) (o i c : ℕ) (b : Bool) (q : getD unaryOps o NegOp ≡ op) (h : Tests f c b) where
+module _ {op : UnaryOp} {f : Ty → Bool} {why : ℕ → Refusal} {n : ℕ} (u : Unary op f why n) (o i c : ℕ) (b : Bool) (q : getD unaryOps o NegOp ≡ op) (h : b ≡ f (tyFrom c)) where
   pub unary-fine : b ≡ true → Judged (λ s. judgeUnary (getD unaryOps o NegOp) (exprAt s i)) c (Is n)
   unfolding typedOf
   unary-fine e =
       record {
-        judged = λ s t k. rw (q, u .is (exprAt s i) t) (operand-fine (u .wants) b c h s t k i (ret (tyFrom n)) _ e (gives (tyFrom n)));
+        judged = λ s. rw (q, u .is (exprAt s i) (tyFrom c)) (operand-fine (u .wants) b (tyFrom c) h s i (ret (tyFrom n)) _ e (gives (tyFrom n)));
         valid = u .code;
       }
 
   pub unary-wrong : b ≡ false → Judged (λ s. judgeUnary (getD unaryOps o NegOp) (exprAt s i)) c (Refused (why i))
   unary-wrong e =
-      record { judged = λ s t k. rw (q, u .is (exprAt s i) t) (operand-wrong (u .wants) b c h s t k i (ret (tyFrom n)) e); valid = tt }
+      record { judged = λ s. rw (q, u .is (exprAt s i) (tyFrom c)) (operand-wrong (u .wants) b (tyFrom c) h s i (ret (tyFrom n)) e); valid = tt }
 
 module _ {rule : (left right : Expr) (l r : Ty) → Rule Ty} {f : Ty → Bool} {why : ℕ → Refusal} {n : ℕ} (o : Binary rule f why n) (i j c d : ℕ) where
-  by-tests : (b x : Bool) → Tests f c b → Tests f d x → Judged2 (λ s. rule (exprAt s i) (exprAt s j)) c d (bothOf b x (why i) (why j) n)
+  by-tests : (b x : Bool) → b ≡ f (tyFrom c) → x ≡ f (tyFrom d) → Judged2 (λ s. rule (exprAt s i) (exprAt s j)) c d (bothOf b x (why i) (why j) n)
   unfolding bothOf typedOf
   by-tests false x h y =
-      record { judged = λ s t u k l. rw (o .is (exprAt s i) (exprAt s j) t u) (operand-wrong (o .wants) false c h s t k i _ refl); valid = tt }
+      record {
+        judged = λ s. rw (o .is (exprAt s i) (exprAt s j) (tyFrom c) (tyFrom d)) (operand-wrong (o .wants) false (tyFrom c) h s i _ refl);
+        valid = tt;
+      }
   by-tests true false h y =
       record {
-        judged = λ s t u k l.
-            rw (o .is (exprAt s i) (exprAt s j) t u)
-            (operand-fine (o .wants) true c h s t k i _ _ refl (operand-wrong (o .wants) false d y s u l j _ refl));
+        judged = λ s.
+            rw (o .is (exprAt s i) (exprAt s j) (tyFrom c) (tyFrom d))
+            (operand-fine (o .wants) true (tyFrom c) h s i _ _ refl (operand-wrong (o .wants) false (tyFrom d) y s j _ refl));
         valid = tt;
       }
   by-tests true true h y =
       record {
-        judged = λ s t u k l.
-            rw (o .is (exprAt s i) (exprAt s j) t u)
-            (operand-fine (o .wants) true c h s t k i _ _ refl (operand-fine (o .wants) true d y s u l j _ _ refl (gives (tyFrom n))));
+        judged = λ s.
+            rw (o .is (exprAt s i) (exprAt s j) (tyFrom c) (tyFrom d))
+            (operand-fine (o .wants) true (tyFrom c) h s i _ _ refl (operand-fine (o .wants) true (tyFrom d) y s j _ _ refl (gives (tyFrom n))));
         valid = o .code;
       }
 
-  pub both-judged : (b x : Bool) (a : Typed) → Tests f c b → Tests f d x → a ≡ bothOf b x (why i) (why j) n → Judged2 (λ s. rule (exprAt s i) (exprAt s j)) c d a
+  pub both-judged : (b x : Bool) (a : Typed) → b ≡ f (tyFrom c) → x ≡ f (tyFrom d) → a ≡ bothOf b x (why i) (why j) n
+      → Judged2 (λ s. rule (exprAt s i) (exprAt s j)) c d a
   both-judged b x a h y e = rw e (by-tests b x h y)
 
 -- ------------------------------------------------------------ operators
@@ -104,10 +108,6 @@ module _ {rule : (left right : Expr) (l r : Ty) → Rule Ty} {f : Ty → Bool} {
 -- `ty == want || ty == Ty::Unknown`
 abbrev pub OrUnknown : Ty → Ty → Bool
 OrUnknown u t = eqTy t u || eqTy t Unknown
-
-pub or-unknown : (u : Ty) (c n : ℕ) → n ≡ code u → Tests (OrUnknown u) c (eqb c n || eqb c 10)
-unfolding eqTy code
-or-unknown u c n q = record { tests = λ t e. rw (e, q) refl }
 
 pub logical-is : Binary logical (OrUnknown Boolean) Logical 2
 unfolding logical expectNumericOr refusalOf tyFrom tyOfMark
@@ -144,36 +144,47 @@ neg-op (suc (suc o)) h = refl
 
 -- ------------------------------------------------------------ equality
 
-module _ (s : List ℕ) (i j c d : ℕ) where
-  pub names-wrong : (eqb c 6 || eqb d 6) ≡ true → JudgedIn s (equality (exprAt s i) (exprAt s j)) c d (Refused (Names i))
-  unfolding equality typedOf refusalOf eqTy code
-  names-wrong e =
-      record { judged = λ t u k l. refuses (not (eqTy t TName || eqTy u TName)) 41 (span (exprAt s i)) namesText _ (rw (← k, ← l, e) refl); valid = tt }
+-- whether a type is an address, or a name
+is-address : (c : ℕ) → eqTy (tyFrom c) Address ≡ eqb c 3
+unfolding eqTy code
+is-address c = same-code c 3 (omega arith) (omega arith)
 
-  module _ (b x y : Bool) (n : (eqb c 6 || eqb d 6) ≡ false) (h : Tests2 compatible c d b)
+is-name : (c : ℕ) → eqTy (tyFrom c) TName ≡ eqb c 6
+unfolding eqTy code
+is-name c = same-code c 6 (omega arith) (omega arith)
+
+module _ (s : List ℕ) (i j c d : ℕ) where
+  named : (x : Bool) → (eqb c 6 || eqb d 6) ≡ x → not (eqTy (tyFrom c) TName || eqTy (tyFrom d) TName) ≡ not x
+  named x e = rw (is-name c, is-name d, e) refl
+
+  pub names-wrong : (eqb c 6 || eqb d 6) ≡ true → JudgedIn s (equality (exprAt s i) (exprAt s j)) c d (Refused (Names i))
+  unfolding equality typedOf refusalOf
+  names-wrong e = record { judged = refuses _ 41 (span (exprAt s i)) namesText _ (named true e); valid = tt }
+
+  module _ (b x y : Bool) (n : (eqb c 6 || eqb d 6) ≡ false) (h : b ≡ compatible (tyFrom c) (tyFrom d))
       (p : x ≡ (eqb c 3 && isZeroLiteral (exprAt s j))) (q : y ≡ (eqb d 3 && isZeroLiteral (exprAt s i))) where
-    comparable : (t u : Ty) → c ≡ code t → d ≡ code u
-        → (compatible t u || (eqTy t Address && isZeroLiteral (exprAt s j)) || (eqTy u Address && isZeroLiteral (exprAt s i))) ≡ (b || x || y)
-    unfolding eqTy code
-    comparable t u k l = rw (h .tests t u k l, p, q, k, l) refl
+    comparable :
+        (compatible (tyFrom c) (tyFrom d) || (eqTy (tyFrom c) Address && isZeroLiteral (exprAt s j)) || (eqTy (tyFrom d) Address && isZeroLiteral (exprAt s i)))
+        ≡ (b || x || y)
+    comparable = rw (h, p, q, is-address c, is-address d) refl
 
     pub compared-fine : (b || x || y) ≡ true → JudgedIn s (equality (exprAt s i) (exprAt s j)) c d (Is 2)
-    unfolding equality typedOf tyFrom tyOfMark eqTy code
+    unfolding equality typedOf tyFrom tyOfMark
     compared-fine e =
         record {
-          judged = λ t u k l.
-              passes (not (eqTy t TName || eqTy u TName)) 41 (span (exprAt s i)) namesText _ _ (rw (← k, ← l, n) refl)
-              (passes _ 42 (span (exprAt s j)) (comparedText t u) _ _ (comparable t u k l ∙ e) (gives Boolean));
+          judged =
+              passes _ 41 (span (exprAt s i)) namesText _ _ (named false n)
+              (passes _ 42 (span (exprAt s j)) (comparedText (tyFrom c) (tyFrom d)) _ _ (comparable ∙ e) (gives Boolean));
           valid = (omega arith, omega arith);
         }
 
     pub compared-wrong : (b || x || y) ≡ false → JudgedIn s (equality (exprAt s i) (exprAt s j)) c d (Refused (Compared j c d))
-    unfolding equality typedOf refusalOf eqTy code
+    unfolding equality typedOf refusalOf
     compared-wrong e =
         record {
-          judged = λ t u k l.
-              passes (not (eqTy t TName || eqTy u TName)) 41 (span (exprAt s i)) namesText _ _ (rw (← k, ← l, n) refl)
-              (rw (from-code c t k, from-code d u l) (refuses _ 42 (span (exprAt s j)) (comparedText t u) _ (comparable t u k l ∙ e)));
+          judged =
+              passes _ 41 (span (exprAt s i)) namesText _ _ (named false n)
+              (refuses _ 42 (span (exprAt s j)) (comparedText (tyFrom c) (tyFrom d)) _ (comparable ∙ e));
           valid = tt;
         }
 
@@ -212,14 +223,15 @@ module _ (s : List ℕ) (a b : Expr) (c d : ℕ) (r : Typed) (o : ℕ) where
 
 -- ------------------------------------------------------------ keyed calls
 
-module _ (callee arg c : ℕ) where
-  pub amount-fine : (eqb c 1 || (eqb c 4 || eqb c 10)) ≡ true → JudgesAmount callee arg c Fine
+-- the code t of the amount's type
+module _ (callee arg c t : ℕ) (k : t ≡ code (tyFrom c)) where
+  pub amount-fine : (eqb t 1 || (eqb t 4 || eqb t 10)) ≡ true → JudgesAmount callee arg c Fine
   unfolding isTy eqTy code doneOf
-  amount-fine e = record { judged = λ s t k. fits _ 32 _ _ (rw (← k, or-false) e) }
+  amount-fine e = record { judged = λ s. fits _ 32 _ _ (rw (← k, or-false) e) }
 
-  pub amount-wrong : (eqb c 1 || (eqb c 4 || eqb c 10)) ≡ false → JudgesAmount callee arg c (Wrong (Amount callee arg))
+  pub amount-wrong : (eqb t 1 || (eqb t 4 || eqb t 10)) ≡ false → JudgesAmount callee arg c (Wrong (Amount callee arg))
   unfolding isTy eqTy code doneOf refusalOf
-  amount-wrong e = record { judged = λ s t k. misfits _ 32 _ _ (rw (← k, or-false) e) }
+  amount-wrong e = record { judged = λ s. misfits _ 32 _ _ (rw (← k, or-false) e) }
 
 -- a implies b
 implies : (a b : Bool) → (not a || b) ≡ not (a && not b)
@@ -236,46 +248,39 @@ module _ (d : ℕ) (x : Bool) where
   straight-name b e q = rw (eq-eqb d 6 e) q
 
 module _ (s : List ℕ) (env : Env) (field : ℕ) (key : Bool) (arg c d : ℕ) (b : Bool) (p : b ≡ (not (eqb d 6) || isNameParam (envOf s [] env) (exprAt s arg))) where
-  is-straight : (got : Ty) (x : Bool) → d ≡ code got → b ≡ x → (not (eqTy got TName) || isNameParam (envOf s [] env) (exprAt s arg)) ≡ x
-  unfolding eqTy code
-  is-straight got x l e = rw (← l) (sym p ∙ e)
+  is-straight : (x : Bool) → b ≡ x → (not (eqTy (tyFrom d) TName) || isNameParam (envOf s [] env) (exprAt s arg)) ≡ x
+  is-straight x e = rw (is-name d) (sym p ∙ e)
 
   pub straight-wrong : not b ≡ true → JudgesKey s env field key arg c d (Wrong (Straight field arg))
   unfolding judgeKey doneOf refusalOf
-  straight-wrong e = record { judged = λ want got k l. refuses _ 33 _ _ _ (is-straight got false l (not-true b e)) }
+  straight-wrong e = record { judged = refuses _ 33 _ _ _ (is-straight false (not-true b e)) }
 
   module _ (n : not b ≡ false) where
-    is-named : (want got : Ty) → c ≡ code want → d ≡ code got → (not (eqTy want TName) || eqTy got TName) ≡ not (eqb c 6 && not (eqb d 6))
-    unfolding eqTy code
-    is-named want got k l = rw (← k, ← l) (implies (eqb c 6) (eqb d 6))
+    is-named : (not (eqTy (tyFrom c) TName) || eqTy (tyFrom d) TName) ≡ not (eqb c 6 && not (eqb d 6))
+    is-named = rw (is-name c, is-name d) (implies (eqb c 6) (eqb d 6))
 
     pub name-wrong : (eqb c 6 && not (eqb d 6)) ≡ true → JudgesKey s env field key arg c d (Wrong (ByName field arg))
     unfolding judgeKey doneOf refusalOf
-    name-wrong e =
-        record {
-          judged = λ want got k l. passes _ 33 _ _ _ _ (is-straight got true l (not-false b n)) (refuses _ 34 _ _ _ (is-named want got k l ∙ rw e refl));
-        }
+    name-wrong e = record { judged = passes _ 33 _ _ _ _ (is-straight true (not-false b n)) (refuses _ 34 _ _ _ (is-named ∙ rw e refl)) }
 
-    module _ (x : Bool) (m : (eqb c 6 && not (eqb d 6)) ≡ false) (h : Tests2 compatible c d x) where
-      holds : (want got : Ty) → c ≡ code want → d ≡ code got → ((key && eqTy got TName) || compatible want got) ≡ ((key && eqb d 6) || x)
-      unfolding eqTy code
-      holds want got k l = rw (h .tests want got k l, l) refl
+    module _ (x : Bool) (m : (eqb c 6 && not (eqb d 6)) ≡ false) (h : x ≡ compatible (tyFrom c) (tyFrom d)) where
+      holds : ((key && eqTy (tyFrom d) TName) || compatible (tyFrom c) (tyFrom d)) ≡ ((key && eqb d 6) || x)
+      holds = rw (h, is-name d) refl
 
       pub key-fine : ((key && eqb d 6) || x) ≡ true → JudgesKey s env field key arg c d Fine
       unfolding judgeKey doneOf
       key-fine e =
           record {
-            judged = λ want got k l.
-                passes _ 33 _ _ _ _ (is-straight got true l (not-false b n))
-                (passes _ 34 _ _ _ _ (is-named want got k l ∙ rw m refl) (fits _ 35 _ _ (holds want got k l ∙ e)));
+            judged =
+                passes _ 33 _ _ _ _ (is-straight true (not-false b n))
+                (passes _ 34 _ _ _ _ (is-named ∙ rw m refl) (fits _ 35 _ _ (holds ∙ e)));
           }
 
       pub key-wrong : ((key && eqb d 6) || x) ≡ false → JudgesKey s env field key arg c d (Wrong (Holds field arg c d))
       unfolding judgeKey doneOf refusalOf
       key-wrong e =
           record {
-            judged = λ want got k l.
-                passes _ 33 _ _ _ _ (is-straight got true l (not-false b n))
-                (passes _ 34 _ _ _ _ (is-named want got k l ∙ rw m refl)
-                (rw (from-code c want k, from-code d got l) (misfits _ 35 _ _ (holds want got k l ∙ e))));
+            judged =
+                passes _ 33 _ _ _ _ (is-straight true (not-false b n))
+                (passes _ 34 _ _ _ _ (is-named ∙ rw m refl) (misfits _ 35 _ _ (holds ∙ e)));
           }

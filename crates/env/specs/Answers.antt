@@ -4,7 +4,7 @@ use mathlib.Core.Bool.{Bool, true, false}
 use mathlib.Core.List.{List, [], _∷_}
 use mathlib.Core.Path.{_≡_}
 use Rattle.rules.specs.Ast.{span}
-use Rattle.rules.specs.Asking.{Ty, Int, Asset, Unknown, code, Res, ok, refused, Rule, expect}
+use Rattle.rules.specs.Asking.{Ty, Int, Asset, Unknown, Res, ok, refused, Rule, expect}
 use Rattle.rules.specs.Declared.{isTy}
 use Rattle.rules.specs.Typing.{judgeKey, amountText}
 use Rattle.rules.specs.Standing.{exprAt, fieldAt}
@@ -34,27 +34,26 @@ abbrev pub Valid : Typed → Type 0
 Valid (Is c) = IsCode c
 Valid (Refused r) = Unit
 
--- r is what f answers to the type whose code is c, whatever the sheet
+-- r is what f answers to the type that c tells, whatever the sheet
 pub record Judged (f : List ℕ → Ty → Rule Ty) (c : ℕ) (r : Typed) : Type 0 where
-  pub judged : (s : List ℕ) (t : Ty) → c ≡ code t → Answers (f s t) (typedOf s r)
+  pub judged : (s : List ℕ) → Answers (f s (tyFrom c)) (typedOf s r)
   pub valid : Valid r
 
 pub record Judged2 (f : List ℕ → Ty → Ty → Rule Ty) (c d : ℕ) (r : Typed) : Type 0 where
-  pub judged : (s : List ℕ) (t u : Ty) → c ≡ code t → d ≡ code u → Answers (f s t u) (typedOf s r)
+  pub judged : (s : List ℕ) → Answers (f s (tyFrom c) (tyFrom d)) (typedOf s r)
   pub valid : Valid r
 
 -- ... for the sheet s
 pub record JudgedIn (s : List ℕ) (f : Ty → Ty → Rule Ty) (c d : ℕ) (r : Typed) : Type 0 where
-  pub judged : (t u : Ty) → c ≡ code t → d ≡ code u → Answers (f t u) (typedOf s r)
+  pub judged : Answers (f (tyFrom c) (tyFrom d)) (typedOf s r)
   pub valid : Valid r
 
 pub record JudgesAmount (callee arg c : ℕ) (r : Done) : Type 0 where
-  pub judged : (s : List ℕ) (t : Ty) → c ≡ code t
-      → Answers (expect (isTy t (Int ∷ Asset ∷ Unknown ∷ [])) 32 (span (exprAt s arg)) (amountText (dotAt s callee .name))) (doneOf s r)
+  pub judged : (s : List ℕ)
+      → Answers (expect (isTy (tyFrom c) (Int ∷ Asset ∷ Unknown ∷ [])) 32 (span (exprAt s arg)) (amountText (dotAt s callee .name))) (doneOf s r)
 
 pub record JudgesKey (s : List ℕ) (env : Env) (field : ℕ) (isKey : Bool) (arg c d : ℕ) (r : Done) : Type 0 where
-  pub judged : (want got : Ty) → c ≡ code want → d ≡ code got
-      → Answers (judgeKey (envOf s [] env) (fieldAt s field .name) isKey (exprAt s arg) want got) (doneOf s r)
+  pub judged : Answers (judgeKey (envOf s [] env) (fieldAt s field .name) isKey (exprAt s arg) (tyFrom c) (tyFrom d)) (doneOf s r)
 
 -- expressions stand at two lines
 pub record Operands (s S : List ℕ) (left right : ℕ) : Type 0 where

@@ -6,17 +6,20 @@ use declared::Refusal;
 use declared::compatible;
 use declared::is_zero_literal;
 use declared::numeric;
+use declared::type_code;
 ghost use mathlib.Core.Bool.{_&&_, _||_, not};
 ghost use mathlib.Core.List.{[]};
 ghost use mathlib.Core.Path.{_≡_};
 ghost use lib.Dec.{eqb};
 ghost use lib.ListN.{getD};
+ghost use Rattle.rules.specs.Asking.{code};
 ghost use Rattle.rules.specs.Ast.{binOps, Neg, Shr, unaryOps};
 ghost use Rattle.rules.specs.Declared.{isZeroLiteral};
 ghost use Rattle.rules.specs.Standing.{exprAt};
 ghost use Rattle.rules.specs.Typing.{isNameParam, judgeBinary, judgeUnary};
 ghost use Rattle.rules.specs.Typing.{arithmetic as arithmeticOf, equality as equalityOf, logical as logicalOf, ordering as orderingOf};
 ghost use Rattle.env.specs.Answers.{bothOf, Judged, Judged2, JudgedIn, JudgesAmount, JudgesKey, Operands};
+ghost use Rattle.declared.specs.Codes.{tyFrom};
 ghost use Rattle.declared.specs.Lines.{ExprAt};
 ghost use Rattle.env.specs.Force.{envOf, ExprIn};
 
@@ -25,17 +28,25 @@ pub enum Typed {
     Refused(Refusal),
 }
 
+// Whether the type is the one of a code, or Unknown.
+fn or_unknown(ty: u8, want: u8) -> bool
+    ensures { λ r. ⌜ r ≡ (eqb (code (tyFrom ty)) want || eqb (code (tyFrom ty)) 10) ⌝ }
+{
+    let t = type_code(ty);
+    (t == want) | (t == 10)
+}
+
 pub fn judge_unary(op: usize, inner: usize, ty: u8) -> Typed
     ensures { λ r. ⌜ Judged (λ s. judgeUnary (getD unaryOps op Neg) (exprAt s inner)) ty r ⌝ }
 {
     if op == 0 {
-        if (ty == 2) | (ty == 10) {
+        if or_unknown(ty, 2) {
             Typed::Is(2)
         } else {
             Typed::Refused(Refusal::Not(inner))
         }
     } else {
-        if (ty == 1) | (ty == 10) {
+        if or_unknown(ty, 1) {
             Typed::Is(1)
         } else {
             Typed::Refused(Refusal::Neg(inner))
@@ -60,8 +71,8 @@ fn logical(left: usize, right: usize, l: u8, r: u8) -> Typed
     ensures { λ a. ⌜ Judged2 (λ s. logicalOf (exprAt s left) (exprAt s right)) l r a ⌝ }
 {
     both(
-        (l == 2) | (l == 10),
-        (r == 2) | (r == 10),
+        or_unknown(l, 2),
+        or_unknown(r, 2),
         Refusal::Logical(left),
         Refusal::Logical(right),
         2,
@@ -143,7 +154,8 @@ pub fn judge_binary(
 pub fn judge_amount(callee: usize, arg: usize, got: u8) -> Done
     ensures { λ r. ⌜ JudgesAmount callee arg got r ⌝ }
 {
-    if (got == 1) | ((got == 4) | (got == 10)) {
+    let t = type_code(got);
+    if (t == 1) | ((t == 4) | (t == 10)) {
         Done::Fine
     } else {
         Done::Refused(Refusal::Amount { callee, arg })

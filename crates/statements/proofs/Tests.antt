@@ -21,7 +21,8 @@ use Rattle.rules.specs.Statements.{isSet, isAddressField, narrowField, fromDepl
 use Rattle.rules.specs.Standing.{exprAt, fieldAt, modelIn, Loaded}
 use Rattle.rules.proofs.Exprs.{is-dot-at, dot-at, ident-at}
 use Rattle.rules.proofs.Standing.{row-first}
-use Rattle.declared.specs.Codes.{Tests, Tests2}
+use Rattle.declared.proofs.Codes.{from-code}
+use Rattle.declared.specs.Codes.{tyFrom}
 use Rattle.declared.specs.Found.{foundField, FieldNamed}
 use Rattle.declared.specs.Lines.{ExprAt}
 use Rattle.declared.specs.declared.model.Found.{Found}
@@ -148,16 +149,16 @@ module _ (Γ : typing.Env) (v : Expr) (t u : Ty) where
   add-fits SubFrom e = refl
 
 module _ (s : List ℕ) (env : Env) (op i c d : ℕ) (o : Bool) (q : o ≡ isSet (opOf op)) where
-  pub fits-numbers : (x y : Bool) → not o ≡ true → Tests numeric c x → Tests numeric d y → FitsSlot s env op i c d (x && y)
+  pub fits-numbers : (x y : Bool) → not o ≡ true → x ≡ numeric (tyFrom c) → y ≡ numeric (tyFrom d) → FitsSlot s env op i c d (x && y)
   fits-numbers x y e f g =
-      record { fits = λ T t u k l. rw (add-fits (envOf s T env) (exprAt s i) t u (opOf op) (sym q ∙ not-true o e), f .tests t k, g .tests u l) refl }
+      record { fits = λ T t u k l. rw (add-fits (envOf s T env) (exprAt s i) t u (opOf op) (sym q ∙ not-true o e), f, g, from-code c t k, from-code d u l) refl }
 
-  module _ (b : Bool) (n : not o ≡ false) (h : Tests2 compatible c d b) where
+  module _ (b : Bool) (n : not o ≡ false) (h : b ≡ compatible (tyFrom c) (tyFrom d)) where
     -- what fits where the operator is `=`
     fits-set : (r : Bool) → r ≡ (b || (eqb c 9 && eqb d 10 && fromDeployParams (envOf s [] env) (exprAt s i))) → FitsSlot s env op i c d r
     unfolding fromDeployParams envOf eqTy code
     fits-set r e =
-        record { fits = λ T t u k l. e ∙ sym (set-fits (envOf s T env) (exprAt s i) t u (opOf op) (sym q ∙ not-false o n) ∙ rw (← h .tests t u k l, ← k, ← l) refl) }
+        record { fits = λ T t u k l. e ∙ sym (set-fits (envOf s T env) (exprAt s i) t u (opOf op) (sym q ∙ not-false o n) ∙ rw (h, from-code c t k, from-code d u l, ← k, ← l) refl) }
 
     pub fits-compatible : b ≡ true → FitsSlot s env op i c d true
     fits-compatible e = fits-set true (rw e refl)

@@ -37,6 +37,7 @@ use Rattle.declared.specs.declared.refusal.Refusal.{Refusal}
 use Rattle.declared.specs.declared.refusal.Done.{Done}
 use Rattle.declared.specs.declared.refusal.Done.the-variants.{Fine, Refused}
 use Rattle.declared.proofs.Tables.{or-parts}
+use Rattle.declared.proofs.Codes.{from-code}
 use Rattle.env.proofs.Lookups.{TypeBehind, behind as type-behind}
 use Rattle.env.specs.Answers.{typedOf, JudgesAmount, JudgesKey}
 use Rattle.env.specs.Calls.{wantsOf, keyedOf}
@@ -47,7 +48,7 @@ use Rattle.env.specs.declared.judge.Typed.the-variants.{Is, Refused as No}
 use Rattle.typing.specs.Asks.{calleeAt, argsAt, methodAt, amountRule, wanted, keysRule, Asks, AsksCall, AsksMethod, AsksKeys, Types, Does}
 use Rattle.typing.proofs.Asking.{types-length}
 use Rattle.typing.proofs.Onward.{Onward, onward}
-use Rattle.typing.proofs.Operators.{gave, gave-code}
+use Rattle.typing.proofs.Operators.{gave}
 use Rattle.typing.proofs.Calls.{does-length, parts, did, stopped}
 
 -- ------------------------------------------------------------ check_keyed_call
@@ -236,7 +237,7 @@ module _ (s S : List ℕ) (env : Env) (T : Table) (i : ℕ) (h : AsksMethod s S 
                 gives =
                     rw (method, not-false b n, two)
                     (then-ok (tyOf (envOf s T env) (exprAt s arg)) _ T U (tyFrom c) _ (gave s _ T a U k c e)
-                    (rw dot-name at (j .judged s (tyFrom c) (gave-code s _ T a U k c e) .answers U)));
+                    (rw dot-name at (j .judged s .answers U)));
               }
 
 -- ------------------------------------------------------------ check_keys
@@ -336,8 +337,7 @@ module _ (s S : List ℕ) (env : Env) (T : Table) (field index wants left at : �
 
         judged : kept judge U ≡ record { res = doneOf s d; table = U }
         unfolding judgeKey isNameParam envOf
-        judged =
-            j .judged (declaredArg (fieldAt s field .ty) index) (tyFrom c) (rw (type-at .field, ← add-one field) w) (gave-code s _ T a U k c e) .answers U
+        judged = rw (← from-code want (declaredArg (fieldAt s field .ty) index) (rw (type-at .field, ← add-one field) w)) (j .judged .answers U)
 
         -- the first argument was typed: it is judged, then the others
         went : (o : Kept Unit) → kept (judge >>= λ _. others) U ≡ o → kept (keysRule Γ (fieldAt s field) index wants (exprsAt s left at)) T ≡ o

@@ -60,7 +60,7 @@ module _ (s S : List ℕ) (env : Env) (T : Table) (i : ℕ) (h : AsksAt 28 s S e
           gives =
               rw (un .0, ← q, ← add-one i)
               (then-ok (tyOf (envOf s T env) (exprAt s (i + 1))) (judgeUnary (getD unaryOps o Neg) (exprAt s (i + 1))) T U (tyFrom c) _ (gave s _ T a U k c e)
-              (j .judged s (tyFrom c) (gave-code s _ T a U k c e) .answers U));
+              (j .judged s .answers U));
           valid = j .valid;
         }
 
@@ -109,7 +109,7 @@ module _ (s S : List ℕ) (env : Env) (T : Table) (i : ℕ) (h : AsksAt 29 s S e
                   rw (bin .0, ← q, ← right, ← add-one i)
                   (then-ok (tyOf (envOf s T env) (exprAt s (i + 1))) _ T U (tyFrom c) _ (gave s _ T a U k c e)
                   (then-ok (tyOf (envOf s T env) (exprAt s m)) _ U W (tyFrom d) _ (gave s _ U b W second d f)
-                  (j .judged (tyFrom c) (tyFrom d) (gave-code s _ T a U k c e) (gave-code s _ U b W second d f) .answers W)));
+                  (j .judged .answers W)));
               valid = j .valid;
             }
 

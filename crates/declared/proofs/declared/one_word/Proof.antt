@@ -1,5 +1,6 @@
 use mathlib.Core.Bool.{or-false}
 use mathlib.Core.Path.{refl}
+use borrow.Author.Needs.{needs}
 use Rattle.rules.specs.Asking.{code}
 use Rattle.rules.specs.Declared.{oneWord, isTy, eqTy}
 use Rattle.declared.proofs.declared.one_word.Statement.{statement}
@@ -7,7 +8,7 @@ use Rattle.declared.proofs.declared.one_word.Tie as tie
 
 returns : tie.Need-returns
 unfolding oneWord isTy eqTy code
-returns c = record { tests = λ t e. rw (e, or-false) refl }
+returns c = rw (c .type-code .ensures, or-false) refl
 
 pub one-word-spec : {M : Type 1} → statement M
-one-word-spec = tie.close (tie.spec returns)
+one-word-spec = tie.close (tie.spec (λ c κs. search needs) returns)
