@@ -3,11 +3,12 @@ use Prim.Native.Nat.{ℕ}
 use mathlib.Core.List.{List}
 use mathlib.Core.Option.{Option, none, some}
 use mathlib.Core.Path.{_≡_}
-use Rattle.rules.specs.Text.{Name}
+use Rattle.sheet.specs.Scratch.{entry}
+use Rattle.rules.specs.Text.{Name, firstNamed}
 use Rattle.rules.specs.Ast.{Event}
 use Rattle.rules.specs.Model.{eventNamed}
-use Rattle.rules.specs.Standing.{eventAt, modelIn}
-use Rattle.declared.specs.Found.{Of}
+use Rattle.rules.specs.Standing.{nodeName, nodesAt, eventAt, modelIn}
+use Rattle.declared.specs.Found.{ofKind, foundNode, Of}
 use Rattle.declared.specs.declared.model.Found.{Found}
 use Rattle.declared.specs.declared.model.Found.the-variants.{At, Nothing}
 
@@ -15,7 +16,8 @@ unfoldable pub foundEvent : List ℕ → Found → Option Event
 foundEvent s (At i) = some (eventAt s i)
 foundEvent s Nothing = none
 
--- r is the first event of the name x
+-- r is the first event of the name x, and its line is that of the record
 pub record EventNamed (s S : List ℕ) (x : Name) (r : Found) : Type 0 where
   pub found : foundEvent s r ≡ eventNamed (modelIn s) x
+  pub node : foundNode s r ≡ firstNamed nodeName x (ofKind 2 (nodesAt s (entry S 0 5) 1))
   pub kind : Of S 2 r

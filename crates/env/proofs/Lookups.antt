@@ -39,7 +39,7 @@ use Rattle.declared.proofs.Codes.{code-of}
 use Rattle.declared.proofs.Fields.{last-map, all-kind, param-name}
 use Rattle.declared.proofs.Types.{type-name}
 pub use Rattle.declared.proofs.Behind.{TypeBehind, behind, found-typed, found-next}
-use Rattle.env.specs.Force.{paramsIn, localOf, lets, envOf, markOf, InForce, ExprIn, Ready, LetTyped, LetsTyped, no-let, a-let, fieldTy, FieldFound, KeyedFound}
+use Rattle.env.specs.Force.{paramsIn, localOf, lets, envOf, markOf, InForce, ExprIn, Ready, LetTyped, LetsTyped, no-let, a-let, fieldTy, fieldNode, keyedNode, FieldFound, KeyedFound}
 use Rattle.env.specs.declared.env.Env.{Env}
 
 -- ------------------------------------------------------------ what a map has
@@ -180,8 +180,8 @@ module _ (s S : List ℕ) (env : Env) (i : ℕ) (h : ExprIn s S env i) (k : ℕ)
   no-name n = rw (isNameParam, no-ident n) refl
 
   pub no-state : k ≢ 21 → FieldFound s S env i Nothing
-  unfolding typing.fieldOf foundField
-  no-state n = record { found = rw (typing.fieldOf, no-ident n) refl; kind = tt }
+  unfolding typing.fieldOf fieldNode foundField foundNode
+  no-state n = record { found = rw (typing.fieldOf, no-ident n) refl; node = rw (fieldNode, no-ident n) refl; kind = tt }
 
   module _ (q : k ≡ 21) (x : Name) (n : x ≡ nameAt s S i) (ty : ℕ) (p : ty ≡ markOf (get x (paramsIn s env))) where
     the-ident : identOf (exprAt s i) ≡ some x
@@ -196,15 +196,16 @@ module _ (s S : List ℕ) (env : Env) (i : ℕ) (h : ExprIn s S env i) (k : ℕ)
         go (some t) = refl
 
     pub hidden : ty ≢ 0 → FieldFound s S env i Nothing
-    unfolding typing.fieldOf envOf foundField
+    unfolding typing.fieldOf fieldNode envOf foundField foundNode
     hidden z =
         let o = marked (get x (paramsIn s env)) (rw (← p) z) in
-        record { found = rw (typing.fieldOf, the-ident, o .1) refl; kind = tt }
+        record { found = rw (typing.fieldOf, the-ident, o .1) refl; node = rw (fieldNode, the-ident, o .1) refl; kind = tt }
 
     pub field-found : (r : Found) → ty ≡ 0 → FieldNamed s S x r → FieldFound s S env i r
-    unfolding typing.fieldOf envOf
+    unfolding typing.fieldOf fieldNode envOf
     field-found r z f =
-        record { found = f .found ∙ rw (typing.fieldOf, the-ident, unmarked (get x (paramsIn s env)) (sym p ∙ z)) refl; kind = f .kind }
+        let o = unmarked (get x (paramsIn s env)) (sym p ∙ z) in
+        record { found = f .found ∙ rw (typing.fieldOf, the-ident, o) refl; node = f .node ∙ rw (fieldNode, the-ident, o) refl; kind = f .kind }
 
 -- ------------------------------------------------------------ fields by their type
 
@@ -220,8 +221,8 @@ either-word x v w = go (is x v) (is x w)
 
 module _ (s S : List ℕ) (env : Env) (i : ℕ) (h : ExprIn s S env i) (r : Found) (f : FieldFound s S env i r) where
   pub nothing-keyed : r ≡ Nothing → KeyedFound s S env i Nothing
-  unfolding keyedField foundField
-  nothing-keyed e = record { found = rw (keyedField, ← f .found, e) refl; kind = tt }
+  unfolding keyedField keyedNode foundField foundNode
+  nothing-keyed e = record { found = rw (keyedField, ← f .found, e) refl; node = rw (keyedNode, ← f .node, e) refl; kind = tt }
 
   pub no-pool : r ≡ Nothing → false ≡ isPool (envOf s [] env) (exprAt s i)
   unfolding isPool foundField
@@ -243,9 +244,10 @@ module _ (s S : List ℕ) (env : Env) (i : ℕ) (h : ExprIn s S env i) (r : Foun
       which = rw (the-type, either-word y "Map" "Registry", v, w) refl
 
       pub keyed : (b || c) ≡ true → KeyedFound s S env i (At j)
-      unfolding keyedField foundField
-      keyed q = record { found = rw (keyedField, ← f .found, e, which, q) refl; kind = rw e at (f .kind) }
+      unfolding keyedField keyedNode foundField foundNode fieldAt
+      keyed q =
+          record { found = rw (keyedField, ← f .found, e, which, q) refl; node = rw (keyedNode, ← f .node, e, which, q) refl; kind = rw e at (f .kind) }
 
       pub unkeyed : (b || c) ≡ false → KeyedFound s S env i Nothing
-      unfolding keyedField foundField
-      unkeyed q = record { found = rw (keyedField, ← f .found, e, which, q) refl; kind = tt }
+      unfolding keyedField keyedNode foundField foundNode fieldAt
+      unkeyed q = record { found = rw (keyedField, ← f .found, e, which, q) refl; node = rw (keyedNode, ← f .node, e, which, q) refl; kind = tt }

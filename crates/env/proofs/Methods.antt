@@ -28,17 +28,18 @@ use Rattle.rules.proofs.Exprs.{dot-at, ident-at, is-dot-at}
 use Rattle.rules.proofs.Parts.{stop, _also_, pick}
 use Rattle.rules.proofs.Standing.{row-first}
 use Rattle.declared.specs.Answers.{Answers}
-use Rattle.declared.specs.Found.{foundField}
+use Rattle.declared.specs.Found.{foundNode, foundField}
 use Rattle.declared.specs.Lines.{Typed, ExprAt}
 use Rattle.declared.specs.Refusal.{dotAt, refusalOf, doneOf}
 use Rattle.declared.specs.declared.model.Found.{Found}
 use Rattle.declared.specs.declared.model.Found.the-variants.{At, Nothing}
 use Rattle.declared.specs.declared.refusal.Refusal.the-variants.{Receiver, KeyedOp}
+use Rattle.declared.specs.declared.refusal.Done.{Done}
 use Rattle.declared.specs.declared.refusal.Done.the-variants.{Fine, Refused}
 use Rattle.declared.proofs.Answers.{gives, fits, misfits}
 use Rattle.declared.proofs.Tables.{one-place, wordsIn, valuesIn, place-most, pick-place}
 use Rattle.declared.proofs.Types.{type-name}
-use Rattle.env.specs.Calls.{dotCodes, methodCodes, wantsOf, keyedOf, KeyedOf, Callee, JudgesOp, TypesCall, getTy, methodTy}
+use Rattle.env.specs.Calls.{dotCodes, methodCodes, wantsOf, keyedOf, keyedRecord, KeyedOf, Callee, opRule, getTy, methodTy, callTy}
 use Rattle.env.specs.Force.{envOf, ExprIn, KeyedFound}
 use Rattle.env.specs.declared.env.Env.{Env}
 use Rattle.env.proofs.Lookups.{behind, either-word}
@@ -120,12 +121,17 @@ module _ (s S : List ℕ) (env : Env) (i : ℕ) (h : ExprIn s S env i) (k : ℕ)
       (record { force = h .force; here = row-first (dot-at (h .force .loaded) (h .here) (sym e ∙ q) .1) })
 
   pub uses-none : k ≢ 30 → KeyedOf s S env i Nothing
-  unfolding keyedOf foundField
-  uses-none n = record { found = rw (keyedOf, none-here n) refl; kind = tt }
+  unfolding keyedOf keyedRecord foundField foundNode
+  uses-none n = record { found = rw (keyedOf, none-here n) refl; node = rw (keyedRecord, ← e, ne-eqb k 30 n) refl; kind = tt }
 
   pub uses : (r : Found) → k ≡ 30 → KeyedFound s S env (i + 1) r → KeyedOf s S env i r
-  unfolding keyedOf
-  uses r q f = record { found = f .found ∙ rw (keyedOf, dot-here q, add-one i) refl; kind = f .kind }
+  unfolding keyedOf keyedRecord
+  uses r q f =
+      record {
+        found = f .found ∙ rw (keyedOf, dot-here q, add-one i) refl;
+        node = f .node ∙ rw (keyedRecord, ← e, eq-eqb k 30 q, add-one i) refl;
+        kind = f .kind;
+      }
 
   pub no-receiver : k ≢ 30 → Answers (expectAssetReceiver (envOf s [] env) (exprAt s i)) (doneOf s Fine)
   unfolding expectAssetReceiver ifSome doneOf
@@ -212,64 +218,71 @@ methods = "contains split get "
 abbrev methodTypes : Ty → List (String × Ty)
 methodTypes g = ("contains", Boolean) ∷ ("split", Asset) ∷ ("get", g) ∷ []
 
-module _ (s S : List ℕ) (i : ℕ) (h : ExprAt s S i) where
-  -- where it uses a field, it is a dot on it
-  uses-field : (Γ : typing.Env) (f : Field) → some f ≡ keyedOf Γ (exprAt s i)
-      → (dotOf (exprAt s i) ≡ some (theDot s S i)) × (keyedField Γ (exprAt s (suc i)) ≡ some f)
-  unfolding keyedOf
-  uses-field Γ f = go (eqb (kindAt S i) 30) (is-dot-at (h .loaded) (h .here))
+-- the rules of a callee that uses o
+module _ (Γ : typing.Env) (e : Expr) (o : Option Field) (g : o ≡ keyedOf Γ e) where
+  pub uses-op : opRule o e ≡ expectKeyedOp Γ e
+  unfolding keyedOf opRule expectKeyedOp ifSome
+  uses-op = go (dotOf e) g
     where
-      go : (b : Bool) → dotOf (exprAt s i) ≡ cond b (some (theDot s S i)) none → some f ≡ keyedOf Γ (exprAt s i)
-          → (dotOf (exprAt s i) ≡ some (theDot s S i)) × (keyedField Γ (exprAt s (suc i)) ≡ some f)
-      go true e g = (e, sym (rw (keyedOf, e) at g))
-      go false e g = let n : _≡_ {A = Option Field} (some f) none = rw (keyedOf, e) at g in absurd (let z : _≡_ {A = ℕ} 0 1 = cc in omega arith)
+      go : (x : Option Dot) → o ≡ elim x [ none ↦ none | some d ↦ keyedField Γ (d .base) ]
+          → ifSome x (λ d. ifSome o (λ f. expect (keyedOpFits (f .ty) (d .name)) 31 (d .nspan) (keyedOpText (d .name) f)))
+          ≡ ifSome x (λ d. ifSome (keyedField Γ (d .base)) (λ f. expect (keyedOpFits (f .ty) (d .name)) 31 (d .nspan) (keyedOpText (d .name) f)))
+      go none q = refl
+      go (some d) q = rw q refl
 
--- where it uses none, no rule applies
-uses-nothing : (Γ : typing.Env) (e : Expr) → none ≡ keyedOf Γ e → Answers (expectKeyedOp Γ e) (ok tt)
-unfolding keyedOf expectKeyedOp ifSome
-uses-nothing Γ e g = go (dotOf e) g
-  where
-    go : (o : Option Dot) → _≡_ {A = Option Field} none (elim o [ none ↦ none | some d ↦ keyedField Γ (d .base) ])
-        → Answers (ifSome o (λ d. ifSome (keyedField Γ (d .base)) (λ f. expect (keyedOpFits (f .ty) (d .name)) 31 (d .nspan) (keyedOpText (d .name) f)))) (ok tt)
-    go none q = gives tt
-    go (some d) q = rw (← q) (gives tt)
+  pub uses-type : callTy o e ≡ tyOfCall Γ e
+  unfolding keyedOf callTy methodTy tyOfCall
+  uses-type = go (dotOf e) refl
+    where
+      go : (x : Option Dot) → dotOf e ≡ x → callTy o e ≡ tyOfCall Γ e
+      go none q = rw (callTy, tyOfCall, q) refl
+      go (some d) q = let u = rw (keyedOf, q) at g in rw (callTy, tyOfCall, q, u) refl
 
 module _ (s S : List ℕ) (i : ℕ) (keyed : Found) (h : Callee s S i keyed) where
-  pub no-op : keyed ≡ Nothing → JudgesOp s i keyed Fine
-  unfolding foundField doneOf
-  no-op e = record { judged = λ Γ g. uses-nothing Γ (exprAt s i) (rw e at g) }
+  its-type : (f : ℕ) → keyed ≡ At f → fieldAt s f .ty ≡ typeAt s (suc f)
+  its-type f e = behind 6 s S (h .expr .loaded) keyed f e (h .kind) (omega arith) (omega arith) .field
 
-  module _ (f : ℕ) (e : keyed ≡ At f) where
-    its-type : fieldAt s f .ty ≡ typeAt s (suc f)
-    its-type = behind 6 s S (h .expr .loaded) keyed f e (h .kind) (omega arith) (omega arith) .field
+  abbrev Judges : Done → Type 0
+  Judges r = Answers (opRule (foundField s keyed) (exprAt s i)) (doneOf s r)
 
-    module _ (x : Name) (n : x ≡ nameAt s S i) (b : Bool) (w : b ≡ keyedOpFits (typeAt s (f + 1)) x) where
-      op : (Γ : typing.Env) → foundField s keyed ≡ keyedOf Γ (exprAt s i)
-          → expectKeyedOp Γ (exprAt s i) ≡ expect b 31 (dotAt s i .nspan) (keyedOpText (dotAt s i .name) (fieldAt s f))
-      unfolding expectKeyedOp ifSome foundField
-      op Γ g =
-          let u = uses-field s S i (h .expr) Γ (fieldAt s f) (rw e at g) in
-          let v : keyedOpFits (fieldAt s f .ty) (nameAt s S i) ≡ b = sym (w ∙ rw (its-type, n, add-one f) refl) in
-          rw (expectKeyedOp, u .0, u .1, dot-told s i (theDot s S i) (u .0), v) refl
+  module _ (k : ℕ) (q : k ≡ kindAt S i) where
+    pub op-nowhere : k ≢ 30 → Judges Fine
+    unfolding opRule ifSome doneOf
+    op-nowhere z = rw (opRule, not-dot (h .expr .loaded) (h .expr .here) q z) (gives tt)
 
-      pub good-op : b ≡ true → JudgesOp s i keyed Fine
-      unfolding doneOf
-      good-op t = record { judged = λ Γ g. rw (op Γ g) (fits b 31 _ _ t) }
+    module _ (z : k ≡ 30) where
+      here : dotOf (exprAt s i) ≡ some (theDot s S i)
+      here = is-dot (h .expr .loaded) (h .expr .here) q z
 
-      pub bad-op : b ≡ false → JudgesOp s i keyed (Refused (KeyedOp i f))
-      unfolding doneOf refusalOf
-      bad-op t = record { judged = λ Γ g. rw (op Γ g) (misfits b 31 _ _ t) }
+      pub no-op : keyed ≡ Nothing → Judges Fine
+      unfolding opRule ifSome foundField doneOf
+      no-op e = rw (opRule, here, e) (gives tt)
+
+      module _ (f : ℕ) (e : keyed ≡ At f) (x : Name) (n : x ≡ nameAt s S i) (b : Bool) (w : b ≡ keyedOpFits (typeAt s (f + 1)) x) where
+        op : opRule (foundField s keyed) (exprAt s i) ≡ expect b 31 (dotAt s i .nspan) (keyedOpText (dotAt s i .name) (fieldAt s f))
+        unfolding opRule ifSome foundField
+        op =
+            let v : keyedOpFits (fieldAt s f .ty) (nameAt s S i) ≡ b = sym (w ∙ rw (its-type f e, n, add-one f) refl) in
+            rw (opRule, here, e, dot-told s i (theDot s S i) here, v) refl
+
+        pub good-op : b ≡ true → Judges Fine
+        unfolding doneOf
+        good-op t = rw op (fits b 31 _ _ t)
+
+        pub bad-op : b ≡ false → Judges (Refused (KeyedOp i f))
+        unfolding doneOf refusalOf
+        bad-op t = rw op (misfits b 31 _ _ t)
 
   module _ (x : Name) (n : x ≡ nameAt s S i) (p : ℕ) (e : p ≡ place x (split (bytes methods))) where
     pub method-most : p < 4
     unfolding split ended
     method-most = omega (arith, place-most x (wordsIn (methodTypes Int)))
 
-    of-place : (g : Ty) → g ≡ tyOfGet (foundField s keyed) → methodTy s (nameAt s S i) keyed ≡ getD (valuesIn (methodTypes g)) p Unknown
+    of-place : (g : Ty) → g ≡ tyOfGet (foundField s keyed) → methodTy (nameAt s S i) (foundField s keyed) ≡ getD (valuesIn (methodTypes g)) p Unknown
     unfolding methodTy split ended
     of-place g q = rw (← n, ← q, e) (pick-place x (methodTypes g) Unknown)
 
-    pub by-method : (r : ℕ) → p ≢ 2 → r ≡ getD methodCodes p 0 → r ≡ code (methodTy s (nameAt s S i) keyed)
+    pub by-method : (r : ℕ) → p ≢ 2 → r ≡ getD methodCodes p 0 → r ≡ code (methodTy (nameAt s S i) (foundField s keyed))
     unfolding code
     by-method r z f =
         let g = tyOfGet (foundField s keyed) in
@@ -278,23 +291,21 @@ module _ (s S : List ℕ) (i : ℕ) (keyed : Found) (h : Callee s S i keyed) whe
         (pick {P = λ p. p ≢ 2 → getD methodCodes p 0 ≡ code (getD (valuesIn (methodTypes g)) p Unknown)} {i = 0} {n = 4} p
         ((λ _. refl) also (λ _. refl) also (λ y. absurd (y refl)) also (λ _. refl) also stop) (omega arith) method-most z)
 
-    pub by-get : (f r : ℕ) → p ≡ 2 → keyed ≡ At f → r ≡ code (getTy (typeAt s (f + 1))) → r ≡ code (methodTy s (nameAt s S i) keyed)
+    pub by-get : (f r : ℕ) → p ≡ 2 → keyed ≡ At f → r ≡ code (getTy (typeAt s (f + 1))) → r ≡ code (methodTy (nameAt s S i) (foundField s keyed))
     unfolding tyOfGet foundField getTy
     by-get f r z k q =
         let g : getTy (typeAt s (f + 1)) ≡ tyOfGet (foundField s keyed) =
         rw (add-one f, k, its-type f k) refl in
         q ∙ rw (of-place (getTy (typeAt s (f + 1))) g, z) refl
 
-    pub no-get : p ≡ 2 → keyed ≡ Nothing → 1 ≡ code (methodTy s (nameAt s S i) keyed)
+    pub no-get : p ≡ 2 → keyed ≡ Nothing → 1 ≡ code (methodTy (nameAt s S i) (foundField s keyed))
     unfolding tyOfGet foundField code
     no-get z k = rw (of-place Int (rw k refl), z) refl
 
   module _ (k : ℕ) (e : k ≡ kindAt S i) where
-    pub typed-method : (r : ℕ) → k ≡ 30 → r ≡ code (methodTy s (nameAt s S i) keyed) → TypesCall s i keyed r
-    unfolding tyOfCall keyedOf methodTy
-    typed-method r q f =
-        let d = is-dot (h .expr .loaded) (h .expr .here) e q in
-        record { typed = λ Γ g. let u = rw (keyedOf, d) at g in f ∙ rw (tyOfCall, d, u) refl }
+    pub typed-method : (r : ℕ) → k ≡ 30 → r ≡ code (methodTy (nameAt s S i) (foundField s keyed)) → r ≡ code (callTy (foundField s keyed) (exprAt s i))
+    unfolding callTy
+    typed-method r q f = f ∙ rw (callTy, is-dot (h .expr .loaded) (h .expr .here) e q) refl
 
     module _ (q : k ≢ 30) (x : Name) (n : x ≡ nameAt s S i) (b : Bool) (w : b ≡ same x (bytes "mint")) where
       mints : identIs (exprAt s i) "mint" ≡ (eqb k 21 && b)
@@ -305,10 +316,10 @@ module _ (s S : List ℕ) (i : ℕ) (keyed : Found) (h : Callee s S i keyed) whe
           go true = refl
           go false = refl
 
-      pub minted : (eqb k 21 && b) ≡ true → TypesCall s i keyed 4
-      unfolding tyOfCall code
-      minted t = record { typed = λ Γ g. rw (tyOfCall, not-dot (h .expr .loaded) (h .expr .here) e q, mints, t) refl }
+      pub minted : (eqb k 21 && b) ≡ true → 4 ≡ code (callTy (foundField s keyed) (exprAt s i))
+      unfolding callTy code
+      minted t = rw (callTy, not-dot (h .expr .loaded) (h .expr .here) e q, mints, t) refl
 
-      pub not-minted : (eqb k 21 && b) ≡ false → TypesCall s i keyed 10
-      unfolding tyOfCall code
-      not-minted t = record { typed = λ Γ g. rw (tyOfCall, not-dot (h .expr .loaded) (h .expr .here) e q, mints, t) refl }
+      pub not-minted : (eqb k 21 && b) ≡ false → 10 ≡ code (callTy (foundField s keyed) (exprAt s i))
+      unfolding callTy code
+      not-minted t = rw (callTy, not-dot (h .expr .loaded) (h .expr .here) e q, mints, t) refl

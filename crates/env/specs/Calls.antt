@@ -1,23 +1,23 @@
 -- What a call's callee tells.
-use Prim.Native.Nat.{ℕ}
-use mathlib.Core.Bool.{true, false, not, _&&_}
+use Prim.Native.Nat.{ℕ, suc}
+use mathlib.Core.Bool.{true, false, cond, not, _&&_}
 use mathlib.Core.List.{List, [], _∷_}
 use mathlib.Core.Option.{Option, none, some}
 use mathlib.Core.Path.{_≡_}
+use lib.Dec.{eqb}
+use Rattle.sheet.specs.Scratch.{kindAt}
+use Rattle.sheet.specs.Tree.{Node}
 use Rattle.rules.specs.Text.{Name, is, isOne, pick}
 use Rattle.rules.specs.Ast.{Type', Expr, Field, typeName}
-use Rattle.rules.specs.Asking.{Ty, Int, Boolean, Asset, Time, Unknown, code}
+use Rattle.rules.specs.Asking.{Ty, Int, Boolean, Asset, Time, Unknown, Rule, expect, ifSome}
 use Rattle.rules.specs.Declared.{declaredArg, isTy}
 use Rattle.rules.specs.Typing as typing
-use Rattle.rules.specs.Typing.{dotOf, keyedField, expectKeyedOp, tyOfGet, tyOfCall}
+use Rattle.rules.specs.Typing.{dotOf, identIs, keyedField, keyedOpFits, keyedOpText, tyOfGet}
 use Rattle.rules.specs.Standing.{exprAt}
-use Rattle.declared.specs.Answers.{Answers}
-use Rattle.declared.specs.Found.{foundField, Of}
+use Rattle.declared.specs.Found.{foundNode, foundField, Of}
 use Rattle.declared.specs.Lines.{ExprAt}
-use Rattle.declared.specs.Refusal.{doneOf}
 use Rattle.declared.specs.declared.model.Found.{Found}
-use Rattle.declared.specs.declared.refusal.Done.{Done}
-use Rattle.env.specs.Force.{envOf}
+use Rattle.env.specs.Force.{envOf, keyedNode}
 use Rattle.env.specs.declared.env.Env.{Env}
 
 -- the codes of a dot's type by the place of its name in the code's table, and of any other name
@@ -41,8 +41,13 @@ wantsOf method =
 unfoldable pub keyedOf : typing.Env → Expr → Option Field
 keyedOf Γ callee = elim (dotOf callee) [ none ↦ none | some d ↦ keyedField Γ (d .base) ]
 
+-- ... and its record
+unfoldable pub keyedRecord : List ℕ → List ℕ → Env → ℕ → Option Node
+keyedRecord s S env callee = cond (eqb (kindAt S callee) 30) (keyedNode s S env (suc callee)) none
+
 pub record KeyedOf (s S : List ℕ) (env : Env) (callee : ℕ) (r : Found) : Type 0 where
   pub found : foundField s r ≡ keyedOf (envOf s [] env) (exprAt s callee)
+  pub node : foundNode s r ≡ keyedRecord s S env callee
   pub kind : Of S 6 r
 
 -- a callee stands at a line, and `keyed` is a field or nothing
@@ -50,17 +55,22 @@ pub record Callee (s S : List ℕ) (callee : ℕ) (keyed : Found) : Type 0 where
   pub expr : ExprAt s S callee
   pub kind : Of S 6 keyed
 
--- r is the rule's answer wherever `keyed` is what the callee uses
-pub record JudgesOp (s : List ℕ) (callee : ℕ) (keyed : Found) (r : Done) : Type 0 where
-  pub judged : (Γ : typing.Env) → foundField s keyed ≡ keyedOf Γ (exprAt s callee) → Answers (expectKeyedOp Γ (exprAt s callee)) (doneOf s r)
-
-pub record TypesCall (s : List ℕ) (callee : ℕ) (keyed : Found) (r : ℕ) : Type 0 where
-  pub typed : (Γ : typing.Env) → foundField s keyed ≡ keyedOf Γ (exprAt s callee) → r ≡ code (tyOfCall Γ (exprAt s callee))
+-- `expectKeyedOp` of a callee that uses this Map or Registry, if any
+unfoldable pub opRule : Option Field → Expr → Rule Unit
+opRule keyed callee =
+    ifSome (dotOf callee) λ d.
+    ifSome keyed λ f.
+    expect (keyedOpFits (f .ty) (d .name)) 31 (d .nspan) (keyedOpText (d .name) f)
 
 -- the type that `get` gives on a Map or Registry
 unfoldable pub getTy : Type' → Ty
 getTy ty = elim (is (typeName ty) "Map" && not (isTy (declaredArg ty 1) (Unknown ∷ Time ∷ []))) [ true ↦ declaredArg ty 1 | false ↦ Int ]
 
 -- the type of a call by its method
-unfoldable pub methodTy : List ℕ → Name → Found → Ty
-methodTy s method keyed = pick method (("contains", Boolean) ∷ ("split", Asset) ∷ ("get", tyOfGet (foundField s keyed)) ∷ []) Unknown
+unfoldable pub methodTy : Name → Option Field → Ty
+methodTy method keyed = pick method (("contains", Boolean) ∷ ("split", Asset) ∷ ("get", tyOfGet keyed) ∷ []) Unknown
+
+-- `tyOfCall` of a callee that uses this Map or Registry, if any
+unfoldable pub callTy : Option Field → Expr → Ty
+callTy keyed callee =
+    elim (dotOf callee) [ some d ↦ methodTy (d .name) keyed | none ↦ elim (identIs callee "mint") [ true ↦ Asset | false ↦ Unknown ] ]

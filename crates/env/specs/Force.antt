@@ -6,9 +6,10 @@ use mathlib.Core.Option.{Option, none, some}
 use mathlib.Core.Path.{_≡_}
 use lib.ListN.{length, getD}
 use Rattle.sheet.specs.Grammar as grammar
+use Rattle.sheet.specs.Scratch.{entry}
 use Rattle.sheet.specs.Tree.{Node, node}
-use Rattle.rules.specs.Text.{Name, is}
-use Rattle.rules.specs.Ast.{paramOf}
+use Rattle.rules.specs.Text.{Name, is, isOne, get, lastNamed}
+use Rattle.rules.specs.Ast.{fieldOf, paramOf, typeName}
 use Rattle.rules.specs.Asking.{Ty, Address, Unknown, code}
 use Rattle.rules.specs.Kept.{Table}
 use Rattle.rules.specs.Declared.{tyOfDecl}
@@ -17,7 +18,7 @@ use Rattle.rules.specs.Typing as typing
 use Rattle.rules.specs.Check.{paramTypes}
 use Rattle.rules.specs.Standing.{nodeName, nodesAt, exprAt, modelIn, Loaded, Here, Row}
 use Rattle.declared.specs.Codes.{IsCode, tyFrom}
-use Rattle.declared.specs.Found.{ofKind, foundField, Of}
+use Rattle.declared.specs.Found.{ofKind, allFields, foundNode, foundField, Of}
 use Rattle.declared.specs.declared.model.Found.{Found}
 use Rattle.env.specs.declared.env.Env.{Env}
 
@@ -85,11 +86,29 @@ unfoldable pub fieldTy : List ℕ → Name → Ty
 fieldTy s x =
     elim (fieldNamed (modelIn s) x) [ some f ↦ tyOfDecl (f .ty) | none ↦ elim (is x "deployer") [ true ↦ Address | false ↦ Unknown ] ]
 
+-- the record of the state field that the bare name at line i means
+unfoldable pub fieldNode : List ℕ → List ℕ → Env → ℕ → Option Node
+fieldNode s S env i =
+    elim (typing.identOf (exprAt s i)) [
+      | none ↦ none
+      | some x ↦ elim (get x (paramsIn s env)) [ some t ↦ none | none ↦ lastNamed nodeName x (allFields (nodesAt s (entry S 0 5) 1)) ]
+    ]
+
+-- ... where it is a Map or Registry
+unfoldable pub keyedNode : List ℕ → List ℕ → Env → ℕ → Option Node
+keyedNode s S env i =
+    elim (fieldNode s S env i) [
+      | none ↦ none
+      | some t ↦ elim (isOne (typeName (fieldOf t .ty)) ("Map" ∷ "Registry" ∷ [])) [ true ↦ some t | false ↦ none ]
+    ]
+
 -- No local changes these, so the table is left out.
 pub record FieldFound (s S : List ℕ) (env : Env) (i : ℕ) (r : Found) : Type 0 where
   pub found : foundField s r ≡ typing.fieldOf (envOf s [] env) (exprAt s i)
+  pub node : foundNode s r ≡ fieldNode s S env i
   pub kind : Of S 6 r
 
 pub record KeyedFound (s S : List ℕ) (env : Env) (i : ℕ) (r : Found) : Type 0 where
   pub found : foundField s r ≡ typing.keyedField (envOf s [] env) (exprAt s i)
+  pub node : foundNode s r ≡ keyedNode s S env i
   pub kind : Of S 6 r

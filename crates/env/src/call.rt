@@ -20,9 +20,10 @@ ghost use Rattle.rules.specs.Text.{isOne};
 ghost use Rattle.rules.specs.Typing.{expectAssetReceiver, keyedOpFits, tyOfDot};
 ghost use Rattle.sheet.specs.Scratch.{nameAt};
 ghost use Rattle.declared.specs.Answers.{Answers};
+ghost use Rattle.declared.specs.Found.{foundField};
 ghost use Rattle.declared.specs.Lines.{Typed};
 ghost use Rattle.declared.specs.Refusal.{doneOf};
-ghost use Rattle.env.specs.Calls.{Callee, dotCodes, getTy, JudgesOp, KeyedOf, methodCodes, methodTy, TypesCall, wantsOf};
+ghost use Rattle.env.specs.Calls.{Callee, callTy, dotCodes, getTy, KeyedOf, methodCodes, methodTy, opRule, wantsOf};
 ghost use Rattle.env.specs.Force.{envOf, ExprIn};
 
 // The type of a dot with this name.
@@ -108,8 +109,11 @@ fn keyed_op_fits(sheet: &[u8], lines: &[u16], ty: usize, method: &[u8]) -> bool
 // `expect_keyed_op`: the Map or Registry that the callee uses, if any, has the method.
 pub fn expect_keyed_op(sheet: &[u8], lines: &[u16], callee: usize, keyed: Found) -> Done
     requires { ⌜ Callee (now sheet) (now lines) callee keyed ⌝ }
-    ensures { λ r. ⌜ JudgesOp (now (sheet .entry)) callee keyed r ⌝ }
+    ensures { λ r. ⌜ Answers (opRule (foundField (now (sheet .entry)) keyed) (exprAt (now (sheet .entry)) callee)) (doneOf (now (sheet .entry)) r) ⌝ }
 {
+    if kind(lines, callee) != 30 {
+        return Done::Fine;
+    }
     match keyed {
         Found::At(field) => {
             if keyed_op_fits(sheet, lines, field + 1, name(sheet, lines, callee)) {
@@ -141,7 +145,7 @@ fn ty_of_get(sheet: &[u8], lines: &[u16], ty: usize) -> u8
 // The type of a call by its dot's method.
 fn ty_of_method(sheet: &[u8], lines: &[u16], callee: usize, keyed: Found) -> u8
     requires { ⌜ Callee (now sheet) (now lines) callee keyed ⌝ }
-    ensures { λ r. ⌜ r ≡ code (methodTy (now (sheet .entry)) (nameAt (now (sheet .entry)) (now (lines .entry)) callee) keyed) ⌝ }
+    ensures { λ r. ⌜ r ≡ code (methodTy (nameAt (now (sheet .entry)) (now (lines .entry)) callee) (foundField (now (sheet .entry)) keyed)) ⌝ }
 {
     let place = place_in(name(sheet, lines, callee), b"contains split get ");
     if place != 2 {
@@ -165,7 +169,7 @@ const METHODS: [u8; 4] = [2, 4, 1, 10];
 // `ty_of_call`: the type of a call, by its callee.
 pub fn ty_of_call(sheet: &[u8], lines: &[u16], callee: usize, keyed: Found) -> u8
     requires { ⌜ Callee (now sheet) (now lines) callee keyed ⌝ }
-    ensures { λ r. ⌜ TypesCall (now (sheet .entry)) callee keyed r ⌝ }
+    ensures { λ r. ⌜ r ≡ code (callTy (foundField (now (sheet .entry)) keyed) (exprAt (now (sheet .entry)) callee)) ⌝ }
 {
     let k = kind(lines, callee);
     if k == 30 {

@@ -29,7 +29,8 @@ use Rattle.declared.specs.declared.refusal.Done.the-variants.{Fine, Refused}
 use Rattle.declared.proofs.Codes.{code-is, from-code}
 use Rattle.declared.specs.Answers.{Answers}
 use Rattle.env.specs.Answers.{typedOf}
-use Rattle.env.specs.Calls.{keyedOf, KeyedOf, Callee, JudgesOp, TypesCall}
+use Rattle.env.specs.Calls.{keyedOf, KeyedOf, Callee, opRule, callTy}
+use Rattle.env.proofs.Methods.{uses-op, uses-type}
 use Rattle.env.specs.Force.{envOf, ExprIn}
 use Rattle.env.specs.declared.env.Env.{Env}
 use Rattle.env.specs.declared.judge.Typed.{Typed}
@@ -84,10 +85,10 @@ module _ (s S : List ℕ) (env : Env) (T : Table) (i : ℕ) (h : AsksAt 31 s S e
       call-no-receiver r e =
           record { gives = rw (parts s S env T i h .0, ← add-one i) (then-refused _ _ T T (refusalOf s r) (stopped s _ T d T receiver r e)); valid = tt }
 
-      module _ (e : d ≡ Fine) (o : Done) (j : JudgesOp s (i + 1) keyed o) where
+      module _ (e : d ≡ Fine) (o : Done) (j : Answers (opRule (foundField s keyed) (exprAt s (i + 1))) (doneOf s o)) where
         operation : kept (expectKeyedOp (envOf s T env) (exprAt s (i + 1))) T ≡ record { res = doneOf s o; table = T }
         unfolding keyedOf keyedField fieldOf envOf
-        operation = j .judged (envOf s T env) (q .found) .answers T
+        operation = rw (← uses-op (envOf s T env) (exprAt s (i + 1)) (foundField s keyed) (q .found)) (j .answers T)
 
         pub call-no-op : (r : Refusal) → o ≡ Refused r → Types s (typing (envOf s T env) (exprAt s i)) T (No r) T
         unfolding typing typeCall typedOf _>>_
@@ -163,13 +164,13 @@ module _ (s S : List ℕ) (env : Env) (T : Table) (i : ℕ) (keyed : Found) (h :
     unfolding typeKeyed typedOf
     keyed-no r f = record { gives = then-refused _ _ T U (refusalOf s r) (stopped s _ T d U (k .gives) r f); valid = tt }
 
-    call-code : (c : ℕ) → TypesCall s (i + 1) keyed c → c ≡ code (tyOfCall (envOf s T env) (calleeAt s i))
+    call-code : (c : ℕ) → c ≡ code (callTy (foundField s keyed) (exprAt s (i + 1))) → c ≡ code (tyOfCall (envOf s T env) (calleeAt s i))
     unfolding calleeAt keyedOf keyedField fieldOf envOf
     call-code c t =
         let g : foundField s keyed ≡ keyedOf (envOf s T env) (exprAt s (i + 1)) = rw (add-one i) (h .uses .found) in
-        rw (← add-one i) (t .typed (envOf s T env) g)
+        rw (← add-one i, ← uses-type (envOf s T env) _ _ g) t
 
-    pub keyed-ok : (c : ℕ) → d ≡ Fine → TypesCall s (i + 1) keyed c → Types s (typeKeyed (envOf s T env) (calleeAt s i) (argsAt s S i)) T (Is c) U
+    pub keyed-ok : (c : ℕ) → d ≡ Fine → c ≡ code (callTy (foundField s keyed) (exprAt s (i + 1))) → Types s (typeKeyed (envOf s T env) (calleeAt s i) (argsAt s S i)) T (Is c) U
     unfolding typeKeyed typedOf
     keyed-ok c f t =
         let e = call-code c t in

@@ -1,6 +1,6 @@
 use borrow.Author.Needs.{needs}
 use Rattle.env.proofs.Lookups.{found-next, found-typed}
-use Rattle.env.proofs.Methods.{good-op, bad-op, no-op}
+use Rattle.env.proofs.Methods.{op-nowhere, good-op, bad-op, no-op}
 use Rattle.env.proofs.call.expect_keyed_op.Statement.{statement}
 use Rattle.env.proofs.call.expect_keyed_op.Tie as tie
 
@@ -8,6 +8,8 @@ pub expect-keyed-op-spec : {M : Type 1} → statement M
 expect-keyed-op-spec =
     tie.close
     (tie.spec
+    (λ c κs. search needs)
+    (λ c. search (needs, op-nowhere))
     (λ c. search needs)
     (λ c. search (needs, found-next 6))
     (λ c κs. search needs)
