@@ -1,10 +1,10 @@
-// The proved calls for C and Rust.
+// The sheet reader alone.
 use sheet::Answer;
 ghost use mathlib.Core.Path.{_≡_};
 ghost use lib.ListN.{length};
 ghost use Rattle.sheet.specs.Load.{load};
 ghost use Rattle.sheet.specs.Promise.{answer, scratchAfter};
-ghost use Rattle.exports.specs.Export.{loadOf};
+ghost use Rattle.quanta_check.specs.Export.{loadOf};
 
 // The number of lines of a sheet that is loaded, or a refusal's number and line.
 #[repr(C)]

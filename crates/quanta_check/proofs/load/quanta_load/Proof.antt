@@ -1,7 +1,7 @@
 use borrow.Author.Needs.{needs}
-use Rattle.exports.specs.Export.{loadOf}
-use Rattle.exports.proofs.quanta_load.Statement.{statement}
-use Rattle.exports.proofs.quanta_load.Tie as tie
+use Rattle.quanta_check.specs.Export.{loadOf}
+use Rattle.quanta_check.proofs.load.quanta_load.Statement.{statement}
+use Rattle.quanta_check.proofs.load.quanta_load.Tie as tie
 
 returns : tie.Need-returns
 unfolding loadOf
