@@ -3,7 +3,6 @@
 use crate::lengths::{generated, lines, relation, Generated, RELATIONS};
 use crate::{kept, reader, verdict};
 use reference::reader::ENTRIES;
-use reference::stored::answer_line;
 use std::fmt::{self, Display};
 
 const NUMBERS: usize = 47;
@@ -94,7 +93,7 @@ fn told(seed: u64, index: u64, made: &Generated, answered: &str, differences: &[
     format!(
         "{}\nwanted   {}\nplaces   {places:?}\nanswered {answered}\ndifferent: {}\n",
         kept::paragraph(&title, &made.case, &made.answer),
-        answer_line(&made.answer),
+        verdict::wanted_line(&made.answer),
         differences.join("; "),
     )
 }

@@ -52,13 +52,22 @@ fn fields_agree(wanted: &Answer, got: ffi::Answer) -> bool {
         && got.length as usize == wanted.message.len()
 }
 
-/// The answer of the library as the stored answers are written: `number,place,count,length;types;message`.
+/// The answer of the library: `number,place,count,length;types;message`.
 pub fn answer_line(case: &Case, got: &mut Outcome) -> String {
     let ffi::Answer { number, place, count, length } = got.answer;
     let judged = !matches!(number, 1..=11);
-    let types = got.types.slice().iter().take(if judged { lines(case) } else { 0 });
-    let types: Vec<String> = types.map(u8::to_string).collect();
+    let types = got.types.slice().get(..lines(case)).filter(|_| judged).unwrap_or_default();
     let message = got.message.slice().get(..length as usize).unwrap_or_default();
-    let head = format!("{number},{place},{count},{length}");
-    format!("{head};{};{}", types.join(" "), message.escape_ascii())
+    line([number, place, count, length], types, message)
+}
+
+/// The same of the reference.
+pub fn wanted_line(answer: &Answer) -> String {
+    let head = [answer.number, answer.places[0], answer.count, answer.message.len() as u32];
+    line(head, answer.types.as_deref().unwrap_or_default(), answer.written().as_bytes())
+}
+
+fn line([number, place, count, length]: [u32; 4], types: &[u8], message: &[u8]) -> String {
+    let types: Vec<String> = types.iter().map(u8::to_string).collect();
+    format!("{number},{place},{count},{length};{};{}", types.join(" "), message.escape_ascii())
 }
