@@ -211,6 +211,10 @@ module _ (s S : List ℕ) (x : Name) (m i left at : ℕ) (f : Found) (g : Fields
         kind = e .kind (g .kind);
       })
 
+  -- an item that is no state
+  pub fields-skip : (at' k : ℕ) → 0 < left → k ≡ kindAt S at → k ≢ 1 → at' ≡ endAt S at → FieldsGoing s S x m i (left - 1) at' f
+  fields-skip at' k h e n q = fields-turn at' f h (other s S x at f (fields-item h) k e n) q
+
   pub fields-over : left ≤ 0 → FieldsNamed s S x m i f
   unfolding nodesAt takeNodes nodes lastNamed orElse fieldNamed modelAt
   fields-over h =

@@ -1,7 +1,7 @@
 -- A search by name among loaded lines. Assumes nothing.
 use mathlib.Core.Path.{_≡_, refl, sym, ap, _∙_}
 use mathlib.Core.List.{List, [], _∷_, map}
-use mathlib.Core.Bool.{Bool, true, false, cond}
+use mathlib.Core.Bool.{Bool, true, false, cond, _&&_, and-eq-true-iff}
 use mathlib.Core.Option.{Option, none, some}
 use Prim.Native.Nat.{ℕ, suc, _-_, _/_, _<_, _≤_}
 use native.Mathlib.Omega.{arith}
@@ -16,7 +16,7 @@ use Rattle.rules.specs.Ast.{nodes}
 use Rattle.rules.specs.Standing.{nodeName, nodeAt, nodesAt, Row}
 use Rattle.rules.proofs.Standing.{stands, nodes-next, row-first, row-rest}
 use Rattle.rules.specs.Typing.{isSome}
-use Rattle.declared.specs.Found.{nodeKind, ofKind, foundNode, newest, orElse, Stretch, Of, Last}
+use Rattle.declared.specs.Found.{nodeKind, ofKind, foundNode, foundAt, orElse, Stretch, Of, Last}
 use Rattle.declared.specs.declared.model.Found.{Found}
 use Rattle.declared.specs.declared.model.Found.the-variants.{At, Nothing}
 
@@ -69,6 +69,10 @@ kind-turn k x t ts o = go (eqb (nodeKind t) k)
     go true = last-turn nodeName x t (ofKind k ts) o
     go false = refl
 
+-- line i where it is a record of kind k with the name x, else what was found before
+unfoldable newest : List ℕ → List ℕ → ℕ → Name → ℕ → Found → Found
+newest s S k x i f = cond (eqb (kindAt S i) k) (cond (same x (nameAt s S i)) (At i) f) f
+
 newest-node : (s S : List ℕ) (k : ℕ) (x : Name) (i : ℕ) (f : Found)
     → foundNode s (newest s S k x i f) ≡ cond (eqb (kindAt S i) k) (cond (same x (nameAt s S i)) (some (nodeAt s i)) (foundNode s f)) (foundNode s f)
 unfolding newest foundNode
@@ -94,12 +98,12 @@ pub record Going (s S : List ℕ) (k : ℕ) (x : Name) (m i left at : ℕ) (f : 
   pub rest : lastNamed nodeName x (ofKind k (nodesAt s m i)) ≡ orElse (lastNamed nodeName x (ofKind k (nodesAt s left at))) (foundNode s f)
   pub kind : Of S k f
 
-pub start : (s S : List ℕ) (k : ℕ) (x : Name) (m i : ℕ) → Stretch s S m i → Going s S k x m i m i Nothing
-unfolding foundNode
+pub start : (s S : List ℕ) (k : ℕ) (x : Name) (m i : ℕ) → Stretch s S m i → Going s S k x m i m i (foundAt false 0)
+unfolding foundNode foundAt
 start s S k x m i h = record { stretch = h; rest = sym (or-none _); kind = tt }
 
 module _ (s S : List ℕ) (k : ℕ) (x : Name) (m i left at : ℕ) (f : Found) (g : Going s S k x m i left at f) where
-  pub turn : (at' : ℕ) (f' : Found) → 0 < left → f' ≡ newest s S k x at f → at' ≡ endAt S at → Going s S k x m i (left - 1) at' f'
+  turn : (at' : ℕ) (f' : Found) → 0 < left → f' ≡ newest s S k x at f → at' ≡ endAt S at → Going s S k x m i (left - 1) at' f'
   unfolding nodeName nodeKind
   turn at' f' h e q =
       let l = left - 1 in
@@ -117,6 +121,23 @@ module _ (s S : List ℕ) (k : ℕ) (x : Name) (m i left at : ℕ) (f : Found) (
         kind = newest-kind s S k x at f (row-first row .within) (g .kind);
       })
 
-  pub over : left ≤ 0 → Last s S k x m i f
+  -- what `is_named` tells of the line
+  module _ (at' : ℕ) (b : Bool) (h : 0 < left) (e : b ≡ (eqb (kindAt S at) k && same x (nameAt s S at))) (q : at' ≡ endAt S at) where
+    pub turn-hit : b ≡ true → Going s S k x m i (left - 1) at' (foundAt true at)
+    unfolding newest foundAt
+    turn-hit t =
+        let y = and-eq-true-iff (eqb (kindAt S at) k) (same x (nameAt s S at)) .0 (sym e ∙ t) in
+        turn at' (At at) h (rw (y .0, y .1) refl) q
+
+    pub turn-miss : b ≡ false → Going s S k x m i (left - 1) at' f
+    unfolding newest
+    turn-miss t = turn at' f h (go (eqb (kindAt S at) k) (same x (nameAt s S at)) (sym e ∙ t)) q
+      where
+        go : (c d : Bool) → (c && d) ≡ false → f ≡ cond c (cond d (At at) f) f
+        go true true z = absurd (let w : _≡_ {A = ℕ} 0 1 = cc z in omega arith)
+        go true false z = refl
+        go false d z = refl
+
+  pub over : (r : Found) → r ≡ f → left ≤ 0 → Last s S k x m i r
   unfolding nodesAt takeNodes nodes ofKind lastNamed orElse
-  over h = record { found = sym (g .rest ∙ rw (let e : left ≡ 0 = omega arith in e) refl); kind = g .kind }
+  over r q h = rw q (record { found = sym (g .rest ∙ rw (let e : left ≡ 0 = omega arith in e) refl); kind = g .kind })

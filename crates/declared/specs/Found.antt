@@ -1,6 +1,6 @@
 -- What a search by name finds among loaded lines.
 use Prim.Native.Nat.{ℕ, _/_, _<_}
-use mathlib.Core.Bool.{true, false, cond}
+use mathlib.Core.Bool.{Bool, true, false}
 use mathlib.Core.List.{List, [], _∷_, _++_, map}
 use mathlib.Core.Option.{Option, none, some}
 use mathlib.Core.Path.{_≡_}
@@ -8,9 +8,8 @@ use lib.Dec.{eqb}
 use lib.ListN.{length}
 use Rattle.sheet.specs.Grammar.{Sort}
 use Rattle.sheet.specs.Grammar as grammar
-use Rattle.sheet.specs.Scratch.{kindAt, nameAt, entry}
+use Rattle.sheet.specs.Scratch.{kindAt, entry}
 use Rattle.sheet.specs.Tree.{Node, node}
-use Rattle.text.specs.Text.{same}
 use Rattle.rules.specs.Text.{Name, lastNamed}
 use Rattle.rules.specs.Ast.{Field, itemOf, nodes}
 use Rattle.rules.specs.Model.{Model, build, fieldNamed}
@@ -33,9 +32,10 @@ unfoldable pub foundField : List ℕ → Found → Option Field
 foundField s (At i) = some (fieldAt s i)
 foundField s Nothing = none
 
--- line i where it is a record of kind k with the name x, else what was found before
-unfoldable pub newest : List ℕ → List ℕ → ℕ → Name → ℕ → Found → Found
-newest s S k x i f = cond (eqb (kindAt S i) k) (cond (same x (nameAt s S i)) (At i) f) f
+-- a line where there was a hit
+unfoldable pub foundAt : (hit : Bool) → ℕ → Found
+foundAt true i = At i
+foundAt false i = Nothing
 
 -- m records stand one behind another from line i on
 pub record Stretch (s S : List ℕ) (m i : ℕ) : Type 0 where

@@ -4,6 +4,7 @@ use sheet::end;
 use sheet::first;
 use sheet::kind;
 use sheet::name;
+use text::is_word;
 use text::place_in;
 ghost use mathlib.Core.Path.{_≡_};
 ghost use Prim.Native.Nat.{suc, _/_, _<_};
@@ -17,7 +18,7 @@ ghost use Rattle.sheet.specs.Scratch.{skip};
 ghost use Rattle.declared.specs.Codes.{namedCodes, tyFrom};
 ghost use Rattle.declared.specs.Lines.{ExprAt, Typed};
 
-// The type that the name at a place of the table in ty_of_name means, 10 behind its end.
+// The type that the name at a place of the table in ty_in_table means, 10 behind its end.
 fn named(place: usize) -> u8
     requires { ⌜ place < 21 ⌝ }
     ensures { λ r. ⌜ r ≡ getD namedCodes place 0 ⌝ }
@@ -49,13 +50,56 @@ const NAMED: [u8; 21] = [
     10,
 ];
 
-fn ty_of_name(name: &[u8]) -> u8
+fn ty_in_table(name: &[u8]) -> u8
     ensures { λ r. ⌜ r ≡ code (tyOfName (now (name .entry))) ⌝ }
 {
     named(place_in(
         name,
         b"u8 u16 u32 u64 u128 i8 i16 i32 i64 i128 bool Q_Address Q_Asset Q_Word64 Q_Name Time Q_Id Map Registry GuardianSet ",
     ))
+}
+
+// The same, where the name may be a word whose type is c.
+fn ty_by(name: &[u8], word: &[u8], c: u8) -> u8
+    requires { ⌜ c ≡ code (tyOfName (now word)) ⌝ }
+    ensures { λ r. ⌜ r ≡ code (tyOfName (now (name .entry))) ⌝ }
+{
+    if is_word(name, word) {
+        return c;
+    }
+    ty_in_table(name)
+}
+
+// Names of three bytes.
+fn ty_of_three(name: &[u8]) -> u8
+    requires { ⌜ length (now name) ≡ 3 ⌝ }
+    ensures { λ r. ⌜ r ≡ code (tyOfName (now (name .entry))) ⌝ }
+{
+    let b = name[1];
+    match b {
+        b'6' => ty_by(name, b"u64", 1),
+        b'3' => ty_by(name, b"u32", 1),
+        b'a' => ty_by(name, b"Map", 9),
+        _ => ty_in_table(name),
+    }
+}
+
+// The frequent names are told by their length first, and all others by the table.
+fn ty_of_name(name: &[u8]) -> u8
+    ensures { λ r. ⌜ r ≡ code (tyOfName (now (name .entry))) ⌝ }
+{
+    let n = name.len();
+    match n {
+        2 => ty_by(name, b"u8", 1),
+        3 => ty_of_three(name),
+        4 => ty_by(name, b"bool", 2),
+        6 => ty_by(name, b"Q_Name", 6),
+        7 => ty_by(name, b"Q_Asset", 4),
+        8 => ty_by(name, b"Registry", 9),
+        9 => ty_by(name, b"Q_Address", 3),
+        11 => ty_by(name, b"GuardianSet", 9),
+        _ => ty_in_table(name),
+    }
 }
 
 // The type that the `type` record at line i declares.

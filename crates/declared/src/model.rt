@@ -4,33 +4,39 @@ use sheet::first;
 use sheet::kind;
 use sheet::name;
 use text::is_word;
+ghost use mathlib.Core.Bool.{_&&_};
 ghost use mathlib.Core.Path.{_≡_};
+ghost use lib.Dec.{eqb};
+ghost use Rattle.text.specs.Text.{same};
 ghost use Rattle.sheet.specs.Grammar.{Item};
-ghost use Rattle.declared.specs.Found.{FieldNamed, FieldsNamed, ItemAt, Last, Newest, Stretch};
+ghost use Rattle.sheet.specs.Scratch.{kindAt, nameAt};
+ghost use Rattle.declared.specs.Found.{FieldNamed, FieldsNamed, foundAt, ItemAt, Last, Newest, Stretch};
 ghost use Rattle.declared.specs.Lines.{RecordsAt};
 ghost use Rattle.rules.specs.Standing.{Loaded};
-ghost use Rattle.declared.specs.Found.{newest as newestOf};
 
 pub enum Found {
     At(usize),
     Nothing,
 }
 
-// Line i where it is a record of kind k with the name x, else what was found before.
-fn newest(sheet: &[u8], lines: &[u16], k: usize, x: &[u8], i: usize, found: Found) -> Found
-    ensures { λ r. ⌜ r ≡ newestOf (now (sheet .entry)) (now (lines .entry)) k (now (x .entry)) i found ⌝ }
+// Whether line i is a record of kind k with the name x.
+pub fn is_named(sheet: &[u8], lines: &[u16], k: usize, x: &[u8], i: usize) -> bool
+    ensures { λ r. ⌜ r ≡ (eqb (kindAt (now (lines .entry)) i) k && same (now (x .entry)) (nameAt (now (sheet .entry)) (now (lines .entry)) i)) ⌝ }
 {
     if kind(lines, i) != k {
-        return found;
+        return false;
     }
-    if is_word(x, name(sheet, lines, i)) {
-        Found::At(i)
-    } else {
-        found
-    }
+    is_word(x, name(sheet, lines, i))
 }
 
-// The last record of kind k with the name x among count records, the first of which stands at line from.
+fn found_at(hit: bool, line: usize) -> Found
+    ensures { λ r. ⌜ r ≡ foundAt hit line ⌝ }
+{
+    if hit { Found::At(line) } else { Found::Nothing }
+}
+
+// The last record of kind k with the name x among count records, the first of which stands at line from. What is found so far is a bool and
+// a number, and no enum, which would be copied at every turn.
 pub fn last_named(
     sheet: &[u8],
     lines: &[u16],
@@ -44,13 +50,20 @@ pub fn last_named(
 {
     let mut at = from;
     let mut left = count;
-    let mut found = Found::Nothing;
+    let mut hit = false;
+    let mut line = 0;
     while 0 < left {
-        found = newest(sheet, lines, k, x, at, found);
+        if is_named(sheet, lines, k, x, at) {
+            hit = true;
+            line = at;
+            at = end(lines, at);
+            left -= 1;
+            continue;
+        }
         at = end(lines, at);
         left -= 1;
     }
-    found
+    found_at(hit, line)
 }
 
 // The last field of the name x that the item at a line declares, else what was found before.
@@ -76,6 +89,11 @@ pub fn fields_named(sheet: &[u8], lines: &[u16], x: &[u8], from: usize, count: u
     let mut left = count;
     let mut found = Found::Nothing;
     while 0 < left {
+        if kind(lines, at) != 1 {
+            at = end(lines, at);
+            left -= 1;
+            continue;
+        }
         found = newest_field(sheet, lines, x, at, found);
         at = end(lines, at);
         left -= 1;

@@ -1,5 +1,5 @@
 use borrow.Author.Needs.{needs}
-use Rattle.declared.proofs.Fields.{FieldsGoing, fields-start, fields-item, fields-turn, fields-over}
+use Rattle.declared.proofs.Fields.{FieldsGoing, fields-start, fields-item, fields-turn, fields-skip, fields-over}
 use Rattle.declared.proofs.model.fields_named.Statement.{statement}
 use Rattle.declared.proofs.model.fields_named.Tie as tie
 
@@ -13,5 +13,15 @@ pub fields-named-spec : {M : Type 1} → statement M
 fields-named-spec =
     tie.close
     (tie.spec Inv μ
-    (λ c. search (needs, fields-start)) (λ c κs. search (needs, fields-item)) (λ c κs. search needs) (λ c. search needs)
-    (λ c. search needs) (λ c. search (needs, fields-turn)) (λ c. search (needs, fields-over)))
+    (λ c. search (needs, fields-start))
+    (λ c κs. search needs)
+    (λ c κs. search needs)
+    (λ c. search needs)
+    (λ c. search needs)
+    (λ c. search (needs, fields-skip))
+    (λ c κs. search (needs, fields-item))
+    (λ c κs. search needs)
+    (λ c. search needs)
+    (λ c. search needs)
+    (λ c. search (needs, fields-turn))
+    (λ c. search (needs, fields-over)))
