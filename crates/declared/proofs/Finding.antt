@@ -18,7 +18,7 @@ use Rattle.rules.proofs.Standing.{stands, nodes-next, row-first, row-rest}
 use Rattle.rules.specs.Typing.{isSome}
 use Rattle.declared.specs.Found.{nodeKind, ofKind, foundNode, foundAt, orElse, Stretch, Of, Last}
 use Rattle.declared.specs.declared.model.Found.{Found}
-use Rattle.declared.specs.declared.model.Found.the-variants.{At, Nothing}
+use Rattle.declared.specs.declared.model.Found.the-variants.{At}
 
 -- ------------------------------------------------------------ the last of a name
 

@@ -1,5 +1,5 @@
 -- The number of the literal at a line. Assumes nothing.
-use mathlib.Core.Path.{_≡_, refl, sym, ap}
+use mathlib.Core.Path.{_≡_, refl}
 use mathlib.Core.List.{List}
 use mathlib.Core.Bool.{cond}
 use Prim.Native.Nat.{ℕ}

@@ -1,32 +1,30 @@
 -- Pieces of a message, and the message of each refusal. Assumes nothing.
 use mathlib.Core.Path.{_≡_, refl, sym, ap, _∙_}
-use mathlib.Core.Logic.{_≢_, inl, inr}
-use mathlib.Core.List.{List, [], _∷_, _++_, append-assoc, append-nil}
-use mathlib.Core.Bool.{Bool, true, false, cond, not}
+use mathlib.Core.Logic.{_≢_}
+use mathlib.Core.List.{List, [], _++_, append-assoc, append-nil}
+use mathlib.Core.Bool.{Bool, true, false}
 use mathlib.Core.Option.{Option, none, some}
 use Prim.Native.Nat.{ℕ, zero, suc, _+_, _<_, _≤_}
 use Prim.Native.String.{String}
 use native.Mathlib.Numerals.{add-one}
 use native.Mathlib.Omega.{arith}
 use borrow.Author.Tests.{eq-eqb, ne-eqb, lt-leb}
-use lib.Dec.{eqb, leb}
 use lib.ListN.{length}
-use types.Run.{OneOf}
 use Rattle.text.specs.Text.{bytes}
 use Rattle.sheet.specs.Scratch.{kindAt, nameAt}
-use Rattle.sheet.specs.Tree.{Node, node}
 use Rattle.rules.specs.Text.{Name, Piece, render, digits}
 use Rattle.rules.specs.Asking.{Unknown}
 use Rattle.rules.specs.Declared.{describe, parseU128}
 use Rattle.rules.specs.Declarations.{typeText}
 use Rattle.rules.specs.Kept.{tyOfMark}
-use Rattle.rules.specs.Ast.{typeName, fieldOf, paramOf}
+use Rattle.rules.specs.Ast.{typeName}
 use Rattle.rules.specs.Standing.{nodeName, nodeAt, namedAt, typeAt, fieldAt, paramAt, Loaded}
 use Rattle.rules.proofs.Standing.{beyond}
 use Rattle.rules.proofs.Places.{is-there, named-at, type-name-at, dot-there, not-dot-at}
 use Rattle.declared.specs.Codes.{tyFrom}
 use Rattle.declared.specs.Refusal.{arity, dotAt, numberIn, literalAt, refusalOf}
 use Rattle.declared.specs.declared.refusal.Refusal.{Refusal}
+use Rattle.declared.proofs.Fields.{field-name, param-name}
 use Rattle.declared.proofs.Literals.{literal-at}
 use Rattle.narrow.specs.Narrow.{exceedsOf}
 use Rattle.pieces.specs.Literal.{AddsLiteral}
@@ -51,21 +49,13 @@ module _ (s S : List ℕ) (i : ℕ) (d : Loaded s S) (B : List ℕ) (a : ℕ) (U
     unfolding dotAt
     no-method-said t u q y = rw (dotAt, not-dot-at d i (λ z. q (e ∙ z))) y
 
-field-name-of : (n : Node) → fieldOf n .name ≡ nodeName n
-unfolding fieldOf nodeName
-field-name-of (node i l ps) = refl
-
-param-name-of : (n : Node) → paramOf n .name ≡ nodeName n
-unfolding paramOf nodeName
-param-name-of (node i l ps) = refl
-
 pub field-name-at : (s : List ℕ) (i : ℕ) → fieldAt s i .name ≡ namedAt s i
 unfolding fieldAt namedAt
-field-name-at s i = field-name-of (nodeAt s i)
+field-name-at s i = field-name (nodeAt s i)
 
 pub param-name-at : (s : List ℕ) (i : ℕ) → paramAt s i .name ≡ namedAt s i
 unfolding paramAt namedAt
-param-name-at s i = param-name-of (nodeAt s i)
+param-name-at s i = param-name (nodeAt s i)
 
 -- ------------------------------------------------------------ descriptions of types
 
