@@ -26,7 +26,7 @@ table Clause = "limits denies mints after "
 table Stmt = "guard let emit assign do "
 table Expr = "int id date str caller native inasset now un bin dot call checked wrapping "
 
-words-of : (s : Sort) → split (bytes (table s)) ≡ wordsOf (rows s)
+pub words-of : (s : Sort) → split (bytes (table s)) ≡ wordsOf (rows s)
 unfolding split ended
 words-of Contract = refl
 words-of Item = refl

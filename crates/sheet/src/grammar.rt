@@ -1,4 +1,5 @@
 // The records of a sheet, by their words.
+use crate::words::place_expr;
 use text::place_in;
 ghost use mathlib.Core.Path.{_≡_};
 ghost use Prim.Native.Nat.{_+_, _≤_};
@@ -33,7 +34,7 @@ pub fn kind_for(sort: u8, word: &[u8]) -> usize
         _ => within(
             20,
             14,
-            place_in(
+            place_expr(
                 word,
                 b"int id date str caller native inasset now un bin dot call checked wrapping ",
             ),

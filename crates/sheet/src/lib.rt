@@ -8,6 +8,7 @@ mod open;
 mod scan;
 mod scratch;
 mod tables;
+mod words;
 
 pub use lines::end;
 pub use lines::first;
