@@ -1,4 +1,5 @@
 // A reading place in a line, taken with its LF; each method gives the field read and the place after it.
+use crate::words::place_bin;
 use text::Number;
 use text::find;
 use text::is_name;
@@ -9,6 +10,7 @@ ghost use mathlib.Core.Path.{_≡_};
 ghost use lib.ListN.{length};
 ghost use Rattle.text.specs.Field.{numberOf};
 ghost use Rattle.text.specs.Word.{place, split};
+ghost use Rattle.sheet.specs.Grammar.{binOps};
 ghost use Rattle.sheet.specs.Field.{Ends, fieldAt, isWritten, nameThen, nextAt, valueThen};
 
 pub struct Cursor {
@@ -82,6 +84,19 @@ impl Cursor {
         let end = find(y, at, b',', b'\n');
         PlaceRead {
             place: place_in(&y[at..end], table),
+            next: Cursor { at: end + 1 },
+        }
+    }
+
+    // The same for the operators of `bin`.
+    pub fn place_bin(self, y: &[u8], table: &[u8]) -> PlaceRead
+        requires { ⌜ Ends (now y) (self .at) × (split (now table) ≡ binOps) ⌝ }
+        ensures { λ r. ⌜ (r .place ≡ place (fieldAt (now (y .entry)) (self .at)) (split (now (table .entry)))) × (r .next ≡ nextAt (now (y .entry)) (self .at)) ⌝ }
+    {
+        let at = self.at;
+        let end = find(y, at, b',', b'\n');
+        PlaceRead {
+            place: place_bin(&y[at..end], table),
             next: Cursor { at: end + 1 },
         }
     }

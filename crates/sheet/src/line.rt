@@ -2,6 +2,7 @@
 use crate::cursor::Cursor;
 use crate::cursor::NameRead;
 use crate::cursor::NumberRead;
+use crate::cursor::PlaceRead;
 use crate::grammar::kind_for;
 use crate::tables::always;
 use crate::tables::fields;
@@ -11,13 +12,13 @@ use text::find;
 ghost use mathlib.Core.List.{[]};
 ghost use mathlib.Core.Path.{_≡_};
 ghost use Prim.Native.Nat.{_+_, _<_, _≤_};
+ghost use lib.Dec.{ltb};
 ghost use lib.ListN.{drop, length};
 ghost use Rattle.text.specs.Text.{either, ended};
-ghost use Rattle.text.specs.Word.{split};
 ghost use Rattle.sheet.specs.Field.{Ends, fieldAt, nextAt};
 ghost use Rattle.sheet.specs.Line.{readPieces};
 ghost use Rattle.sheet.specs.Scratch.{Small};
-ghost use Rattle.sheet.specs.Step.{Fields, nameStep, opStep, orTen, partsStep, plainStep, spanStep, stepAll, stepOf, taken, toldRead, withParts};
+ghost use Rattle.sheet.specs.Step.{Fields, nameStep, orTen, partsStep, plainStep, spanStep, stepAll, stepOf, taken, toldRead, when, withOp, withParts};
 ghost use Rattle.sheet.specs.Table.{numbersOf, sortOf};
 
 // A line without its spans: where it and its name start in the sheet, and how many parts of each of its record's sorts it has.
@@ -76,12 +77,10 @@ impl Line {
         }
     }
 
-    // The operators of a table of n.
-    fn with_op(self, y: &[u8], c: Cursor, table: &[u8], n: usize) -> FieldRead
-        requires { ⌜ Ends (now y) (c .at) ⌝ }
-        ensures { λ r. ⌜ r ≡ taken (opStep (split (now (table .entry))) n (fieldAt (now (y .entry)) (c .at)) self) (nextAt (now (y .entry)) (c .at)) ⌝ }
+    // The operator found at a place of a table of n.
+    fn with_place(self, found: PlaceRead, n: usize) -> FieldRead
+        ensures { λ r. ⌜ r ≡ taken (when (ltb (found .place) n) (withOp self (found .place))) (found .next) ⌝ }
     {
-        let found = c.place(y, table);
         let op = found.place;
         let next = found.next;
         if n <= op {
@@ -131,12 +130,10 @@ impl Line {
             1 => self.with_span(y, c),
             2 => self.with_name(y, c, true),
             3 => self.with_name(y, c, false),
-            4 => self.with_op(y, c, b"set add sub ", 3),
-            5 => self.with_op(y, c, b"not neg ", 2),
-            6 => self.with_op(
-                y,
-                c,
-                b"or and eq ne lt gt le ge add sub mul div rem shr ",
+            4 => self.with_place(c.place(y, b"set add sub "), 3),
+            5 => self.with_place(c.place(y, b"not neg "), 2),
+            6 => self.with_place(
+                c.place_bin(y, b"or and eq ne lt gt le ge add sub mul div rem shr "),
                 14,
             ),
             _ => FieldRead::Wrong,

@@ -14,13 +14,19 @@ returns-3 : tie.Need-returns-3
 returns-3 c = rw (c .before .match .keys3) (c .with-name2 .ensures)
 
 returns-4 : tie.Need-returns-4
-returns-4 c = rw (c .before .before .match .keys4, ← assign-words) (c .with-op .ensures)
+returns-4 c =
+    let p = c .before in
+    rw (p .before .before .match .keys4, ← assign-words, ← p .place .ensures .0, ← p .place .ensures .1) (c .with-place .ensures)
 
 returns-5 : tie.Need-returns-5
-returns-5 c = rw (c .before .before .match .keys5, ← un-words) (c .with-op2 .ensures)
+returns-5 c =
+    let p = c .before in
+    rw (p .before .before .match .keys5, ← un-words, ← p .place2 .ensures .0, ← p .place2 .ensures .1) (c .with-place2 .ensures)
 
 returns-6 : tie.Need-returns-6
-returns-6 c = rw (c .before .before .match .keys6, ← bin-words) (c .with-op3 .ensures)
+returns-6 c =
+    let p = c .before in
+    rw (p .before .before .match .keys6, ← bin-words, ← p .place-bin .ensures .0, ← p .place-bin .ensures .1) (c .with-place3 .ensures)
 
 returns-7 : tie.Need-returns-7
 returns-7 c =
@@ -34,12 +40,9 @@ with-plain-spec =
     (λ c κs. search needs)
     (λ c κs. search needs)
     (λ c κs. search needs)
-    (λ c. search needs)
-    (λ c κs. search needs)
-    (λ c. search needs)
-    (λ c κs. search needs)
-    (λ c. search needs)
-    (λ c κs. search needs)
+    (λ c. search needs) (λ c κs. search needs) (λ c κs. search needs)
+    (λ c. search needs) (λ c κs. search needs) (λ c κs. search needs)
+    (λ c. search needs) (λ c κs. (c .before .before .before .pre .0, bin-words)) (λ c κs. search needs)
     returns
     returns-2
     returns-3
