@@ -8,7 +8,7 @@ use native.Mathlib.Nat.{add-zero, lt-of-not-le}
 use native.Mathlib.Omega.{arith}
 use lib.ListN.{length, getD, take, drop, drop-of-length-le, length-drop}
 use lib.Seq.{drop-cons, drop-drop}
-use Rattle.text.specs.Text.{upto, ended}
+use Rattle.text.specs.Text.{one, upto, ended}
 
 module _ (p : ℕ → Bool) where
   -- a piece is the front of what it is the first piece of
@@ -132,15 +132,21 @@ module _ (p : ℕ → Bool) (s : List ℕ) (i n : ℕ) (e : n ≡ i + length (up
   unfolding upto
   find-over h = sym (e ∙ rw (drop-of-length-le s h) (add-zero i))
 
+pub one-most : (t : Bool) (r : ℕ) → r ≡ one t → r ≤ 1
+unfolding one
+one-most true r e = omega arith
+one-most false r e = omega arith
+
 -- A turn of the count of pieces: n is the count, k the pieces so far, and i the place of the turn.
 module _ (p : ℕ → Bool) (s : List ℕ) (i k n : ℕ) (e : n ≡ k + length (ended p [] (drop i s))) where
-  pub count-one : p (getD s i 0) ≡ true → i < length s → n ≡ k + 1 + length (ended p [] (drop (i + 1) s))
-  unfolding ended
-  count-one t h = e ∙ rw (add-one i, drop-cons s i 0 h, ended, t) (omega arith)
-
-  pub count-more : p (getD s i 0) ≡ false → i < length s → n ≡ k + length (ended p [] (drop (i + 1) s))
-  unfolding ended
-  count-more t h = e ∙ rw (add-one i, drop-cons s i 0 h, ended, t) (ap (λ m. k + m) (ended-any p (getD s i 0 ∷ []) (drop (suc i) s)))
+  pub count-step : (r : ℕ) → r ≡ one (p (getD s i 0)) → i < length s → n ≡ k + r + length (ended p [] (drop (i + 1) s))
+  unfolding ended one
+  count-step r o h = rw o (go (p (getD s i 0)) refl)
+    where
+      go : (t : Bool) → p (getD s i 0) ≡ t → n ≡ k + one t + length (ended p [] (drop (i + 1) s))
+      go true t = e ∙ rw (add-one i, drop-cons s i 0 h, ended, t) (omega arith)
+      go false t =
+          e ∙ rw (add-one i, drop-cons s i 0 h, ended, t, add-zero k) (ap (λ m. k + m) (ended-any p (getD s i 0 ∷ []) (drop (suc i) s)))
 
   pub count-over : length s ≤ i → k ≡ n
   unfolding ended

@@ -27,6 +27,11 @@ all p (b ∷ bs) = p b && all p bs
 abbrev pub either : ℕ → ℕ → ℕ → Bool
 either a b x = eqb x a || eqb x b
 
+-- 1 for a test that is passed
+unfoldable pub one : Bool → ℕ
+one true = 1
+one false = 0
+
 -- the bytes before the first that passes the test
 unfoldable pub upto : (ℕ → Bool) → List ℕ → List ℕ
 upto p [] = []

@@ -1,14 +1,13 @@
 -- `text::piece::count` meets its contract. The invariant: the pieces passed, and those of what is left. Assumes nothing.
-use mathlib.Core.Path.{_≡_, sym, _∙_}
+use mathlib.Core.Path.{_≡_, sym}
 use mathlib.Core.List.{[]}
 use Prim.Native.Nat.{_+_, _-_, _≤_}
 use borrow.Author.Needs.{needs}
-use borrow.Author.Tests.{not-true, not-false}
 use native.Mathlib.Nat.{zero-add}
 use native.Mathlib.Omega.{arith}
 use lib.ListN.{length, drop}
 use Rattle.text.specs.Text.{either, ended}
-use Rattle.text.proofs.Pieces.{count-one, count-more, count-over}
+use Rattle.text.proofs.Pieces.{one-most, count-step, count-over}
 use Rattle.text.proofs.piece.count.Statement.{statement}
 use Rattle.text.proofs.piece.count.Tie as tie
 
@@ -23,13 +22,8 @@ loop-holds c = (omega arith, sym (zero-add _))
 
 loop-again : tie.Need-loop-again Inv-loop μ-loop
 loop-again c =
-    let l = c .before .before .before in
-    (omega arith, count-more _ _ _ _ _ (l .before .loop .inv .1) (sym (c .before .either .ensures) ∙ not-true _ (c .if1 .taken)) (l .loop-test .taken))
-
-loop-again-2 : tie.Need-loop-again-2 Inv-loop μ-loop
-loop-again-2 c =
-    let l = c .before .before .before in
-    (omega arith, count-one _ _ _ _ _ (l .before .loop .inv .1) (sym (c .before .either .ensures) ∙ not-false _ (c .if1 .left)) (l .loop-test .taken))
+    let l = c .before .before in
+    (omega (arith, one-most _ _ (c .ends .ensures)), count-step _ _ _ _ _ (l .before .loop .inv .1) _ (c .ends .ensures) (l .loop-test .taken))
 
 returns : tie.Need-returns Inv-loop μ-loop
 returns c = count-over _ _ _ _ _ (c .before .loop .inv .1) (c .loop-test .left)
@@ -43,11 +37,8 @@ count-spec =
     loop-holds
     (λ c. omega arith)
     (λ c κs. search needs)
+    (λ c. omega (arith, one-most _ _ (c .ends .ensures)))
     (λ c. omega arith)
     (λ c. omega arith)
     loop-again
-    (λ c. omega arith)
-    (λ c. omega arith)
-    (λ c. omega arith)
-    loop-again-2
     returns)
