@@ -8,6 +8,7 @@ use native.Mathlib.Numerals.{add-one}
 use lib.ListN.{length, getD, take, drop, set}
 use lib.Seq.{length-take-le, take-all, take-suc-set}
 use borrow.Author.Tests.{ltb-false}
+use lib.Dec.{ltb}
 use Rattle.sheet.specs.Grammar.{Sort}
 use Rattle.sheet.specs.Line.{Line, Read as ReadLine, good, bad}
 use Rattle.sheet.specs.Load.{Loaded, lines, refused, linesOf, after, times, judged, scan, unended, firstTrue, tests, early, loadFrom, load}
@@ -73,6 +74,26 @@ none-true k [] e i = refl
 none-true k (true ∷ bs) e i = absurd (omega arith)
 none-true k (false ∷ bs) e zero = refl
 none-true k (false ∷ bs) e (suc i) = none-true (suc k) bs e i
+
+-- Refusals 1 and 2 are tested before the others: j is what the first two tests give.
+module _ (s : List ℕ) (types scratch j : ℕ) (e : j ≡ firstTrue 1 (ltb 16384 (length s) ∷ unended s ∷ [])) where
+  pub early-shape : (j ≡ 0 → ⊥) → j ≡ early s types scratch
+  unfolding early firstTrue
+  early-shape = go (ltb 16384 (length s)) (unended s) (drop 2 (tests s types scratch)) e
+    where
+      go : (a b : Bool) (bs : List Bool) → j ≡ firstTrue 1 (a ∷ b ∷ []) → (j ≡ 0 → ⊥) → j ≡ firstTrue 1 (a ∷ b ∷ bs)
+      go true b bs f h = f
+      go false true bs f h = f
+      go false false bs f h = absurd (h f)
+
+  pub early-room : (m k : ℕ) → j ≡ 0 → m ≡ length (linesOf s) → k ≡ firstTrue 3 (ltb 1024 m ∷ ltb types m ∷ ltb scratch (8 * m) ∷ []) → k ≡ early s types scratch
+  unfolding early firstTrue
+  early-room m k z l f = go (ltb 16384 (length s)) (unended s) (drop 2 (tests s types scratch)) e (rw l at f)
+    where
+      go : (a b : Bool) (bs : List Bool) → j ≡ firstTrue 1 (a ∷ b ∷ []) → k ≡ firstTrue 3 bs → k ≡ firstTrue 1 (a ∷ b ∷ bs)
+      go true b bs g f = absurd (omega arith)
+      go false true bs g f = absurd (omega arith)
+      go false false bs g f = f
 
 -- A sheet without refusals 1 to 5: k is what `early` gives, and m the number of lines.
 module _ (s : List ℕ) (types : ℕ) (S : List ℕ) (k m : ℕ) (e : k ≡ early s types (length S)) (z : k ≡ 0) (l : m ≡ length (linesOf s)) where

@@ -4,9 +4,12 @@ use crate::scan::scan;
 use crate::scratch::close;
 use text::count;
 ghost use mathlib.Core.Path.{_≡_};
+ghost use mathlib.Core.List.{[], _∷_};
+ghost use Prim.Native.Nat.{_*_};
+ghost use lib.Dec.{ltb};
 ghost use lib.ListN.{length};
-ghost use Rattle.sheet.specs.Load.{times};
-ghost use Rattle.sheet.specs.Load.{early as earlyOf, load as loadOf, unended as unendedOf};
+ghost use Rattle.sheet.specs.Load.{firstTrue, times};
+ghost use Rattle.sheet.specs.Load.{load as loadOf, unended as unendedOf};
 ghost use Rattle.sheet.specs.Promise.{answer, laid, scratchAfter};
 ghost use Rattle.sheet.specs.Scan.{scanAll, Whole};
 
@@ -54,9 +57,9 @@ fn unended(sheet: &[u8]) -> bool
     sheet[sheet.len() - 1] != b'\n'
 }
 
-// The first of refusals 1 to 5 that holds, or 0; types and scratch are the lengths of what is lent.
-fn early(sheet: &[u8], types: usize, scratch: usize) -> u32
-    ensures { λ r. ⌜ r ≡ earlyOf (now (sheet .entry)) types scratch ⌝ }
+// The first of refusals 1 and 2 that holds, or 0.
+fn misshapen(sheet: &[u8]) -> u32
+    ensures { λ r. ⌜ r ≡ firstTrue 1 (ltb 16384 (length (now (sheet .entry))) ∷ unendedOf (now (sheet .entry)) ∷ []) ⌝ }
 {
     if 16384 < sheet.len() {
         return 1;
@@ -64,7 +67,13 @@ fn early(sheet: &[u8], types: usize, scratch: usize) -> u32
     if unended(sheet) {
         return 2;
     }
-    let n = count(sheet, b'\n', b'\n');
+    0
+}
+
+// The first of refusals 3 to 5 that holds for n lines, or 0; types and scratch are the lengths of what is lent.
+fn too_many(n: usize, types: usize, scratch: usize) -> u32
+    ensures { λ r. ⌜ r ≡ firstTrue 3 (ltb 1024 n ∷ ltb types n ∷ ltb scratch (8 * n) ∷ []) ⌝ }
+{
     if 1024 < n {
         return 3;
     }
@@ -82,10 +91,18 @@ pub fn load(sheet: &[u8], scratch: &mut [u16], types: usize) -> Answer
     ensures { λ r. ⌜ r ≡ answer (loadOf (now (sheet .entry)) types (length (now (scratch .entry)))) ⌝ }
     ensures { λ r. ⌜ now (scratch .exit) ≡ scratchAfter (now (sheet .entry)) types (now (scratch .entry)) ⌝ }
 {
-    let number = early(sheet, types, scratch.len());
+    let shape = misshapen(sheet);
+    if shape != 0 {
+        return Answer::Refused {
+            number: shape,
+            line: 0,
+        };
+    }
+    let n = count(sheet, b'\n', b'\n');
+    let number = too_many(n, types, scratch.len());
     if number != 0 {
         return Answer::Refused { number, line: 0 };
     }
-    let all = 8 * count(sheet, b'\n', b'\n');
+    let all = 8 * n;
     load_lines(sheet, &mut scratch[..all])
 }
