@@ -4,12 +4,19 @@ ghost use Prim.Native.Nat.{_*_, _+_, _<_};
 ghost use lib.ListN.{getD};
 ghost use Rattle.sheet.specs.Table.{alwaysTable, lengthTable, ruleTable, sortTable};
 
+// A table is made where it is read: bytes are made in a few instructions, numbers one by one.
+fn wide(x: u8) -> usize
+    ensures { λ r. ⌜ r ≡ x ⌝ }
+{
+    x as usize
+}
+
 // The number of fields after the word.
 pub fn fields(kind: usize) -> usize
     requires { ⌜ kind < 34 ⌝ }
     ensures { λ r. ⌜ r ≡ getD lengthTable kind 0 ⌝ }
 {
-    LENGTHS[kind]
+    wide(LENGTHS[kind])
 }
 
 // The number of the rule of field j.
@@ -25,7 +32,7 @@ pub fn always(kind: usize) -> usize
     requires { ⌜ kind < 34 ⌝ }
     ensures { λ r. ⌜ r ≡ getD alwaysTable kind 0 ⌝ }
 {
-    ALWAYS[kind]
+    wide(ALWAYS[kind])
 }
 
 // The sort of the parts of group g.
@@ -141,7 +148,7 @@ const RULES: [u8; 102] = [
     0,
 ];
 
-const LENGTHS: [usize; 34] = [
+const LENGTHS: [u8; 34] = [
     1,
     1,
     2,
@@ -178,7 +185,7 @@ const LENGTHS: [usize; 34] = [
     1,
 ];
 
-const ALWAYS: [usize; 34] = [
+const ALWAYS: [u8; 34] = [
     0,
     0,
     0,
