@@ -1,17 +1,18 @@
 -- Laws of the grammar's tables. Assumes nothing.
 use mathlib.Core.Logic.{_≢_}
-use mathlib.Core.Path.{_≡_, refl, _∙_}
-use mathlib.Core.List.{List}
-use mathlib.Core.Bool.{Bool, true, false, cond}
+use mathlib.Core.Path.{_≡_, refl, sym, _∙_}
+use mathlib.Core.List.{List, [], _∷_}
+use mathlib.Core.Bool.{Bool, true, false, cond, _&&_, true≢false}
 use Prim.Native.Nat.{ℕ, zero, suc, _+_, _≤_, _<_}
 use native.Mathlib.Omega.{arith}
-use borrow.Author.Tests.{ltb-true}
-use lib.Dec.{ltb}
-use lib.ListN.{length}
+use borrow.Author.Tests.{ltb-true, eqb-true}
+use lib.Dec.{eqb, ltb}
+use lib.ListN.{length, getD}
 use Prim.Native.String.{String}
-use Rattle.text.specs.Text.{bytes, ended}
+use Rattle.text.specs.Text.{bytes, ended, same}
 use Rattle.text.specs.Word.{place, split}
-use Rattle.sheet.specs.Grammar.{Sort, Contract, Item, Field, Param, Ty, Arg, Clause, Stmt, Expr, rows, none, first, within, wordsOf, kindFor}
+use Rattle.text.proofs.Words.{same-is}
+use Rattle.sheet.specs.Grammar.{binOps, Sort, Contract, Item, Field, Param, Ty, Arg, Clause, Stmt, Expr, rows, none, first, within, wordsOf, kindFor}
 use Rattle.sheet.specs.Table.{sortOf}
 
 -- the words of a sort's records, as the code has them
@@ -38,10 +39,49 @@ words-of Clause = refl
 words-of Stmt = refl
 words-of Expr = refl
 
+-- whether the words vs stand in ws at the places from k on
+standing : List (List ℕ) → ℕ → List (List ℕ) → Bool
+standing ws k [] = true
+standing ws k (v ∷ vs) = eqb (place v ws) k && standing ws (suc k) vs
+
+stands : (ws : List (List ℕ)) (k : ℕ) (vs : List (List ℕ)) (i : ℕ) → standing ws k vs ≡ true → i < length vs → place (getD vs i []) ws ≡ k + i
+unfolding standing
+stands ws k [] i e h = absurd (omega arith)
+stands ws k (v ∷ vs) zero e h = go (eqb (place v ws) k) refl e
+  where
+    go : (t : Bool) → eqb (place v ws) k ≡ t → t && standing ws (suc k) vs ≡ true → place v ws ≡ k + 0
+    go true q f = omega (arith, eqb-true (place v ws) k q)
+    go false q f = absurd (true≢false (sym f))
+stands ws k (v ∷ vs) (suc i) e h = go (eqb (place v ws) k) e (λ f. stands ws (suc k) vs i f (omega arith))
+  where
+    go : (t : Bool) → t && standing ws (suc k) vs ≡ true → (standing ws (suc k) vs ≡ true → place (getD vs i []) ws ≡ suc k + i)
+        → place (getD vs i []) ws ≡ k + suc i
+    go true f g = omega (arith, g f)
+    go false f g = absurd (true≢false (sym f))
+
+-- A word is tried, the one at place k: r is k where the field w is that word, else the number of words.
+tried : (ws : List (List ℕ)) → standing ws 0 ws ≡ true → (w : List ℕ) (k r : ℕ) → r ≡ cond (same w (getD ws k [])) k (length ws) → r < length ws → r ≡ place w ws
+tried ws o w k r e h = go (same w (getD ws k [])) refl e
+  where
+    go : (t : Bool) → same w (getD ws k []) ≡ t → r ≡ cond t k (length ws) → r ≡ place w ws
+    go true s q = rw (same-is w (getD ws k []) s) (omega (arith, stands ws 0 ws k o (omega arith)))
+    go false s q = absurd (omega arith)
+
+pub tried-expr : (w : List ℕ) (k r : ℕ) → r ≡ cond (same w (getD (wordsOf (rows Expr)) k [])) k 14 → r < 14 → r ≡ place w (wordsOf (rows Expr))
+unfolding place same standing
+tried-expr = tried (wordsOf (rows Expr)) refl
+
+pub tried-bin : (w : List ℕ) (k r : ℕ) → r ≡ cond (same w (getD binOps k [])) k 14 → r < 14 → r ≡ place w binOps
+unfolding place same standing
+tried-bin = tried binOps refl
+
+pub kind-at : (s : Sort) (w : List ℕ) (p r : ℕ) → p ≡ place w (wordsOf (rows s)) → r ≡ within (first s) (length (rows s)) p → r ≡ kindFor s w
+unfolding kindFor
+kind-at s w p r f g = g ∙ rw f
+
 -- an arm of `kind_for`
 pub kind-arm : (s : Sort) (w : List ℕ) (p r : ℕ) → p ≡ place w (split (bytes (table s))) → r ≡ within (first s) (length (rows s)) p → r ≡ kindFor s w
-unfolding kindFor
-kind-arm s w p r f g = g ∙ rw (f, words-of s)
+kind-arm s w p r f g = kind-at s w p r (f ∙ rw (words-of s)) g
 
 -- the numbers that have no arm of their own
 pub other-sort : (n : ℕ) → (n ≡ 0 → ⊥) → (n ≡ 1 → ⊥) → (n ≡ 2 → ⊥) → (n ≡ 3 → ⊥) → (n ≡ 4 → ⊥) → (n ≡ 5 → ⊥) → (n ≡ 6 → ⊥) → (n ≡ 7 → ⊥) → sortOf n ≡ Expr

@@ -5,7 +5,7 @@ use mathlib.Core.List.{List}
 use Prim.Native.Nat.{ℕ, _+_, _-_}
 use lib.ListN.{length, take, drop}
 use Rattle.text.specs.Text.{either}
-use Rattle.text.specs.Word.{place, split}
+use Rattle.text.specs.Word.{place}
 use Rattle.text.specs.Field.{numberOf}
 use Rattle.text.proofs.Pieces.{upto-between}
 use Rattle.text.specs.declared.field.Number.{Number}
@@ -43,5 +43,5 @@ module _ (y : List ℕ) (at end : ℕ) (e : end ≡ endAt y at) where
   unfolding nameThen
   written-bad name b p q = rw (← part, ← p, q)
 
-  pub place-field : (t : List ℕ) (r : ℕ) → r ≡ place (take (end - at) (drop at y)) (split t) → r ≡ place (fieldAt y at) (split t)
-  place-field t r p = rw (← part) p
+  pub place-field : (ws : List (List ℕ)) (r : ℕ) → r ≡ place (take (end - at) (drop at y)) ws → r ≡ place (fieldAt y at) ws
+  place-field ws r p = rw (← part) p

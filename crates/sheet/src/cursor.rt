@@ -88,15 +88,15 @@ impl Cursor {
         }
     }
 
-    // The same for the operators of `bin`.
-    pub fn place_bin(self, y: &[u8], table: &[u8]) -> PlaceRead
-        requires { ⌜ Ends (now y) (self .at) × (split (now table) ≡ binOps) ⌝ }
-        ensures { λ r. ⌜ (r .place ≡ place (fieldAt (now (y .entry)) (self .at)) (split (now (table .entry)))) × (r .next ≡ nextAt (now (y .entry)) (self .at)) ⌝ }
+    // The place of the field among the operators of `bin`.
+    pub fn place_bin(self, y: &[u8]) -> PlaceRead
+        requires { ⌜ Ends (now y) (self .at) ⌝ }
+        ensures { λ r. ⌜ (r .place ≡ place (fieldAt (now (y .entry)) (self .at)) binOps) × (r .next ≡ nextAt (now (y .entry)) (self .at)) ⌝ }
     {
         let at = self.at;
         let end = find(y, at, b',', b'\n');
         PlaceRead {
-            place: place_bin(&y[at..end], table),
+            place: place_bin(&y[at..end]),
             next: Cursor { at: end + 1 },
         }
     }

@@ -31,13 +31,6 @@ pub fn kind_for(sort: u8, word: &[u8]) -> usize
         5 => within(8, 3, place_in(word, b"type num mofn ")),
         6 => within(11, 4, place_in(word, b"limits denies mints after ")),
         7 => within(15, 5, place_in(word, b"guard let emit assign do ")),
-        _ => within(
-            20,
-            14,
-            place_expr(
-                word,
-                b"int id date str caller native inasset now un bin dot call checked wrapping ",
-            ),
-        ),
+        _ => within(20, 14, place_expr(word)),
     }
 }

@@ -132,10 +132,7 @@ impl Line {
             3 => self.with_name(y, c, false),
             4 => self.with_place(c.place(y, b"set add sub "), 3),
             5 => self.with_place(c.place(y, b"not neg "), 2),
-            6 => self.with_place(
-                c.place_bin(y, b"or and eq ne lt gt le ge add sub mul div rem shr "),
-                14,
-            ),
+            6 => self.with_place(c.place_bin(y), 14),
             _ => FieldRead::Wrong,
         }
     }

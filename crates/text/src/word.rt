@@ -40,14 +40,3 @@ pub fn place_in(part: &[u8], table: &[u8]) -> usize
     }
     k
 }
-
-// The same, with the word at place k tried first.
-pub fn place_by(part: &[u8], table: &[u8], word: &[u8], k: usize) -> usize
-    requires { ⌜ place (now word) (split (now table)) ≡ k ⌝ }
-    ensures { λ r. ⌜ r ≡ place (now (part .entry)) (split (now (table .entry))) ⌝ }
-{
-    if is_word(part, word) {
-        return k;
-    }
-    place_in(part, table)
-}

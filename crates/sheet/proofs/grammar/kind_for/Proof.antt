@@ -1,7 +1,7 @@
 -- `sheet::grammar::kind_for` meets its contract: each arm looks the word up among those of its sort. Assumes nothing.
 use borrow.Author.Needs.{needs}
 use Rattle.sheet.specs.Grammar.{Contract, Item, Field, Param, Ty, Arg, Clause, Stmt, Expr}
-use Rattle.sheet.proofs.KindLaws.{words-of, kind-arm, other-sort}
+use Rattle.sheet.proofs.KindLaws.{kind-at, kind-arm, other-sort}
 use Rattle.sheet.proofs.grammar.kind_for.Statement.{statement}
 use Rattle.sheet.proofs.grammar.kind_for.Tie as tie
 
@@ -31,9 +31,9 @@ returns-8 c = rw (c .before .before .before .match .keys8) (kind-arm Stmt _ _ _ 
 
 returns-9 : tie.Need-returns-9
 returns-9 c =
-    let r = c .before .before .before .match .rest in
+    let r = c .before .before .match .rest in
     rw (other-sort _ (r .0 .0 .0 .0 .0 .0 .0 .1) (r .0 .0 .0 .0 .0 .0 .1) (r .0 .0 .0 .0 .0 .1) (r .0 .0 .0 .0 .1) (r .0 .0 .0 .1) (r .0 .0 .1) (r .0 .1) (r .1))
-    (kind-arm Expr _ _ _ (c .before .place-expr .ensures) (c .within9 .ensures))
+    (kind-at Expr _ _ _ (c .before .place-expr .ensures) (c .within9 .ensures))
 
 pub kind-for-spec : {M : Type 1} → statement M
 kind-for-spec =
@@ -47,5 +47,5 @@ kind-for-spec =
     (λ c. search needs) (λ c κs. search needs) (λ c κs. search needs)
     (λ c. search needs) (λ c κs. search needs) (λ c κs. search needs)
     (λ c. search needs) (λ c κs. search needs) (λ c κs. search needs)
-    (λ c. search needs) (λ c κs. words-of Expr) (λ c κs. search needs)
+    (λ c κs. search needs) (λ c κs. search needs)
     returns returns-2 returns-3 returns-4 returns-5 returns-6 returns-7 returns-8 returns-9)

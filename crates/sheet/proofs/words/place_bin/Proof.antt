@@ -1,32 +1,13 @@
--- `sheet::words::place_bin` meets its contract: the word that is tried stands at its place. Assumes nothing.
-use mathlib.Core.Path.{refl}
 use borrow.Author.Needs.{needs}
-use Rattle.text.specs.Text.{same}
-use Rattle.text.specs.Word.{place}
+use Rattle.sheet.proofs.Steps.{bin-words}
 use Rattle.sheet.proofs.words.place_bin.Statement.{statement}
 use Rattle.sheet.proofs.words.place_bin.Tie as tie
 
+returns : tie.Need-returns
+returns c = c .before .try-bin .ensures (c .if1 .taken)
+
+returns-2 : tie.Need-returns-2
+returns-2 c = rw (← bin-words) (c .place-in .ensures)
+
 pub place-bin-spec : {M : Type 1} → statement M
-unfolding place same
-place-bin-spec =
-    tie.close
-    (tie.spec
-    (λ c κs. search needs)
-    (λ c. search needs) (λ c κs. rw (c .before .before .before .before .before .pre))
-    (λ c. search needs) (λ c κs. rw (c .before .before .before .before .before .pre))
-    (λ c. search needs) (λ c κs. rw (c .before .before .before .before .before .pre))
-    (λ c. search needs) (λ c κs. rw (c .before .before .before .before .before .pre))
-    (λ c. search needs) (λ c κs. rw (c .before .before .before .before .before .pre))
-    (λ c. search needs) (λ c κs. rw (c .before .before .before .before .before .pre))
-    (λ c. search needs) (λ c κs. rw (c .before .before .before .before .before .pre))
-    (λ c. search needs) (λ c κs. rw (c .before .before .before .before .before .pre))
-    (λ c. search needs) (λ c κs. rw (c .before .before .before .before .before .pre))
-    (λ c. search needs) (λ c κs. rw (c .before .before .before .before .before .pre))
-    (λ c. search needs) (λ c κs. rw (c .before .before .before .before .before .pre))
-    (λ c. search needs) (λ c κs. rw (c .before .before .before .before .before .pre))
-    (λ c. search needs) (λ c κs. rw (c .before .before .before .before .before .pre))
-    (λ c. search needs) (λ c κs. rw (c .before .before .before .before .before .pre))
-    (λ c κs. search needs)
-    (λ c. search needs) (λ c. search needs) (λ c. search needs) (λ c. search needs) (λ c. search needs)
-    (λ c. search needs) (λ c. search needs) (λ c. search needs) (λ c. search needs) (λ c. search needs)
-    (λ c. search needs) (λ c. search needs) (λ c. search needs) (λ c. search needs) (λ c. search needs))
+place-bin-spec = tie.close (tie.spec (λ c κs. search needs) returns (λ c. search needs) (λ c κs. search needs) returns-2)

@@ -1,6 +1,6 @@
 -- `sheet::line::Line::with_plain` meets its contract: each arm is the step of its number. Assumes nothing.
 use borrow.Author.Needs.{needs}
-use Rattle.sheet.proofs.Steps.{assign-words, un-words, bin-words, other-rule}
+use Rattle.sheet.proofs.Steps.{assign-words, un-words, other-rule}
 use Rattle.sheet.proofs.line.Line.with_plain.Statement.{statement}
 use Rattle.sheet.proofs.line.Line.with_plain.Tie as tie
 
@@ -26,7 +26,7 @@ returns-5 c =
 returns-6 : tie.Need-returns-6
 returns-6 c =
     let p = c .before in
-    rw (p .before .before .match .keys6, ← bin-words, ← p .place-bin .ensures .0, ← p .place-bin .ensures .1) (c .with-place3 .ensures)
+    rw (p .before .match .keys6, ← p .place-bin .ensures .0, ← p .place-bin .ensures .1) (c .with-place3 .ensures)
 
 returns-7 : tie.Need-returns-7
 returns-7 c =
@@ -42,7 +42,7 @@ with-plain-spec =
     (λ c κs. search needs)
     (λ c. search needs) (λ c κs. search needs) (λ c κs. search needs)
     (λ c. search needs) (λ c κs. search needs) (λ c κs. search needs)
-    (λ c. search needs) (λ c κs. (c .before .before .before .pre .0, bin-words)) (λ c κs. search needs)
+    (λ c κs. search needs) (λ c κs. search needs)
     returns
     returns-2
     returns-3

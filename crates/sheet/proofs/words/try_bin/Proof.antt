@@ -1,0 +1,41 @@
+-- `sheet::words::try_bin` meets its contract: the word that is tried stands at its place. Assumes nothing.
+use borrow.Author.Needs.{needs}
+use native.Mathlib.Omega.{arith}
+use Rattle.sheet.proofs.KindLaws.{tried-bin}
+use Rattle.sheet.proofs.words.try_bin.Statement.{statement}
+use Rattle.sheet.proofs.words.try_bin.Tie as tie
+
+pub try-bin-spec : {M : Type 1} → statement M
+try-bin-spec =
+    tie.close
+    (tie.spec
+    (λ c κs. search needs)
+    (λ c. search needs) (λ c κs. search needs)
+    (λ c. search needs) (λ c κs. search needs)
+    (λ c. search needs) (λ c κs. search needs)
+    (λ c. search needs) (λ c κs. search needs)
+    (λ c. search needs) (λ c κs. search needs)
+    (λ c. search needs) (λ c κs. search needs)
+    (λ c. search needs) (λ c κs. search needs)
+    (λ c. search needs) (λ c κs. search needs)
+    (λ c. search needs) (λ c κs. search needs)
+    (λ c. search needs) (λ c κs. search needs)
+    (λ c. search needs) (λ c κs. search needs)
+    (λ c. search needs) (λ c κs. search needs)
+    (λ c. search needs) (λ c κs. search needs)
+    (λ c. search needs) (λ c κs. search needs)
+    (λ c. tried-bin _ 0 _ (c .place-if .ensures))
+    (λ c. tried-bin _ 1 _ (c .place-if2 .ensures))
+    (λ c. tried-bin _ 2 _ (c .place-if3 .ensures))
+    (λ c. tried-bin _ 3 _ (c .place-if4 .ensures))
+    (λ c. tried-bin _ 4 _ (c .place-if5 .ensures))
+    (λ c. tried-bin _ 5 _ (c .place-if6 .ensures))
+    (λ c. tried-bin _ 6 _ (c .place-if7 .ensures))
+    (λ c. tried-bin _ 7 _ (c .place-if8 .ensures))
+    (λ c. tried-bin _ 8 _ (c .place-if9 .ensures))
+    (λ c. tried-bin _ 9 _ (c .place-if10 .ensures))
+    (λ c. tried-bin _ 10 _ (c .place-if11 .ensures))
+    (λ c. tried-bin _ 11 _ (c .place-if12 .ensures))
+    (λ c. tried-bin _ 12 _ (c .place-if13 .ensures))
+    (λ c. tried-bin _ 13 _ (c .place-if14 .ensures))
+    (λ c h. absurd (omega arith)))
