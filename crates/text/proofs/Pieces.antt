@@ -8,7 +8,7 @@ use native.Mathlib.Nat.{add-zero, lt-of-not-le}
 use native.Mathlib.Omega.{arith}
 use lib.ListN.{length, getD, take, drop, drop-of-length-le, length-drop}
 use lib.Seq.{drop-cons, drop-drop}
-use Rattle.text.specs.Text.{one, upto, ended}
+use Rattle.text.specs.Text.{Counted, one, upto, ended}
 
 module _ (p : ℕ → Bool) where
   -- a piece is the front of what it is the first piece of
@@ -148,6 +148,15 @@ module _ (p : ℕ → Bool) (s : List ℕ) (i k n : ℕ) (e : n ≡ k + length (
       go false t =
           e ∙ rw (add-one i, drop-cons s i 0 h, ended, t, add-zero k) (ap (λ m. k + m) (ended-any p (getD s i 0 ∷ []) (drop (suc i) s)))
 
+  pub count-all : (j r : ℕ) → Counted p s i j r → n ≡ k + r + length (ended p [] (drop j s))
+  count-all j r c = omega (arith, e, c .pieces)
+
   pub count-over : length s ≤ i → k ≡ n
   unfolding ended
   count-over h = sym (e ∙ rw (drop-of-length-le s h) (add-zero k))
+
+-- the end of a part
+pub count-stop : (p : ℕ → Bool) (s : List ℕ) (from to i n : ℕ) → length (ended p [] (drop from s)) ≡ n + length (ended p [] (drop i s)) → i ≤ to → to ≤ i → from + n ≤ i
+    → Counted p s from to n
+count-stop p s from to i n e h g m =
+    let q : i ≡ to = omega arith in record { most = omega arith; pieces = e ∙ ap (λ j. n + length (ended p [] (drop j s))) q }

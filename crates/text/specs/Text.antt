@@ -1,10 +1,12 @@
 -- Texts as lists of bytes, and their pieces.
-use Prim.Native.Nat.{ℕ}
+use Prim.Native.Nat.{ℕ, _+_, _-_, _≤_, _<_}
 use Prim.Native.Char.{code}
 use Prim.Native.String.{String, [] as []ˢ, _∷_ as _∷ˢ_}
 use mathlib.Core.List.{List, [], _∷_, _++_}
+use mathlib.Core.Path.{_≡_}
 use mathlib.Core.Bool.{Bool, true, false, cond, _&&_, _||_}
 use lib.Dec.{eqb}
+use lib.ListN.{length, drop}
 
 -- the bytes of a fixed text
 abbrev pub bytes : String → List ℕ
@@ -41,3 +43,14 @@ upto p (b ∷ bs) = cond (p b) [] (b ∷ upto p bs)
 unfoldable pub ended : (ℕ → Bool) → List ℕ → List ℕ → List (List ℕ)
 ended p w [] = []
 ended p w (b ∷ bs) = elim (p b) [ true ↦ w ∷ ended p [] bs | false ↦ ended p (w ++ (b ∷ [])) bs ]
+
+-- a part of n bytes from a position on that ends at r: it has 1 to 255 bytes
+pub record Part (from n r : ℕ) : Type 0 where
+  pub more : from < r
+  pub few : r ≤ from + 255
+  pub inside : r ≤ n
+
+-- r pieces of s end between two positions
+pub record Counted (p : ℕ → Bool) (s : List ℕ) (from to r : ℕ) : Type 0 where
+  pub most : r ≤ to - from
+  pub pieces : length (ended p [] (drop from s)) ≡ r + length (ended p [] (drop to s))
