@@ -1,15 +1,15 @@
 -- The marks that a rule's askings leave are document 01's codes of the lines. Assumes nothing.
-use mathlib.Core.Path.{_≡_, refl, sym, _∙_}
+use mathlib.Core.Path.{_≡_, refl, sym, ap, _∙_}
 use mathlib.Core.Logic.{_≢_}
 use mathlib.Core.List.{List, [], _∷_}
-use mathlib.Core.Bool.{Bool, true, false, _||_, cond}
+use mathlib.Core.Bool.{Bool, true, false, not, _&&_, _||_, cond}
 use Prim.Native.Nat.{ℕ, zero, suc, _<_}
 use native.Mathlib.Omega.{arith}
 use lib.Dec.{eqb}
 use lib.ListN.{length, getD, replicate, length-replicate}
 use lib.Seq.{getD-set-same, getD-set-other}
 use borrow.Author.Tests.{eqb-true, eqb-false, ne-eqb}
-use Rattle.rules.specs.Asking.{Ty, Res, ok, refused, Rule, ret, refuse, ask, Asking, Out, ended, fresh, refusedIn, firstCode, codeOf}
+use Rattle.rules.specs.Asking.{Ty, Res, ok, refused, Rule, ret, refuse, ask, Asking, Out, ended, fresh, reached, refusedIn, firstCode, codeOf}
 use Rattle.rules.specs.Kept.{Table, putIf, mark, marks}
 use Rattle.rules.proofs.All.{All, all-append}
 use Rattle.rules.proofs.Keeps.{code-marks, length-marks, zeros}
@@ -76,3 +76,18 @@ marked (a ∷ rest) T l h k =
 pub marks-code : {A : Type 0} (p : Rule A) (n l : ℕ) → l < n → getD (marks (replicate n 0) (fresh p .log)) l 0 ≡ codeOf l (fresh p .log)
 unfolding codeOf
 marks-code p n l h = marked (fresh p .log) (replicate n 0) l (rw (length-replicate {A = ℕ} n 0) h) (coded p) ∙ rw (zeros n l)
+
+code-reached : (l : ℕ) (as' : List Asking) → All Coded as' → eqb (codeOf l as') 0 ≡ not (reached l as')
+unfolding codeOf reached refusedIn firstCode
+code-reached l [] h = refl
+code-reached l ((i, c) ∷ rest) h = go (eqb i l) (eqb c 11) (refusedIn l rest) (code-reached l rest (h .1))
+  where
+    go : (b e r : Bool) → eqb (cond r 11 (firstCode l rest)) 0 ≡ not (reached l rest) → eqb (cond ((b && e) || r) 11 (cond b c (firstCode l rest))) 0 ≡ not (b || reached l rest)
+    go true true r q = refl
+    go true false true q = refl
+    go true false false q = h .0
+    go false e r q = q
+
+-- A line is marked exactly where the rules ask its type.
+pub marked-reached : {A : Type 0} (p : Rule A) (n l : ℕ) → l < n → eqb (getD (marks (replicate n 0) (fresh p .log)) l 0) 0 ≡ not (reached l (fresh p .log))
+marked-reached p n l h = ap (λ c. eqb c 0) (marks-code p n l h) ∙ code-reached l (fresh p .log) (coded p)

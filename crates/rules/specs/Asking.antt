@@ -78,6 +78,10 @@ Asking = ℕ × ℕ
 
 -- document 01: a line that has an asking is reached; its code is 0 if it has none, 11 if any of its askings has 11, else
 -- that of its first
+unfoldable pub reached : ℕ → List Asking → Bool
+reached l [] = false
+reached l (a ∷ rest) = eqb (a .0) l || reached l rest
+
 unfoldable pub refusedIn : ℕ → List Asking → Bool
 refusedIn l [] = false
 refusedIn l (a ∷ rest) = (eqb (a .0) l && eqb (a .1) 11) || refusedIn l rest
