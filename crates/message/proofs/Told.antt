@@ -87,34 +87,31 @@ module _ (c : ℕ) (B : List ℕ) (a : ℕ) (U : List ℕ) (b : ℕ) where
 
 -- ------------------------------------------------------------ messages of several parts
 
-abbrev pub Long : List ℕ → Type 0
+abbrev Long : List ℕ → Type 0
 Long B = length B < 18446744073709551616
 
 module _ (B : List ℕ) (a : ℕ) (U : List ℕ) (b : ℕ) where
   -- a buffer that was added to is as long as before
-  pub still-long : (t : List ℕ) → Adds t B a U b → Long B → Long U
+  still-long : (t : List ℕ) → Adds t B a U b → Long B → Long U
   still-long t x l = omega (arith, adds-same t B a U b x)
 
   -- the name of a record, which is read as a type, a field or a parameter
   module _ (s : List ℕ) (i : ℕ) (t u : List ℕ) (x : Adds (t ++ (namedAt s i ++ u)) B a U b) where
-    pub as-type : Adds (t ++ (typeName (typeAt s i) ++ u)) B a U b
+    as-type : Adds (t ++ (typeName (typeAt s i) ++ u)) B a U b
     as-type = rw (type-name-at s i) x
 
-    pub as-field : Adds (t ++ (fieldAt s i .name ++ u)) B a U b
+    as-field : Adds (t ++ (fieldAt s i .name ++ u)) B a U b
     as-field = rw (field-name-at s i) x
 
-    pub as-param : Adds (t ++ (paramAt s i .name ++ u)) B a U b
+    as-param : Adds (t ++ (paramAt s i .name ++ u)) B a U b
     as-param = rw (param-name-at s i) x
 
-  pub as-number : (k n : ℕ) → k ≡ n → Adds (digits 39 k) B a U b → Adds (digits 39 n) B a U b
-  as-number k n e x = rw (← e) x
-
-  pub as-last : (t : List ℕ) → Adds t B a U b → Adds (t ++ []) B a U b
+  as-last : (t : List ℕ) → Adds t B a U b → Adds (t ++ []) B a U b
   as-last t x = rw (append-nil t) x
 
   -- two parts, which together are the text g
   module _ (W : List ℕ) (c : ℕ) (g : List ℕ) where
-    pub parts : (t u : List ℕ) → Adds t B a U b → Adds u U b W c → t ++ u ≡ g → Long B → Adds g B a W c
+    parts : (t u : List ℕ) → Adds t B a U b → Adds u U b W c → t ++ u ≡ g → Long B → Adds g B a W c
     parts t u x y e l = rw (← e) (both t u B a U b W c l x y)
 
     -- ... the first a name between two texts
@@ -123,7 +120,7 @@ module _ (B : List ℕ) (a : ℕ) (U : List ℕ) (b : ℕ) where
         parts (t ++ (x ++ u)) v p q (append-assoc t (x ++ u) v ∙ ap (λ w. t ++ w) (append-assoc x u v) ∙ e) l
 
     -- ... the first the text of a type
-    pub type-first : (ps qs : List Piece) (v : List ℕ) → Adds (render ps) B a U b → Adds v U b W c → v ≡ render qs → render (ps ++ qs) ≡ g → Long B → Adds g B a W c
+    type-first : (ps qs : List Piece) (v : List ℕ) → Adds (render ps) B a U b → Adds v U b W c → v ≡ render qs → render (ps ++ qs) ≡ g → Long B → Adds g B a W c
     type-first ps qs v p q f e l = parts (render ps) v p q (ap (λ w. render ps ++ w) f ∙ sym (render-append ps qs) ∙ e) l
 
 -- Three parts that were added one behind another, which together are the text g. A name or a description stands between two texts.
@@ -157,7 +154,7 @@ module _ (s : List ℕ) (i : ℕ) (t u g B : List ℕ) (a : ℕ) (U : List ℕ) 
       name-first B a U b X d g t (fieldAt s i .name) u (t' ++ (x ++ (u' ++ (t'' ++ (y ++ u''))))) (as-field B a U b s i t u p)
       (name-first U b W c X d _ t' x u' (t'' ++ (y ++ u'')) q r refl (still-long B a U b _ p l)) z l
 
--- ... with the text of a type among them, and the pieces ps behind it.
+-- ... with the text of a type among them, and the pieces ps behind it: 16
 pub unknown-said : (ps : List Piece) (s : List ℕ) (i : ℕ) (t v g B : List ℕ) (a : ℕ) (U : List ℕ) (b : ℕ) (W : List ℕ) (c : ℕ) (X : List ℕ) (d : ℕ)
     → Adds t B a U b → Adds (render (typeText (typeAt s i))) U b W c → Adds v W c X d → v ≡ render ps → t ++ render (typeText (typeAt s i) ++ ps) ≡ g → Long B → Adds g B a X d
 unknown-said ps s i t v g B a U b W c X d p q r y z l =
