@@ -36,22 +36,22 @@ tells c h k =
 
 module _ (Γ : Env) (e : Expr) (T : Table) where
   -- a line that holds a type is answered from the table, which stays as it was
-  pub from-table : (t : Ty) → stale (Γ .later) e ≡ false → tyOfMark (getD T (line e) 0) ≡ some t → kept (tyOf Γ e) T ≡ record { res = ok t; table = T }
+  pub from-table : (t : Ty) → stale Γ e ≡ false → tyOfMark (getD T (line e) 0) ≡ some t → kept (tyOf Γ e) T ≡ record { res = ok t; table = T }
   unfolding tyOf askOf asked kept
-  from-table t h q = kept-some (stale (Γ .later) e) (line e) (typing Γ e) ret T t h q
+  from-table t h q = kept-some (stale Γ e) (line e) (typing Γ e) ret T t h q
 
   -- the exception: it is typed again, and keeps its type, or gets 11
-  pub again : (t : Ty) → stale (Γ .later) e ≡ true → tyOfMark (getD T (line e) 0) ≡ some t
+  pub again : (t : Ty) → stale Γ e ≡ true → tyOfMark (getD T (line e) 0) ≡ some t
       → kept (tyOf Γ e) T ≡ retyped (line e) (kept (typing Γ e) T .res) (kept (typing Γ e) T .table) (λ u U. record { res = ok u; table = U })
   unfolding tyOf askOf asked kept
-  again t h q = kept-again (stale (Γ .later) e) (line e) (typing Γ e) ret T t h q
+  again t h q = kept-again (stale Γ e) (line e) (typing Γ e) ret T t h q
 
   -- any other line is typed, and gets the code answered, or 11
   pub first-time : tyOfMark (getD T (line e) 0) ≡ none
       → kept (tyOf Γ e) T
       ≡ record { res = kept (typing Γ e) T .res; table = set (kept (typing Γ e) T .table) (line e) (codeR (kept (typing Γ e) T .res)) }
   unfolding tyOf askOf asked kept stored
-  first-time q = kept-unmarked (stale (Γ .later) e) (line e) (typing Γ e) ret T q ∙ both (kept (typing Γ e) T .res) _
+  first-time q = kept-unmarked (stale Γ e) (line e) (typing Γ e) ret T q ∙ both (kept (typing Γ e) T .res) _
     where
       both : (r : Res Ty) (U : Table) → stored r U (λ u W. kept (ret u) W) ≡ record { res = r; table = U }
       both (ok t) U = refl

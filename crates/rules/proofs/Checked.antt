@@ -1,6 +1,6 @@
 -- The whole of `check` from a table of zeros, with kept types: what the rules say, and the marks of their askings. Assumes nothing.
 use mathlib.Core.Path.{_≡_, refl, _∙_, ap}
-use mathlib.Core.List.{List, [], _∷_, _++_}
+use mathlib.Core.List.{List, [], _∷_, _++_, append-assoc}
 use mathlib.Core.Bool.{cond}
 use mathlib.Core.Option.{Option, none, some}
 use mathlib.Core.Logic.{inl}
@@ -13,11 +13,11 @@ use Rattle.sheet.specs.Line.{Line}
 use Rattle.sheet.specs.Load.{Loaded, lines, refused as unread, load}
 use Rattle.sheet.specs.Tree.{build as trees}
 use Rattle.rules.specs.Text.{Name}
-use Rattle.rules.specs.Ast.{Expr, Field, Entry, Stmt, guard, bind, emit, assign, do', Item, state, event, invariant, genesis, entry, contractOf}
+use Rattle.rules.specs.Ast.{Expr, Field, Entry, Stmt, guard, bind, emit, assign, do', Item, state, event, invariant, genesis, entry, line, next, contractOf}
 use Rattle.rules.specs.Asking.{Ty, Int, Rule, ret, Out, fresh, Res, ok, refused, ifSome}
 use Rattle.rules.specs.Kept.{kept, marks}
 use Rattle.rules.specs.Model.{Model, itemModel, joined, build}
-use Rattle.rules.specs.Typing.{Env, new, inGenesis, bound, stale, tyOf}
+use Rattle.rules.specs.Typing.{Env, new, inGenesis, bound, tyOf}
 use Rattle.rules.specs.Statements.{expectPredicate}
 use Rattle.rules.specs.KeyKinds.{present, clauseExprs, bodyExprs, entryExprs}
 use Rattle.rules.specs.Check.{paramTypes, checkEntry, checkField, checkDefault, checkGenesis, beforeEntries, check}
@@ -25,7 +25,8 @@ use Rattle.rules.specs.Verdict.{modelOf, ruled, judge, verdict, keptJudg
 use Rattle.rules.proofs.All.{All, all-append, all-split}
 use Rattle.rules.proofs.Keeps.{zeros, keeps}
 use Rattle.rules.proofs.Coherence.{C, c-then, Fits}
-use Rattle.rules.proofs.Lines.{next, ends, outAt, fits}
+use Rattle.rules.proofs.Lines.{ends, outAt, fits}
+use Rattle.rules.proofs.Lets.{Past, past-on}
 use Rattle.rules.proofs.Silent.{CEach, s-each, s-for, s-storable, s-digest, s-guardian, s-event-param, s-entry-param, s-key-kinds}
 use Rattle.rules.proofs.Whole.{FitsEach, FitsBody, w-predicate, w-entry, w-default, w-genesis}
 use Rattle.rules.proofs.Ordered.{Ordered, defaults, itemExprs, allExprs, ordered}
@@ -43,14 +44,14 @@ withEnv Γ [] = []
 withEnv Γ (e ∷ es) = (Γ, e) ∷ withEnv Γ es
 
 -- the surroundings after a `let` whose value came to r
-abbrev boundR : Env → Name → Res Ty → Env
-boundR Γ x (ok t) = bound Γ x t
-boundR Γ x (refused r) = Γ
+abbrev boundR : Env → Name → Res Ty → ℕ → Env
+boundR Γ x (ok t) i = bound Γ x t i
+boundR Γ x (refused r) i = Γ
 
 abbrev bodyPairs : Env → List Stmt → List Pair
 bodyPairs Γ [] = []
 bodyPairs Γ (guard e ∷ ss) = (Γ, e) ∷ bodyPairs Γ ss
-bodyPairs Γ (bind x v ∷ ss) = (Γ, v) ∷ bodyPairs (boundR Γ x (fresh (tyOf Γ v) .res)) ss
+bodyPairs Γ (bind x v ∷ ss) = (Γ, v) ∷ bodyPairs (boundR Γ x (fresh (tyOf Γ v) .res) (next v)) ss
 bodyPairs Γ (emit x es ∷ ss) = withEnv Γ es ++ bodyPairs Γ ss
 bodyPairs Γ (assign s o t v ∷ ss) = (Γ, t) ∷ (Γ, v) ∷ bodyPairs Γ ss
 bodyPairs Γ (do' e ∷ ss) = (Γ, e) ∷ bodyPairs Γ ss
@@ -100,41 +101,67 @@ exprs-all : (M : Model) (is' : List Item) → exprs (allPairs M is') ≡ allExpr
 exprs-all M [] = refl
 exprs-all M (i ∷ is') = exprs-append (itemPairs M i) _ ∙ rw (exprs-item M i, exprs-all M is')
 
--- ------------------------------------------------------------ no `let` is bound later than its own statement
+-- ------------------------------------------------------------ no bound `let` ends behind what is asked
 
 abbrev Plain : Pair → Type 0
-Plain p = p .0 .later ≡ []
+Plain p = Past (p .0 .lets) (line (p .1))
 
-plain-with : (Γ : Env) (es : List Expr) → Γ .later ≡ [] → All Plain (withEnv Γ es)
-plain-with Γ [] h = tt
-plain-with Γ (e ∷ es) h = (h, plain-with Γ es h)
+-- what is plain of the expressions es, and where those behind them start
+abbrev Passed : List Pair → (i j : ℕ) → List Expr → Type 0
+Passed ps i j fs = All Plain ps × (k : ℕ) × (i ≤ k) × Ordered k j fs
 
-plain-bound : (Γ : Env) (x : Name) (r : Res Ty) → Γ .later ≡ [] → boundR Γ x r .later ≡ []
+-- expressions from a line on, behind which no bound `let` ends
+plain-with : (Γ : Env) (es fs : List Expr) (i j : ℕ) → Past (Γ .lets) i → Ordered i j (es ++ fs) → Passed (withEnv Γ es) i j fs
+plain-with Γ [] fs i j p o = (tt, i, omega arith, o)
+plain-with Γ (e ∷ es) fs i j p o =
+    let a = o .0 in
+    let b = ends e (o .1) in
+    let r = plain-with Γ es fs (next e) j (past-on (Γ .lets) i (next e) p (omega arith)) (o .2) in
+    let c = r .2 in
+    ((past-on (Γ .lets) i (line e) p a, r .0), r .1, omega arith, r .3)
+
+past-bound : (Γ : Env) (x : Name) (r : Res Ty) (i j : ℕ) → Past (Γ .lets) i → i ≤ j → Past (boundR Γ x r j .lets) j
 unfolding bound
-plain-bound Γ x (ok t) h = h
-plain-bound Γ x (refused r) h = h
+past-bound Γ x (ok t) i j p h = all-append (λ b. b .1 ≤ j) (Γ .lets) ((x, j) ∷ []) (past-on (Γ .lets) i j p h) (omega arith, tt)
+past-bound Γ x (refused r) i j p h = past-on (Γ .lets) i j p h
 
-plain-body : (Γ : Env) (ss : List Stmt) → Γ .later ≡ [] → All Plain (bodyPairs Γ ss)
-plain-body Γ [] h = tt
-plain-body Γ (guard e ∷ ss) h = (h, plain-body Γ ss h)
-plain-body Γ (bind x v ∷ ss) h = (h, plain-body _ ss (plain-bound Γ x (fresh (tyOf Γ v) .res) h))
-plain-body Γ (emit x es ∷ ss) h = all-append Plain (withEnv Γ es) _ (plain-with Γ es h) (plain-body Γ ss h)
-plain-body Γ (assign s o t v ∷ ss) h = (h, (h, plain-body Γ ss h))
-plain-body Γ (do' e ∷ ss) h = (h, plain-body Γ ss h)
+-- ... and what comes behind them
+plain-then : (Γ : Env) (es : List Expr) (ps : List Pair) (gs fs : List Expr) (i j : ℕ) → Past (Γ .lets) i → Ordered i j (es ++ gs)
+    → ((k : ℕ) → Past (Γ .lets) k → Ordered k j gs → Passed ps k j fs) → Passed (withEnv Γ es ++ ps) i j fs
+plain-then Γ es ps gs fs i j p o f =
+    let r = plain-with Γ es gs i j p o in
+    let q = f (r .1) (past-on (Γ .lets) i (r .1) p (r .2)) (r .3) in
+    let a = r .2 in
+    let b = q .2 in
+    (all-append Plain (withEnv Γ es) ps (r .0) (q .0), q .1, omega arith, q .3)
 
-plain-item : (M : Model) (i : Item) → All Plain (itemPairs M i)
-unfolding new inGenesis
-plain-item M (state fs) = plain-with (new M []) (defaults fs) refl
-plain-item M (event e) = tt
-plain-item M (invariant e) = (refl, tt)
-plain-item M (genesis ss) = plain-with (inGenesis (new M [])) (bodyExprs ss) refl
-plain-item M (entry en) =
-    all-append Plain (withEnv (entryEnv M en) (clauseExprs (en .clauses))) (bodyPairs (entryEnv M en) (en .body)) (plain-with (entryEnv M en) (clauseExprs (en .clauses)) refl)
-    (plain-body (entryEnv M en) (en .body) refl)
+plain-body : (Γ : Env) (ss : List Stmt) (fs : List Expr) (i j : ℕ) → Past (Γ .lets) i → Ordered i j (bodyExprs ss ++ fs) → Passed (bodyPairs Γ ss) i j fs
+unfolding bodyExprs
+plain-body Γ [] fs i j p o = (tt, i, omega arith, o)
+plain-body Γ (guard e ∷ ss) fs i j p o = plain-then Γ (e ∷ []) (bodyPairs Γ ss) (bodyExprs ss ++ fs) fs i j p o (λ k. plain-body Γ ss fs k j)
+plain-body Γ (bind x v ∷ ss) fs i j p o =
+    let a = o .0 in
+    let b = ends v (o .1) in
+    let r = plain-body _ ss fs (next v) j (past-bound Γ x (fresh (tyOf Γ v) .res) i (next v) p (omega arith)) (o .2) in
+    let c = r .2 in
+    ((past-on (Γ .lets) i (line v) p a, r .0), r .1, omega arith, r .3)
+plain-body Γ (emit x es ∷ ss) fs i j p o = plain-then Γ es (bodyPairs Γ ss) (bodyExprs ss ++ fs) fs i j p (rw append-assoc at o) (λ k. plain-body Γ ss fs k j)
+plain-body Γ (assign s op t v ∷ ss) fs i j p o = plain-then Γ (t ∷ v ∷ []) (bodyPairs Γ ss) (bodyExprs ss ++ fs) fs i j p o (λ k. plain-body Γ ss fs k j)
+plain-body Γ (do' e ∷ ss) fs i j p o = plain-then Γ (e ∷ []) (bodyPairs Γ ss) (bodyExprs ss ++ fs) fs i j p o (λ k. plain-body Γ ss fs k j)
 
-plain-all : (M : Model) (is' : List Item) → All Plain (allPairs M is')
-plain-all M [] = tt
-plain-all M (i ∷ is') = all-append Plain (itemPairs M i) _ (plain-item M i) (plain-all M is')
+plain-item : (M : Model) (x : Item) (fs : List Expr) (i j : ℕ) → Ordered i j (itemExprs x ++ fs) → Passed (itemPairs M x) i j fs
+unfolding new inGenesis entryExprs
+plain-item M (state gs) fs i j o = plain-with (new M []) (defaults gs) fs i j tt o
+plain-item M (event e) fs i j o = (tt, i, omega arith, o)
+plain-item M (invariant e) fs i j o = plain-with (new M []) (e ∷ []) fs i j tt o
+plain-item M (genesis ss) fs i j o = plain-with (inGenesis (new M [])) (bodyExprs ss) fs i j tt o
+plain-item M (entry en) fs i j o = plain-then (entryEnv M en) (clauseExprs (en .clauses)) (bodyPairs (entryEnv M en) (en .body)) (bodyExprs (en .body) ++ fs) fs i j tt (rw append-assoc at o) (λ k. plain-body (entryEnv M en) (en .body) fs k j)
+
+plain-all : (M : Model) (is' : List Item) (i j : ℕ) → Ordered i j (allExprs is') → All Plain (allPairs M is')
+plain-all M [] i j o = tt
+plain-all M (x ∷ xs) i j o =
+    let r = plain-item M x (allExprs xs) i j o in
+    all-append Plain (itemPairs M x) _ (r .0) (plain-all M xs (r .1) j (r .3))
 
 -- ------------------------------------------------------------ what typing each line comes to
 
@@ -151,14 +178,13 @@ module _ (m : ℕ → Out Ty) (n : ℕ) where
   FitsIn p = Fits m n (p .0) (p .1)
 
   fits-pairs : (ps : List Pair) (i j : ℕ) → Ordered i j (exprs ps) → j ≤ n → All Plain ps → ((x : ℕ) → i ≤ x → x < j → m x ≡ outOf ps x) → All FitsIn ps
-  unfolding stale
   fits-pairs [] i j o b p f = tt
   fits-pairs (p ∷ ps) i j o b q f =
       let e = p .1 in
       let a = ends e (o .1) in
       let c = ordered-most (next e) j (exprs ps) (o .2) in
       let d = o .0 in (
-        fits m n (p .0) (λ y. rw (q .0)) e (o .1) (omega arith)
+        fits m n (p .0) (line e) (q .0) e (omega arith) (o .1) (omega arith)
             (λ x u v. f x (omega arith) (omega arith) ∙ rw (lt-ltb x (next e) v)),
         fits-pairs ps (next e) j (o .2) b (q .1) (λ x u v. f x (omega arith) v ∙ rw (le-ltb x (next e) u)),
       )
@@ -170,7 +196,7 @@ module _ (m : ℕ → Out Ty) (n : ℕ) where
   each-body : (Γ : Env) (ss : List Stmt) → All FitsIn (bodyPairs Γ ss) → FitsBody m n Γ ss
   each-body Γ [] h = tt
   each-body Γ (guard e ∷ ss) h = (h .0, each-body Γ ss (h .1))
-  each-body Γ (bind x v ∷ ss) h = (h .0, λ t q. each-body (bound Γ x t) ss (rw q at (h .1)))
+  each-body Γ (bind x v ∷ ss) h = (h .0, λ t q. each-body (bound Γ x t (next v)) ss (rw q at (h .1)))
   each-body Γ (emit x es ∷ ss) h = let r = all-split FitsIn (withEnv Γ es) _ h in (each-with Γ es (r .0), each-body Γ ss (r .1))
   each-body Γ (assign s o t v ∷ ss) h = (h .0, h .1 .0, each-body Γ ss (h .1 .1))
   each-body Γ (do' e ∷ ss) h = (h .0, each-body Γ ss (h .1))
@@ -269,7 +295,7 @@ check-kept : (n : ℕ) (is' : List Item) → Ordered 0 n (allExprs is') → Kept
 check-kept n is' o =
     let M = build is' in
     let m : ℕ → Out Ty = outOf (allPairs M is') in
-    let f = fits-pairs m n (allPairs M is') 0 n (rw (exprs-all M is') o) (omega arith) (plain-all M is') (λ x u v. refl) in
+    let f = fits-pairs m n (allPairs M is') 0 n (rw (exprs-all M is') o) (omega arith) (plain-all M is' 0 n o) (λ x u v. refl) in
     let k = keeps m n (check M) (replicate n 0) (c-check m n is' f) (length-replicate n 0) (λ l. inl (zeros n l)) in
     (k .res, k .table)
 

@@ -151,7 +151,7 @@ module _ (m : ℕ → Out Ty) (n : ℕ) where
   c-binary o a b h k = search (rules, c-judge-binary)
 
   abbrev pub Here : Env → Expr → Type 0
-  Here Γ e = (fresh (typing Γ e) ≡ m (line e)) × (line e < n) × (stale (Γ .later) e ≡ false)
+  Here Γ e = (fresh (typing Γ e) ≡ m (line e)) × (line e < n) × (stale Γ e ≡ false)
 
   -- The expression and every part that is typed with it stands at a line below n, and m says what typing it comes to.
   abbrev mutual

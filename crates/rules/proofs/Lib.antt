@@ -4,6 +4,7 @@ pub mod Keeps
 pub mod Marks
 pub mod AnyTable
 pub mod Coherence
+pub mod Lets
 pub mod Lines
 pub mod Silent
 pub mod Whole

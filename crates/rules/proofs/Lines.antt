@@ -7,27 +7,15 @@ use native.Mathlib.Omega.{arith}
 use lib.Dec.{eqb, ltb}
 use lib.ListN.{length}
 use borrow.Author.Tests.{eq-eqb, ne-eqb, lt-ltb, le-ltb}
-use Rattle.rules.specs.Ast.{Expr, leaf, unary, binary, field, call, wrap, Exprs, nil, more, line}
+use Rattle.rules.specs.Ast.{Expr, leaf, unary, binary, field, call, wrap, Exprs, nil, more, line, next, nexts}
 use Rattle.rules.specs.Asking.{Ty, Int, ret, Out, fresh}
 use Rattle.rules.specs.Typing.{Env, stale, typing, tyOf}
 use Rattle.rules.specs.Kept.{Table}
 use Rattle.rules.proofs.Keeps.{Consistent, Keeps, keeps}
 use Rattle.rules.proofs.Coherence.{Fits, FitsAll, c-tyOf}
+use Rattle.rules.proofs.Lets.{Past, past-on, not-stale}
 
--- the first line after the expression
-abbrev mutual
-  pub next : Expr → ℕ
-  next (leaf l s k) = suc l
-  next (unary l s o e) = next e
-  next (binary l s o a b) = next b
-  next (field l s e x k) = next e
-  next (call l s c es) = nexts (next c) es
-  next (wrap l s w e) = next e
-
-  pub nexts : ℕ → Exprs → ℕ
-  nexts i nil = i
-  nexts i (more e es) = nexts (next e) es
-
+-- each part stands directly behind what is before it
 abbrev mutual
   pub Numbered : Expr → Type 0
   Numbered (leaf l s k) = Unit
@@ -99,53 +87,57 @@ module _ (m : ℕ → Out Ty) where
   pub rest : (k a b c : ℕ) (g h : ℕ → Out Ty) → a ≤ k → k ≤ c → Says m (λ i. cond (ltb i k) (g i) (h i)) a b → Says m h c b
   rest k a b c g h p q f i u v = f i (omega arith) v ∙ behind i k (g i) (h i) (omega arith)
 
-module _ (m : ℕ → Out Ty) (n : ℕ) (Γ : Env) (now : (e : Expr) → stale (Γ .later) e ≡ false) where
+-- no bound `let` ends behind line k, from which on the expressions stand
+module _ (m : ℕ → Out Ty) (n : ℕ) (Γ : Env) (k : ℕ) (past : Past (Γ .lets) k) where
+  now : (e : Expr) → k ≤ line e → stale Γ e ≡ false
+  now e h = not-stale Γ e (past-on (Γ .lets) k (line e) past h)
+
   mutual
     unfolding line
 
-    pub fits : (e : Expr) → Numbered e → next e ≤ n → Says m (outAt Γ e) (line e) (next e) → Fits m n Γ e
-    fits (leaf l s k) h b f = (sym (f l (omega arith) (omega arith)), omega arith, now _)
-    fits (unary l s o e) h b f =
+    pub fits : (e : Expr) → k ≤ line e → Numbered e → next e ≤ n → Says m (outAt Γ e) (line e) (next e) → Fits m n Γ e
+    fits (leaf l s v) g h b f = (sym (f l (omega arith) (omega arith)), omega arith, now _ g)
+    fits (unary l s o e) g h b f =
         let z = ends e (h .1) in
         let j : l < next e = omega arith in
-        ((here m l (next e) _ (outAt Γ e) j f, omega arith, now _), fits e (h .1) b (within m l (next e) (line e) (next e) _ _ (omega arith) (omega arith) f))
-    fits (binary l s o a c) h b f =
+        ((here m l (next e) _ (outAt Γ e) j f, omega arith, now _ g), fits e (omega arith) (h .1) b (within m l (next e) (line e) (next e) _ _ (omega arith) (omega arith) f))
+    fits (binary l s o a c) g h b f =
         let z = ends a (h .2) in
         let y = ends c (h .3) in
         let j : l < next c = omega arith in
-        let g : Says m (λ i. cond (ltb i (next a)) (outAt Γ a i) (outAt Γ c i)) (line a) (next c) =
+        let says : Says m (λ i. cond (ltb i (next a)) (outAt Γ a i) (outAt Γ c i)) (line a) (next c) =
         within m l (next c) (line a) (next c) _ _ (omega arith) (omega arith) f
         in (
-          (here m l (next c) _ _ j f, omega arith, now _),
-          fits a (h .2) (omega arith) (first m (next a) (line a) (next c) (outAt Γ a) (outAt Γ c) (omega arith) g),
-          fits c (h .3) b (rest m (next a) (line a) (next c) (line c) (outAt Γ a) (outAt Γ c) (omega arith) (omega arith) g),
+          (here m l (next c) _ _ j f, omega arith, now _ g),
+          fits a (omega arith) (h .2) (omega arith) (first m (next a) (line a) (next c) (outAt Γ a) (outAt Γ c) (omega arith) says),
+          fits c (omega arith) (h .3) b (rest m (next a) (line a) (next c) (line c) (outAt Γ a) (outAt Γ c) (omega arith) (omega arith) says),
         )
-    fits (field l s e x k) h b f = let z = ends e (h .1) in (sym (f l (omega arith) (omega arith)), omega arith, now _)
-    fits (call l s c es) h b f =
+    fits (field l s e x v) g h b f = let z = ends e (h .1) in (sym (f l (omega arith) (omega arith)), omega arith, now _ g)
+    fits (call l s c es) g h b f =
         let z = ends c (h .1) in
         let y = ends-all (next c) es (h .2) in
         let j : l < nexts (next c) es = omega arith in (
-          (here m l (nexts (next c) es) _ (outsAt Γ es) j f, omega arith, now _),
-          fits-all (next c) es (h .2) b (within m l (nexts (next c) es) (next c) (nexts (next c) es) _ _ (omega arith) (omega arith) f),
+          (here m l (nexts (next c) es) _ (outsAt Γ es) j f, omega arith, now _ g),
+          fits-all (next c) es (omega arith) (h .2) b (within m l (nexts (next c) es) (next c) (nexts (next c) es) _ _ (omega arith) (omega arith) f),
         )
-    fits (wrap l s w e) h b f =
+    fits (wrap l s w e) g h b f =
         let z = ends e (h .1) in
         let j : l < next e = omega arith in
-        ((here m l (next e) _ (outAt Γ e) j f, omega arith, now _), fits e (h .1) b (within m l (next e) (line e) (next e) _ _ (omega arith) (omega arith) f))
+        ((here m l (next e) _ (outAt Γ e) j f, omega arith, now _ g), fits e (omega arith) (h .1) b (within m l (next e) (line e) (next e) _ _ (omega arith) (omega arith) f))
 
-    pub fits-all : (i : ℕ) (es : Exprs) → NumberedFrom i es → nexts i es ≤ n → Says m (outsAt Γ es) i (nexts i es) → FitsAll m n Γ es
-    fits-all i nil h b f = tt
-    fits-all i (more e es) h b f =
+    pub fits-all : (i : ℕ) (es : Exprs) → k ≤ i → NumberedFrom i es → nexts i es ≤ n → Says m (outsAt Γ es) i (nexts i es) → FitsAll m n Γ es
+    fits-all i nil g h b f = tt
+    fits-all i (more e es) g h b f =
         let z = ends e (h .1) in
         let y = ends-all (next e) es (h .2) in
-        let g : Says m (λ x. cond (ltb x (next e)) (outAt Γ e x) (outsAt Γ es x)) (line e) (nexts (next e) es) = λ x u v. f x (omega arith) v in (
-          fits e (h .1) (omega arith) (first m (next e) (line e) (nexts (next e) es) (outAt Γ e) (outsAt Γ es) (omega arith) g),
-          fits-all (next e) es (h .2) b
-              (rest m (next e) (line e) (nexts (next e) es) (next e) (outAt Γ e) (outsAt Γ es) (omega arith) (omega arith) g),
+        let says : Says m (λ x. cond (ltb x (next e)) (outAt Γ e x) (outsAt Γ es x)) (line e) (nexts (next e) es) = λ x u v. f x (omega arith) v in (
+          fits e (omega arith) (h .1) (omega arith) (first m (next e) (line e) (nexts (next e) es) (outAt Γ e) (outsAt Γ es) (omega arith) says),
+          fits-all (next e) es (omega arith) (h .2) b
+              (rest m (next e) (line e) (nexts (next e) es) (next e) (outAt Γ e) (outsAt Γ es) (omega arith) (omega arith) says),
         )
 
 -- Demand 3, for one expression: typed with kept types on a consistent table, it comes to what the rules say, and the table
 -- has the marks of the rules' askings.
-pub typed-kept : (Γ : Env) → ((e : Expr) → stale (Γ .later) e ≡ false) → (e : Expr) (T : Table) → Numbered e → next e ≤ length T → Consistent (outAt Γ e) T → Keeps (outAt Γ e) (tyOf Γ e) T
-typed-kept Γ now e T h b w =
-    keeps (outAt Γ e) (length T) (tyOf Γ e) T (c-tyOf (outAt Γ e) (length T) Γ e (fits (outAt Γ e) (length T) Γ now e h b (λ x u v. refl))) refl w
+pub typed-kept : (Γ : Env) (e : Expr) (T : Table) → Past (Γ .lets) (line e) → Numbered e → next e ≤ length T → Consistent (outAt Γ e) T → Keeps (outAt Γ e) (tyOf Γ e) T
+typed-kept Γ e T past h b w =
+    keeps (outAt Γ e) (length T) (tyOf Γ e) T (c-tyOf (outAt Γ e) (length T) Γ e (fits (outAt Γ e) (length T) Γ (line e) past e (omega arith) h b (λ x u v. refl))) refl w

@@ -14,9 +14,9 @@ use Rattle.sheet.specs.Scratch.{endAt}
 use Rattle.sheet.specs.Held.{Formed, formed, FormedAll, none-due, one-due, Held, held, HeldAll, no-tree, tree}
 use Rattle.sheet.proofs.Due.{length-times}
 use Rattle.sheet.proofs.Loaded.{loaded}
-use Rattle.rules.specs.Ast.{Expr, Field, Item, state, event, invariant, genesis, entry, line, exprOf, fieldOf, clauseOf, stmtOf, itemOf, contractOf, nodes}
+use Rattle.rules.specs.Ast.{Expr, Field, Item, state, event, invariant, genesis, entry, line, next, exprOf, fieldOf, clauseOf, stmtOf, itemOf, contractOf, nodes}
 use Rattle.rules.specs.KeyKinds.{present, clauseExprs, bodyExprs, entryExprs}
-use Rattle.rules.proofs.Lines.{next, Numbered}
+use Rattle.rules.proofs.Lines.{Numbered}
 use Rattle.rules.proofs.Parts.{Each, stop, _also_, pick, parts}
 use Rattle.rules.proofs.Placed.{Placed, expr}
 

@@ -9,8 +9,8 @@ use Rattle.sheet.specs.Load.{times, sorts}
 use Rattle.sheet.specs.Tree.{Node, node, Nodes}
 use Rattle.sheet.specs.Scratch.{endAt}
 use Rattle.sheet.specs.Held.{Among, Parted, Formed, formed, FormedAll, none-due, one-due, Held, held, HeldAll, no-tree, tree}
-use Rattle.rules.specs.Ast.{Checked, Expr, wrap, Exprs, nil, more, line, exprOf, exprsOf}
-use Rattle.rules.proofs.Lines.{next, nexts, Numbered, NumberedFrom}
+use Rattle.rules.specs.Ast.{Checked, Expr, wrap, Exprs, nil, more, line, next, nexts, exprOf, exprsOf}
+use Rattle.rules.proofs.Lines.{Numbered, NumberedFrom}
 use Rattle.rules.proofs.Parts.{Each, stop, _also_, pick, parts}
 
 -- an expression that stands from line i up to line j

@@ -6,7 +6,7 @@ use Prim.Native.Nat.{ℕ, zero, suc}
 use native.Mathlib.Omega.{arith}
 use lib.ListN.{getElem?}
 use Rattle.rules.specs.Text.{Name}
-use Rattle.rules.specs.Ast.{AssignOp, Expr, leaf, unary, binary, field, call, wrap, Exprs, nil, more, Param, Field, Clause, limits, denies, mints, after, Entry, Stmt, guard, bind, emit, assign, do', list}
+use Rattle.rules.specs.Ast.{AssignOp, Expr, leaf, unary, binary, field, call, wrap, Exprs, nil, more, Param, Field, Clause, limits, denies, mints, after, Entry, Stmt, guard, bind, emit, assign, do', list, next}
 use Rattle.rules.specs.Asking.{Ty, Rule, ret, _>>_, Out, fresh, ok, forEach, ifSome}
 use Rattle.rules.specs.Model.{Model}
 use Rattle.rules.specs.Typing.{Env, new, bound, Asked, Call, callOf, typings, askOf, tyOf}
@@ -97,7 +97,7 @@ module _ (m : ℕ → Out Ty) (n : ℕ) where
   abbrev pub FitsBody : Env → List Stmt → Type 0
   FitsBody Γ [] = Unit
   FitsBody Γ (guard e ∷ ss) = Fits m n Γ e × FitsBody Γ ss
-  FitsBody Γ (bind x v ∷ ss) = Fits m n Γ v × ((t : Ty) → fresh (tyOf Γ v) .res ≡ ok t → FitsBody (bound Γ x t) ss)
+  FitsBody Γ (bind x v ∷ ss) = Fits m n Γ v × ((t : Ty) → fresh (tyOf Γ v) .res ≡ ok t → FitsBody (bound Γ x t (next v)) ss)
   FitsBody Γ (emit x es ∷ ss) = FitsEach Γ es × FitsBody Γ ss
   FitsBody Γ (assign s o t v ∷ ss) = Fits m n Γ t × Fits m n Γ v × FitsBody Γ ss
   FitsBody Γ (do' e ∷ ss) = Fits m n Γ e × FitsBody Γ ss
@@ -107,7 +107,7 @@ module _ (m : ℕ → Out Ty) (n : ℕ) where
   w-body Γ [] h = tt
   w-body Γ (guard e ∷ ss) h = c-then m n _ _ (w-predicate Γ e (h .0)) (w-body Γ ss (h .1))
   w-body Γ (bind x v ∷ ss) h =
-      c-bind-at m n (tyOf Γ v) _ (c-tyOf m n Γ v (h .0)) (λ t q. c-then m n _ _ (s-local m n v t) (w-body (bound Γ x t) ss (h .1 t q)))
+      c-bind-at m n (tyOf Γ v) _ (c-tyOf m n Γ v (h .0)) (λ t q. c-then m n _ _ (s-local m n v t) (w-body (bound Γ x t (next v)) ss (h .1 t q)))
   w-body Γ (emit x es ∷ ss) h = c-then m n _ _ (w-args Γ es (h .0)) (c-then m n _ _ (w-emit Γ x es (h .0)) (w-body Γ ss (h .1)))
   w-body Γ (assign s o t v ∷ ss) h = c-then m n _ _ (w-stmt Γ o s t v (h .0) (h .1)) (w-body Γ ss (h .2))
   w-body Γ (do' e ∷ ss) h = c-then m n _ _ (w-do Γ e (h .0)) (c-then m n _ _ (w-recipient Γ e (h .0)) (w-body Γ ss (h .1)))

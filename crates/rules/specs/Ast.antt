@@ -1,5 +1,5 @@
 -- The tree of ast.rs, from the tree of a sheet's records. Each expression has its line, counted from 0, and its span.
-use Prim.Native.Nat.{ℕ, _+_, _-_}
+use Prim.Native.Nat.{ℕ, suc, _+_, _-_}
 use mathlib.Core.List.{List, [], _∷_, map}
 use mathlib.Core.Option.{Option, none, some, Option·map}
 use lib.ListN.{getD, take, drop, getElem?}
@@ -109,6 +109,21 @@ line (binary l s o a b) = l
 line (field l s e n m) = l
 line (call l s c es) = l
 line (wrap l s w e) = l
+
+-- the first line behind the expression
+abbrev mutual
+  pub next : Expr → ℕ
+  next (leaf l s k) = suc l
+  next (unary l s o e) = next e
+  next (binary l s o a b) = next b
+  next (field l s e n m) = next e
+  next (call l s c es) = nexts (next c) es
+  next (wrap l s w e) = next e
+
+  -- ... behind expressions that stand behind line i
+  pub nexts : ℕ → Exprs → ℕ
+  nexts i nil = i
+  nexts i (more e es) = nexts (next e) es
 
 -- the leaf of an expression with no parts
 unfoldable pub leafOf : Expr → Option Leaf

@@ -4,6 +4,7 @@ use Prim.Native.String.{String}
 use mathlib.Core.List.{List, [], _∷_, _++_}
 use mathlib.Core.Bool.{Bool, true, false, not, _&&_, _||_}
 use mathlib.Core.Option.{Option, none, some}
+use lib.Dec.{ltb}
 use Rattle.rules.specs.Text.{Name, is, isOne, pick, among, get, Piece, lit, raw}
 use Rattle.rules.specs.Ast.{UnaryOp, Not, Neg, BinOp, Or, And, Eq, Ne, Lt, Gt, Le, Ge, Add, Sub, Mul, Div, Rem, Shr, Type', Leaf, int, id, date, str, caller, native, inasset, now, Expr, leaf, unary, binary, field, call, wrap, Exprs, nil, more, Field, span, line, leafOf, typeName}
 use Rattle.rules.specs.Asking.{Ty, Int, Boolean, Address, Asset, Word64, TName, Time, Str, Unknown, Rule, ret, ask, _>>=_, _>>_, expect, when, ifSome}
@@ -16,19 +17,19 @@ pub record Env : Type 0 where
   pub params : List (Name × Ty)
   pub locals : List (Name × Ty)
   pub genesis : Bool
-  -- names of `let`s bound from the present statement or clause on: none, wherever `check` itself asks
-  pub later : List Name
+  -- the same `let`s, each with the first line behind it: what document 01's exception goes by
+  pub lets : List (Name × ℕ)
 
 unfoldable pub new : Model → List (Name × Ty) → Env
-new m params = record { model = m; params = params; locals = []; genesis = false; later = [] }
+new m params = record { model = m; params = params; locals = []; genesis = false; lets = [] }
 
 unfoldable pub inGenesis : Env → Env
-inGenesis Γ = record { model = Γ .model; params = Γ .params; locals = Γ .locals; genesis = true; later = Γ .later }
+inGenesis Γ = record { model = Γ .model; params = Γ .params; locals = Γ .locals; genesis = true; lets = Γ .lets }
 
--- `env.locals.borrow_mut().insert(name, ty)`
-unfoldable pub bound : Env → Name → Ty → Env
-bound Γ x t =
-    record { model = Γ .model; params = Γ .params; locals = Γ .locals ++ ((x, t) ∷ []); genesis = Γ .genesis; later = Γ .later }
+-- `env.locals.borrow_mut().insert(name, ty)`, of the `let` before line i
+unfoldable pub bound : Env → Name → Ty → ℕ → Env
+bound Γ x t i =
+    record { model = Γ .model; params = Γ .params; locals = Γ .locals ++ ((x, t) ∷ []); genesis = Γ .genesis; lets = Γ .lets ++ ((x, i) ∷ []) }
 
 -- ------------------------------------------------------------ views of an expression
 
@@ -361,14 +362,18 @@ unfoldable mutual
   hasAny xs nil = false
   hasAny xs (more e es) = has xs e || hasAny xs es
 
+-- the names of those `let`s that end behind line i: they stand from the line's own statement or clause on
+unfoldable pub later : ℕ → List (Name × ℕ) → List Name
+later i [] = []
+later i (b ∷ bs) = elim (ltb i (b .1)) [ true ↦ b .0 ∷ later i bs | false ↦ later i bs ]
+
 -- document 01's exception for `let`s
-unfoldable pub stale : (later : List Name) → Expr → Bool
-stale [] e = false
-stale (x ∷ xs) e = has (x ∷ xs) e
+unfoldable pub stale : Env → Expr → Bool
+stale Γ e = has (later (line e) (Γ .lets)) e
 
 -- one asking of an expression's type, which is typed by p
 unfoldable pub asked : Env → Expr → Rule Ty → Asked
-asked Γ e p = record { expr = e; ty = ask (stale (Γ .later) e) (line e) p ret }
+asked Γ e p = record { expr = e; ty = ask (stale Γ e) (line e) p ret }
 
 unfoldable mutual
   -- `ty_of`, without the asking itself
