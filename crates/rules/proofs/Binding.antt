@@ -10,6 +10,7 @@ use lib.ListN.{length, getD, set, length-set}
 use lib.Seq.{getD-set-other}
 use Rattle.rules.specs.Asking.{Ty, Res, ok, refused, Refusal, codeR, Rule, ret, refuse, ask, _>>=_, forEach}
 use Rattle.rules.specs.Kept.{Table, tyOfMark, Kept, stored, retyped, kept}
+use Rattle.rules.proofs.Keeps.{Throughout}
 
 -- one asking, by what the table has for its line
 abbrev asking : {A : Type 0} → Option Ty → Bool → ℕ → Kept Ty → Table → (Ty → Table → Kept A) → Kept A
@@ -181,3 +182,25 @@ kept-holds (ask g l p k) T a i t h e =
     (tyOfMark (getD T l 0)) g (kept p T .res) (kept p T .table) T
     (λ n z. absurd (let y : none ≡ some t = sym n ∙ ap (λ j. tyOfMark (getD T j 0)) (sym z) ∙ h in (let x : _≡_ {A = ℕ} 0 1 = cc in omega arith)))
     refl (λ u w. kept-holds p T u i t h w) (sym (ap (λ o. o .res) q) ∙ e)
+
+-- a line that is asked nowhere keeps what it holds
+abbrev pub Off : ℕ → {A : Type 0} → Rule A → Type 0
+Off i = Throughout (λ g l p. i ≢ l) (λ p t. Unit)
+
+module _ {A : Type 0} (f : Ty → Table → Kept A) (l i c : ℕ) (d : i ≢ l) (h : (t : Ty) (T : Table) → getD T i 0 ≡ c → getD (f t T .table) i 0 ≡ c) where
+  asking-off : (m : Option Ty) (b : Bool) (r : Res Ty) (U T : Table) → getD T i 0 ≡ c → getD U i 0 ≡ c → getD (asking m b l (record { res = r; table = U }) T f .table) i 0 ≡ c
+  unfolding stored retyped codeR
+  asking-off none b (ok t) U T e q = h t _ (getD-set-other U l i _ 0 d ∙ q)
+  asking-off none b (refused r) U T e q = getD-set-other U l i 11 0 d ∙ q
+  asking-off (some t) false r U T e q = h t T e
+  asking-off (some t) true (ok u) U T e q = h u U q
+  asking-off (some t) true (refused r) U T e q = getD-set-other U l i 11 0 d ∙ q
+
+pub kept-off : {A : Type 0} (p : Rule A) (T : Table) (i : ℕ) → Off i p → getD (kept p T .table) i 0 ≡ getD T i 0
+unfolding kept
+kept-off (ret a) T i o = refl
+kept-off (refuse r) T i o = refl
+kept-off (ask g l p k) T i o =
+    ap (λ q. getD (q .table) i 0) (kept-ask g l p k T)
+    ∙ asking-off (λ u U. kept (k u) U) l i (getD T i 0) (o .0) (λ u U e. kept-off (k u) U i (o .2 u tt) ∙ e)
+    (tyOfMark (getD T l 0)) g (kept p T .res) (kept p T .table) T refl (kept-off p T i (o .1))

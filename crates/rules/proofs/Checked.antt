@@ -1,7 +1,7 @@
 -- The whole of `check` from a table of zeros, with kept types: what the rules say, and the marks of their askings. Assumes nothing.
 use mathlib.Core.Path.{_≡_, refl, _∙_, ap}
 use mathlib.Core.List.{List, [], _∷_, _++_, append-assoc}
-use mathlib.Core.Bool.{cond}
+use mathlib.Core.Bool.{Bool, cond}
 use mathlib.Core.Option.{Option, none, some}
 use mathlib.Core.Logic.{inl}
 use Prim.Native.Nat.{ℕ, _<_, _≤_}
@@ -23,7 +23,7 @@ use Rattle.rules.specs.KeyKinds.{present, clauseExprs, bodyExprs, entryE
 use Rattle.rules.specs.Check.{paramTypes, checkEntry, checkField, checkDefault, checkGenesis, beforeEntries, check}
 use Rattle.rules.specs.Verdict.{modelOf, ruled, judge, verdict, keptJudge, keptVerdict}
 use Rattle.rules.proofs.All.{All, all-append, all-split}
-use Rattle.rules.proofs.Keeps.{zeros, keeps}
+use Rattle.rules.proofs.Keeps.{Mapped, Afresh, zeros, keeps}
 use Rattle.rules.proofs.Coherence.{C, c-then, Fits}
 use Rattle.rules.proofs.Lines.{ends, outAt, fits}
 use Rattle.rules.proofs.Lets.{Past, past-on}
@@ -174,8 +174,11 @@ ordered-most i j [] h = h
 ordered-most i j (e ∷ es) h = let a = ends e (h .1) in let b = ordered-most (next e) j es (h .2) in let c = h .0 in omega arith
 
 module _ (m : ℕ → Out Ty) (n : ℕ) where
+  abbrev Q : Bool → ℕ → Rule Ty → Type 0
+  Q = Mapped m n
+
   abbrev FitsIn : Pair → Type 0
-  FitsIn p = Fits m n (p .0) (p .1)
+  FitsIn p = Fits Q Afresh (p .0) (p .1)
 
   fits-pairs : (ps : List Pair) (i j : ℕ) → Ordered i j (exprs ps) → j ≤ n → All Plain ps → ((x : ℕ) → i ≤ x → x < j → m x ≡ outOf ps x) → All FitsIn ps
   fits-pairs [] i j o b p f = tt
@@ -189,11 +192,11 @@ module _ (m : ℕ → Out Ty) (n : ℕ) where
         fits-pairs ps (next e) j (o .2) b (q .1) (λ x u v. f x (omega arith) v ∙ rw (le-ltb x (next e) u)),
       )
 
-  each-with : (Γ : Env) (es : List Expr) → All FitsIn (withEnv Γ es) → FitsEach m n Γ es
+  each-with : (Γ : Env) (es : List Expr) → All FitsIn (withEnv Γ es) → FitsEach Q Γ es
   each-with Γ [] h = tt
   each-with Γ (e ∷ es) h = (h .0, each-with Γ es (h .1))
 
-  each-body : (Γ : Env) (ss : List Stmt) → All FitsIn (bodyPairs Γ ss) → FitsBody m n Γ ss
+  each-body : (Γ : Env) (ss : List Stmt) → All FitsIn (bodyPairs Γ ss) → FitsBody Q Γ ss
   each-body Γ [] h = tt
   each-body Γ (guard e ∷ ss) h = (h .0, each-body Γ ss (h .1))
   each-body Γ (bind x v ∷ ss) h = (h .0, λ t q. each-body (bound Γ x t (next v)) ss (rw q at (h .1)))
@@ -203,41 +206,41 @@ module _ (m : ℕ → Out Ty) (n : ℕ) where
 
   -- ------------------------------------------------------------ `check` is coherent where every expression fits
 
-  c-default : (M : Model) (f : Field) (o : Option Expr) → FitsEach m n (new M []) (present o) → C m n (ifSome o (checkDefault (new M []) f))
+  c-default : (M : Model) (f : Field) (o : Option Expr) → FitsEach Q (new M []) (present o) → C Q Afresh (ifSome o (checkDefault (new M []) f))
   unfolding ifSome present
   c-default M f none h = tt
-  c-default M f (some v) h = w-default m n M f v (h .0)
+  c-default M f (some v) h = w-default Q M f v (h .0)
 
-  c-field : (M : Model) (f : Field) → FitsEach m n (new M []) (present (f .default)) → C m n (checkField (new M []) f)
+  c-field : (M : Model) (f : Field) → FitsEach Q (new M []) (present (f .default)) → C Q Afresh (checkField (new M []) f)
   unfolding checkField
-  c-field M f h = c-then m n _ _ (s-storable m n (f .ty)) (c-then m n _ _ (s-digest m n (f .name) (f .ty)) (c-default M f (f .default) h))
+  c-field M f h = c-then Q Afresh _ _ (s-storable Q Afresh (f .ty)) (c-then Q Afresh _ _ (s-digest Q Afresh (f .name) (f .ty)) (c-default M f (f .default) h))
 
-  c-fields : (M : Model) (fs : List Field) → FitsEach m n (new M []) (defaults fs) → CEach m n (checkField (new M [])) fs
+  c-fields : (M : Model) (fs : List Field) → FitsEach Q (new M []) (defaults fs) → CEach Q Afresh (checkField (new M [])) fs
   c-fields M [] h = tt
-  c-fields M (f ∷ fs) h = let r = all-split (Fits m n (new M [])) (present (f .default)) (defaults fs) h in (c-field M f (r .0), c-fields M fs (r .1))
+  c-fields M (f ∷ fs) h = let r = all-split (Fits Q Afresh (new M [])) (present (f .default)) (defaults fs) h in (c-field M f (r .0), c-fields M fs (r .1))
 
-  c-genesis : (Γ : Env) (ss : List Stmt) → FitsEach m n Γ (bodyExprs ss) → CEach m n (checkGenesis Γ) ss
+  c-genesis : (Γ : Env) (ss : List Stmt) → FitsEach Q Γ (bodyExprs ss) → CEach Q Afresh (checkGenesis Γ) ss
   unfolding bodyExprs
   c-genesis Γ [] h = tt
-  c-genesis Γ (guard e ∷ ss) h = (w-genesis m n Γ (guard e) (h .0, tt), c-genesis Γ ss (h .1))
-  c-genesis Γ (bind x v ∷ ss) h = (w-genesis m n Γ (bind x v) (h .0, tt), c-genesis Γ ss (h .1))
+  c-genesis Γ (guard e ∷ ss) h = (w-genesis Q Γ (guard e) (h .0, tt), c-genesis Γ ss (h .1))
+  c-genesis Γ (bind x v ∷ ss) h = (w-genesis Q Γ (bind x v) (h .0, tt), c-genesis Γ ss (h .1))
   c-genesis Γ (emit x es ∷ ss) h =
-      let r = all-split (Fits m n Γ) es (bodyExprs ss) h in
-      (w-genesis m n Γ (emit x es) (all-append (Fits m n Γ) es [] (r .0) tt), c-genesis Γ ss (r .1))
-  c-genesis Γ (assign s o t v ∷ ss) h = (w-genesis m n Γ (assign s o t v) (h .0, (h .1 .0, tt)), c-genesis Γ ss (h .1 .1))
-  c-genesis Γ (do' e ∷ ss) h = (w-genesis m n Γ (do' e) (h .0, tt), c-genesis Γ ss (h .1))
+      let r = all-split (Fits Q Afresh Γ) es (bodyExprs ss) h in
+      (w-genesis Q Γ (emit x es) (all-append (Fits Q Afresh Γ) es [] (r .0) tt), c-genesis Γ ss (r .1))
+  c-genesis Γ (assign s o t v ∷ ss) h = (w-genesis Q Γ (assign s o t v) (h .0, (h .1 .0, tt)), c-genesis Γ ss (h .1 .1))
+  c-genesis Γ (do' e ∷ ss) h = (w-genesis Q Γ (do' e) (h .0, tt), c-genesis Γ ss (h .1))
 
-  c-item-entry : (M : Model) (en : Entry) → All FitsIn (itemPairs M (entry en)) → C m n (checkEntry M en)
+  c-item-entry : (M : Model) (en : Entry) → All FitsIn (itemPairs M (entry en)) → C Q Afresh (checkEntry M en)
   c-item-entry M en h =
       let r = all-split FitsIn (withEnv (entryEnv M en) (clauseExprs (en .clauses))) (bodyPairs (entryEnv M en) (en .body)) h in
-      w-entry m n M en (each-with (entryEnv M en) (clauseExprs (en .clauses)) (r .0)) (each-body (entryEnv M en) (en .body) (r .1))
+      w-entry Q M en (each-with (entryEnv M en) (clauseExprs (en .clauses)) (r .0)) (each-body (entryEnv M en) (en .body) (r .1))
 
   -- what `check` goes through, list by list
   record Parts (M : Model) (is' : List Item) : Type 0 where
-    fields : CEach m n (checkField (new M [])) (build is' .fields)
-    invariants : CEach m n (expectPredicate (new M [])) (build is' .invariants)
-    entries : CEach m n (checkEntry M) (build is' .entries)
-    genesis : CEach m n (checkGenesis (inGenesis (new M []))) (build is' .genesis)
+    fields : CEach Q Afresh (checkField (new M [])) (build is' .fields)
+    invariants : CEach Q Afresh (expectPredicate (new M [])) (build is' .invariants)
+    entries : CEach Q Afresh (checkEntry M) (build is' .entries)
+    genesis : CEach Q Afresh (checkGenesis (inGenesis (new M []))) (build is' .genesis)
 
   parts : (M : Model) (is' : List Item) → All FitsIn (allPairs M is') → Parts M is'
   unfolding build joined itemModel
@@ -246,7 +249,7 @@ module _ (m : ℕ → Out Ty) (n : ℕ) where
       let r = all-split FitsIn (withEnv (new M []) (defaults fs)) (allPairs M is') h in
       let p = parts M is' (r .1) in
       record {
-        fields = all-append (λ f. C m n (checkField (new M []) f)) fs (build is' .fields) (c-fields M fs (each-with (new M []) (defaults fs) (r .0))) (p .fields);
+        fields = all-append (λ f. C Q Afresh (checkField (new M []) f)) fs (build is' .fields) (c-fields M fs (each-with (new M []) (defaults fs) (r .0))) (p .fields);
         invariants = p .invariants;
         entries = p .entries;
         genesis = p .genesis;
@@ -256,7 +259,7 @@ module _ (m : ℕ → Out Ty) (n : ℕ) where
       record { fields = p .fields; invariants = p .invariants; entries = p .entries; genesis = p .genesis }
   parts M (invariant e ∷ is') h =
       let p = parts M is' (h .1) in
-      record { fields = p .fields; invariants = (w-predicate m n (new M []) e (h .0), p .invariants); entries = p .entries; genesis = p .genesis }
+      record { fields = p .fields; invariants = (w-predicate Q (new M []) e (h .0), p .invariants); entries = p .entries; genesis = p .genesis }
   parts M (genesis ss ∷ is') h =
       let Γ = inGenesis (new M []) in
       let r = all-split FitsIn (withEnv Γ (bodyExprs ss)) (allPairs M is') h in
@@ -265,26 +268,26 @@ module _ (m : ℕ → Out Ty) (n : ℕ) where
         fields = p .fields;
         invariants = p .invariants;
         entries = p .entries;
-        genesis = all-append (λ s. C m n (checkGenesis Γ s)) ss (build is' .genesis) (c-genesis Γ ss (each-with Γ (bodyExprs ss) (r .0))) (p .genesis);
+        genesis = all-append (λ s. C Q Afresh (checkGenesis Γ s)) ss (build is' .genesis) (c-genesis Γ ss (each-with Γ (bodyExprs ss) (r .0))) (p .genesis);
       }
   parts M (entry en ∷ is') h =
       let r = all-split FitsIn (itemPairs M (entry en)) (allPairs M is') h in
       let p = parts M is' (r .1) in
       record { fields = p .fields; invariants = p .invariants; entries = (c-item-entry M en (r .0), p .entries); genesis = p .genesis }
 
-  c-check : (is' : List Item) → All FitsIn (allPairs (build is') is') → C m n (check (build is'))
+  c-check : (is' : List Item) → All FitsIn (allPairs (build is') is') → C Q Afresh (check (build is'))
   unfolding check beforeEntries
   c-check is' h =
       let M = build is' in
       let p = parts M is' h in
-      c-then m n _ _
-      (c-then m n _ _ (s-each m n _ _ (p .fields))
-      (c-then m n _ _ (s-for m n _ _ (λ e. s-for m n _ _ (s-event-param m n)))
-      (c-then m n _ _ (s-for m n _ _ (λ f. s-guardian m n (f .ty)))
-      (c-then m n _ _ (s-for m n _ _ (λ e. s-for m n _ _ (s-entry-param m n)))
-      (s-each m n _ _ (p .invariants))))))
-      (c-then m n _ _ (s-each m n _ _ (p .entries))
-      (c-then m n _ _ (s-key-kinds m n M) (s-each m n _ _ (p .genesis))))
+      c-then Q Afresh _ _
+      (c-then Q Afresh _ _ (s-each Q Afresh _ _ (p .fields))
+      (c-then Q Afresh _ _ (s-for Q Afresh _ _ (λ e. s-for Q Afresh _ _ (s-event-param Q Afresh)))
+      (c-then Q Afresh _ _ (s-for Q Afresh _ _ (λ f. s-guardian Q Afresh (f .ty)))
+      (c-then Q Afresh _ _ (s-for Q Afresh _ _ (λ e. s-for Q Afresh _ _ (s-entry-param Q Afresh)))
+      (s-each Q Afresh _ _ (p .invariants))))))
+      (c-then Q Afresh _ _ (s-each Q Afresh _ _ (p .entries))
+      (c-then Q Afresh _ _ (s-key-kinds Q Afresh M) (s-each Q Afresh _ _ (p .genesis))))
 
 -- ------------------------------------------------------------ demand 3
 

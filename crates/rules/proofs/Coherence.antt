@@ -1,39 +1,29 @@
--- Every asking of the typing rules is of a part of the expression that is typed.
+-- Every asking of the typing rules is of a part of the expression that is typed: what holds of these holds throughout. Assumes nothing.
 use mathlib.Core.Path.{_≡_, refl, _∙_, ap}
 use mathlib.Core.List.{List, [], _∷_}
 use mathlib.Core.Bool.{Bool, true, false}
 use mathlib.Core.Option.{Option, none, some}
-use Prim.Native.Nat.{ℕ, _<_}
+use Prim.Native.Nat.{ℕ}
 use Prim.Native.String.{String}
 use Rattle.rules.specs.Text.{Name, Piece}
 use Rattle.rules.specs.Ast.{UnaryOp, Not, Neg, BinOp, Or, And, Eq, Ne, Lt, Gt, Le, Ge, Add, Sub, Mul, Div, Rem, Shr, Expr, leaf, unary, binary, field, call, wrap, Exprs, nil, more, line}
 use Rattle.rules.specs.Asking.{Ty, Rule, ret, refuse, ask, _>>=_, _>>_, when, ifSome, expect, Out, fresh, ok}
 use Rattle.rules.specs.Typing.{Env, Asked, asked, expectAssetReceiver, expectKeyedOp, judgeKey, checkKeys, checkAmount, checkKeyedCall, askEach, typeCall, expectNumericOr, expectNumber, judgeUnary, logical, arithmetic, ordering, equality, judgeBinary, tyOfUnary, tyOfBinary, stale, typing, typings, askOf, tyOf}
 use Rattle.rules.proofs.All.{All}
-use Rattle.rules.proofs.Keeps.{Coherent, fresh-ok}
+use Rattle.rules.proofs.Keeps.{Throughout, Afresh, fresh-ok}
 
-module _ (m : ℕ → Out Ty) (n : ℕ) where
+module _ (Q : Bool → ℕ → Rule Ty → Type 0) (R : Rule Ty → Ty → Type 0) where
   abbrev pub C : {A : Type 0} → Rule A → Type 0
-  C p = Coherent m n p
+  C p = Throughout Q R p
 
   pub c-ret : {A : Type 0} (a : A) → C (ret a)
   c-ret a = tt
 
-  -- where what follows is coherent for the very answer that p gives
-  pub c-bind-at : {A B : Type 0} (p : Rule A) (f : A → Rule B) → C p → ((a : A) → fresh p .res ≡ ok a → C (f a)) → C (p >>= f)
-  unfolding _>>=_ fresh
-  c-bind-at (ret a) f h k = k a refl
-  c-bind-at (refuse r) f h k = tt
-  c-bind-at (ask g l p q) f h k = (
-    h .0,
-    h .1,
-    h .2,
-    (λ t e. c-bind-at (q t) f (h .3 t e) (λ a x. k a (ap (λ (o : Out _). o .res) (fresh-ok g l p q t e) ∙ x))),
-    h .4,
-  )
-
   pub c-bind : {A B : Type 0} (p : Rule A) (f : A → Rule B) → C p → ((a : A) → C (f a)) → C (p >>= f)
-  c-bind p f h k = c-bind-at p f h (λ a e. k a)
+  unfolding _>>=_
+  c-bind (ret a) f h k = k a
+  c-bind (refuse r) f h k = tt
+  c-bind (ask g l p q) f h k = (h .0, h .1, λ t e. c-bind (q t) f (h .2 t e) k)
 
   pub c-then : {A B : Type 0} (p : Rule A) (q : Rule B) → C p → C q → C (p >> q)
   unfolding _>>_
@@ -151,9 +141,9 @@ module _ (m : ℕ → Out Ty) (n : ℕ) where
   c-binary o a b h k = search (rules, c-judge-binary)
 
   abbrev pub Here : Env → Expr → Type 0
-  Here Γ e = (fresh (typing Γ e) ≡ m (line e)) × (line e < n) × (stale Γ e ≡ false)
+  Here Γ e = Q (stale Γ e) (line e) (typing Γ e)
 
-  -- The expression and every part that is typed with it stands at a line below n, and m says what typing it comes to.
+  -- Q holds of the expression and of every part that is typed with it.
   abbrev mutual
     pub Fits : Env → Expr → Type 0
     Fits Γ (leaf l s k) = Here Γ (leaf l s k)
@@ -178,7 +168,7 @@ module _ (m : ℕ → Out Ty) (n : ℕ) where
   -- one asking of an expression that fits
   pub c-asked : (Γ : Env) (e : Expr) → Fits Γ e → C (typing Γ e) → CA (asked Γ e (typing Γ e))
   unfolding asked
-  c-asked Γ e h k = let w = fits-here Γ e h in (w .0, w .1, k, (λ t a. tt), w .2)
+  c-asked Γ e h k = (fits-here Γ e h, k, λ t a. tt)
 
   mutual
     unfolding typing
@@ -198,3 +188,11 @@ module _ (m : ℕ → Out Ty) (n : ℕ) where
   pub c-tyOf : (Γ : Env) (e : Expr) → Fits Γ e → C (tyOf Γ e)
   unfolding tyOf askOf asked
   c-tyOf Γ e h = c-asked Γ e h (c-typing Γ e h)
+
+-- where what follows has it for the very answer that p gives afresh
+pub c-bind-at : (Q : Bool → ℕ → Rule Ty → Type 0) {A B : Type 0} (p : Rule A) (f : A → Rule B) → C Q Afresh p → ((a : A) → fresh p .res ≡ ok a → C Q Afresh (f a)) → C Q Afresh (p >>= f)
+unfolding _>>=_ fresh
+c-bind-at Q (ret a) f h k = k a refl
+c-bind-at Q (refuse r) f h k = tt
+c-bind-at Q (ask g l p q) f h k =
+    (h .0, h .1, λ t e. c-bind-at Q (q t) f (h .2 t e) (λ a x. k a (ap (λ (o : Out _). o .res) (fresh-ok g l p q t e) ∙ x)))

@@ -1,11 +1,11 @@
 -- A walk over the lines of expressions: what is left of them at each line. Assumes nothing.
 use mathlib.Core.Path.{_≡_, refl, sym, ap, _∙_}
 use mathlib.Core.List.{List, [], append-nil}
-use Prim.Native.Nat.{ℕ, zero, suc, _+_, _<_, _≤_}
+use Prim.Native.Nat.{ℕ, zero, suc, _+_, _-_, _<_, _≤_}
 use native.Mathlib.Omega.{arith}
 use lib.ListN.{length}
 use Rattle.sheet.specs.Grammar as grammar
-use Rattle.sheet.specs.Held.{HeldAll, no-tree, tree, FormedAll, none-due, one-due}
+use Rattle.sheet.specs.Held.{held, HeldAll, no-tree, tree, formed, FormedAll, none-due, one-due}
 use Rattle.sheet.specs.Load.{times, sorts}
 use Rattle.sheet.specs.Scratch.{entry, kindAt, endAt, skip}
 use Rattle.sheet.specs.Tree.{Nodes, takeNodes}
@@ -14,6 +14,7 @@ use Rattle.rules.specs.Ast.{Expr, leaf, unary, binary, field, call, wrap
 use Rattle.rules.specs.Standing.{exprAt, exprsAt, Loaded, Here, Row, stop, next}
 use Rattle.rules.proofs.Parts.{stop as end', _also_, pick, parts}
 use Rattle.rules.proofs.Standing.{Stands, stands, exprs-next, row-first, row-rest}
+use Rattle.rules.proofs.Placed.{Placed, expr}
 use Rattle.rules.proofs.Exprs.{un-at, bin-at, dot-at, call-at, wrap-at, leaf-at}
 
 -- expressions before others
@@ -224,3 +225,24 @@ module _ {s S : List ℕ} (d : Loaded s S) where
       let x = left-at l (left-some l) in
       let y : x .rest ≡ joined (exprsAt s (entry S i 6) (endAt S (suc i))) (a .rest) = cc (x .is) in
       rw (← y) (x .behind)
+
+-- ------------------------------------------------------------ the lines of one expression
+
+module _ {s S : List ℕ} (d : Loaded s S) where
+  -- each line from i up to end is that of an expression
+  left-here : (k : ℕ) {i end : ℕ} {es : Exprs} → Left s S i end es → i + k < end → Here S grammar.Expr (i + k)
+  left-here zero {i} l h = rw (let e : i + 0 ≡ i = omega arith in e) (left-at d l (omega arith) .here)
+  left-here (suc k) {i} l h =
+      let e : i + suc k ≡ suc i + k = omega arith in
+      rw e (left-here k (left-at d l (omega arith) .inside) (omega arith))
+
+  pub here-inside : {i : ℕ} (l : ℕ) → Here S grammar.Expr i → i ≤ l → l < endAt S i → Here S grammar.Expr l
+  here-inside {i} l h a b =
+      let e : i + (l - i) ≡ l = omega arith in
+      rw e at (left-here (l - i) (left-one d h) (omega arith))
+
+  pub placed-at : {i : ℕ} → Here S grammar.Expr i → Placed i (endAt S i) (exprAt s i)
+  unfolding exprAt
+  placed-at {i} h =
+      let t = stands d i (h .within) in
+      rw (t .here) (expr (formed (rw (← t .says .kind) (h .kind)) (t .parted) (t .formed)) refl (held (h .within) (t .says) (t .held)))

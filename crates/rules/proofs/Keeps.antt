@@ -151,11 +151,22 @@ fresh-refused g l p k r e = rw (e, fresh)
 
 -- ------------------------------------------------------------ the theorem
 
--- Each asking in the rule, as its answers fall, is of a line below n, and types it as m says.
+-- Q holds of each asking in the rule, where R says which answers an asking may have.
+abbrev pub Throughout : (Bool → ℕ → Rule Ty → Type 0) → (Rule Ty → Ty → Type 0) → {A : Type 0} → Rule A → Type 0
+Throughout Q R (ret a) = Unit
+Throughout Q R (refuse r) = Unit
+Throughout Q R (ask g l p k) = Q g l p × Throughout Q R p × ((t : Ty) → R p t → Throughout Q R (k t))
+
+-- the asking is of a line below n, types it as m says, and is no exception
+abbrev pub Mapped : (ℕ → Out Ty) → ℕ → Bool → ℕ → Rule Ty → Type 0
+Mapped m n g l p = (fresh p ≡ m l) × (l < n) × (g ≡ false)
+
+-- the answer is the one that typing afresh gives
+abbrev pub Afresh : Rule Ty → Ty → Type 0
+Afresh p t = fresh p .res ≡ ok t
+
 abbrev pub Coherent : (ℕ → Out Ty) → ℕ → {A : Type 0} → Rule A → Type 0
-Coherent m n (ret a) = Unit
-Coherent m n (refuse r) = Unit
-Coherent m n (ask g l p k) = (fresh p ≡ m l) × (l < n) × Coherent m n p × ((t : Ty) → fresh p .res ≡ ok t → Coherent m n (k t)) × (g ≡ false)
+Coherent m n = Throughout (Mapped m n) Afresh
 
 -- A marked line holds the type that m says, and all that m asks for it is marked.
 pub record Right (m : ℕ → Out Ty) (T : Table) (l : ℕ) : Type 0 where
@@ -305,4 +316,4 @@ keeps m n (ret a) T c h w = record { res = refl; table = refl; after = λ a e. (
 keeps m n (refuse r) T c h w =
     record { res = refl; table = refl; after = λ a e. absurd (let z : _≡_ {A = ℕ} 0 1 = cc e in omega arith) }
 keeps m n (ask g l p k) T c h w =
-    step m g l p k T (c .4) (c .0) (rw h (c .1)) (keeps m n p T (c .2) h w) (λ t T1 a e v. keeps m n (k t) T1 (c .3 t a) (e ∙ h) v) w (w l)
+    step m g l p k T (c .0 .2) (c .0 .0) (rw h (c .0 .1)) (keeps m n p T (c .1) h w) (λ t T1 a e v. keeps m n (k t) T1 (c .2 t a) (e ∙ h) v) w (w l)

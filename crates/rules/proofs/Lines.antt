@@ -1,17 +1,17 @@
 -- Expressions whose lines are numbered as a sheet numbers them: a record's parts follow it directly.
 -- Then a map m as `Coherence` wants it is there, and the typing of an expression with kept types is what the rules say.
 use mathlib.Core.Path.{_≡_, refl, sym, _∙_}
-use mathlib.Core.Bool.{false, cond}
+use mathlib.Core.Bool.{Bool, false, cond}
 use Prim.Native.Nat.{ℕ, _<_, _≤_, suc}
 use native.Mathlib.Omega.{arith}
 use lib.Dec.{eqb, ltb}
 use lib.ListN.{length}
 use borrow.Author.Tests.{eq-eqb, ne-eqb, lt-ltb, le-ltb}
 use Rattle.rules.specs.Ast.{Expr, leaf, unary, binary, field, call, wrap, Exprs, nil, more, line, next, nexts}
-use Rattle.rules.specs.Asking.{Ty, Int, ret, Out, fresh}
+use Rattle.rules.specs.Asking.{Ty, Int, Rule, ret, Out, fresh}
 use Rattle.rules.specs.Typing.{Env, stale, typing, tyOf}
 use Rattle.rules.specs.Kept.{Table}
-use Rattle.rules.proofs.Keeps.{Consistent, Keeps, keeps}
+use Rattle.rules.proofs.Keeps.{Mapped, Afresh, Consistent, Keeps, keeps}
 use Rattle.rules.proofs.Coherence.{Fits, FitsAll, c-tyOf}
 use Rattle.rules.proofs.Lets.{Past, past-on, not-stale}
 
@@ -43,6 +43,44 @@ mutual
   pub ends-all : (i : ℕ) (es : Exprs) → NumberedFrom i es → i ≤ nexts i es
   ends-all i nil h = omega arith
   ends-all i (more e es) h = omega (arith, ends e (h .1), ends-all (next e) es (h .2))
+
+-- what holds of each line of an expression holds of the askings that type it
+module _ (P : ℕ → Type 0) (R : Rule Ty → Ty → Type 0) (Γ : Env) where
+  abbrev OfLine : Bool → ℕ → Rule Ty → Type 0
+  OfLine g l p = P l
+
+  -- of each line from i up to j
+  abbrev Between : ℕ → ℕ → Type 0
+  Between i j = (l : ℕ) → i ≤ l → l < j → P l
+
+  mutual
+    unfolding line
+
+    pub fits-lines : (e : Expr) → Numbered e → Between (line e) (next e) → Fits OfLine R Γ e
+    fits-lines (leaf l s k) h f = f l (omega arith) (omega arith)
+    fits-lines (unary l s o e) h f =
+        let z = ends e (h .1) in
+        (f l (omega arith) (omega arith), fits-lines e (h .1) (λ x u v. f x (omega arith) v))
+    fits-lines (binary l s o a b) h f =
+        let y = ends a (h .2) in
+        let z = ends b (h .3) in
+        (f l (omega arith) (omega arith), fits-lines a (h .2) (λ x u v. f x (omega arith) (omega arith)), fits-lines b (h .3) (λ x u v. f x (omega arith) v))
+    fits-lines (field l s e n m) h f = let z = ends e (h .1) in f l (omega arith) (omega arith)
+    fits-lines (call l s c es) h f =
+        let y = ends c (h .1) in
+        let z = ends-all (next c) es (h .2) in
+        (f l (omega arith) (omega arith), fits-lines-all (next c) es (h .2) (λ x u v. f x (omega arith) v))
+    fits-lines (wrap l s w e) h f =
+        let z = ends e (h .1) in
+        (f l (omega arith) (omega arith), fits-lines e (h .1) (λ x u v. f x (omega arith) v))
+
+    fits-lines-all : (i : ℕ) (es : Exprs) → NumberedFrom i es → Between i (nexts i es) → FitsAll OfLine R Γ es
+    fits-lines-all i nil h f = tt
+    fits-lines-all i (more e es) h f =
+        let y = ends e (h .1) in
+        let z = ends-all (next e) es (h .2) in
+        let w = h .0 in
+        (fits-lines e (h .1) (λ x u v. f x (omega arith) (omega arith)), fits-lines-all (next e) es (h .2) (λ x u v. f x (omega arith) v))
 
 -- what typing line i of the expression comes to
 abbrev mutual
@@ -95,7 +133,7 @@ module _ (m : ℕ → Out Ty) (n : ℕ) (Γ : Env) (k : ℕ) (past : Past (Γ .l
   mutual
     unfolding line
 
-    pub fits : (e : Expr) → k ≤ line e → Numbered e → next e ≤ n → Says m (outAt Γ e) (line e) (next e) → Fits m n Γ e
+    pub fits : (e : Expr) → k ≤ line e → Numbered e → next e ≤ n → Says m (outAt Γ e) (line e) (next e) → Fits (Mapped m n) Afresh Γ e
     fits (leaf l s v) g h b f = (sym (f l (omega arith) (omega arith)), omega arith, now _ g)
     fits (unary l s o e) g h b f =
         let z = ends e (h .1) in
@@ -125,7 +163,7 @@ module _ (m : ℕ → Out Ty) (n : ℕ) (Γ : Env) (k : ℕ) (past : Past (Γ .l
         let j : l < next e = omega arith in
         ((here m l (next e) _ (outAt Γ e) j f, omega arith, now _ g), fits e (omega arith) (h .1) b (within m l (next e) (line e) (next e) _ _ (omega arith) (omega arith) f))
 
-    pub fits-all : (i : ℕ) (es : Exprs) → k ≤ i → NumberedFrom i es → nexts i es ≤ n → Says m (outsAt Γ es) i (nexts i es) → FitsAll m n Γ es
+    pub fits-all : (i : ℕ) (es : Exprs) → k ≤ i → NumberedFrom i es → nexts i es ≤ n → Says m (outsAt Γ es) i (nexts i es) → FitsAll (Mapped m n) Afresh Γ es
     fits-all i nil g h b f = tt
     fits-all i (more e es) g h b f =
         let z = ends e (h .1) in
@@ -140,4 +178,4 @@ module _ (m : ℕ → Out Ty) (n : ℕ) (Γ : Env) (k : ℕ) (past : Past (Γ .l
 -- has the marks of the rules' askings.
 pub typed-kept : (Γ : Env) (e : Expr) (T : Table) → Past (Γ .lets) (line e) → Numbered e → next e ≤ length T → Consistent (outAt Γ e) T → Keeps (outAt Γ e) (tyOf Γ e) T
 typed-kept Γ e T past h b w =
-    keeps (outAt Γ e) (length T) (tyOf Γ e) T (c-tyOf (outAt Γ e) (length T) Γ e (fits (outAt Γ e) (length T) Γ (line e) past e (omega arith) h b (λ x u v. refl))) refl w
+    keeps (outAt Γ e) (length T) (tyOf Γ e) T (c-tyOf (Mapped (outAt Γ e) (length T)) Afresh Γ e (fits (outAt Γ e) (length T) Γ (line e) past e (omega arith) h b (λ x u v. refl))) refl w
