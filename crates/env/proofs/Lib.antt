@@ -1,4 +1,5 @@
 pub mod Judging
+pub mod Lets
 pub mod Lookups
 pub mod Mentioned
 pub mod Methods

@@ -31,15 +31,14 @@ use Rattle.rules.proofs.Keeps.{code-marks}
 use Rattle.rules.proofs.Exprs.{ident-at}
 use Rattle.rules.proofs.Parts.{parts}
 use Rattle.rules.proofs.Standing.{Stands, stands, row-behind, row-first}
-use Rattle.declared.specs.Codes.{IsCode, tyFrom}
+use Rattle.declared.specs.Codes.{tyFrom}
 use Rattle.declared.specs.Found.{ofKind, foundNode, foundField, Of, Last, FieldNamed}
 use Rattle.declared.specs.declared.model.Found.{Found}
 use Rattle.declared.specs.declared.model.Found.the-variants.{At, Nothing}
-use Rattle.declared.proofs.Codes.{code-of}
 use Rattle.declared.proofs.Fields.{last-map, all-kind, param-name}
 use Rattle.declared.proofs.Types.{type-name}
 pub use Rattle.declared.proofs.Behind.{TypeBehind, behind, found-typed, found-next}
-use Rattle.env.specs.Force.{paramsIn, localOf, lets, envOf, markOf, InForce, ExprIn, Ready, LetTyped, LetsTyped, no-let, a-let, fieldTy, fieldNode, keyedNode, FieldFound, KeyedFound}
+use Rattle.env.specs.Force.{paramsIn, localOf, lets, envOf, markOf, InForce, ExprIn, Ready, fieldTy, fieldNode, keyedNode, FieldFound, KeyedFound}
 use Rattle.env.specs.declared.env.Env.{Env}
 
 -- ------------------------------------------------------------ what a map has
@@ -109,18 +108,6 @@ module _ (s S : List ℕ) (x : Name) (d : Loaded s S) (r : Found) (n : FieldName
 
 -- ------------------------------------------------------------ locals
 
--- the last of a name is one of the list
-last-let : {T : Table} {ts : List Node} (x : Name) (t : Node) → LetsTyped T ts → lastNamed nodeName x ts ≡ some t → LetTyped T t
-unfolding lastNamed
-last-let x t no-let e = absurd (let z : _≡_ {A = ℕ} 0 1 = cc in omega arith)
-last-let {T} x t (a-let {t = u} {ts = ts} h hs) e = go (lastNamed nodeName x ts) (same x (nodeName u)) (last-let x t hs) e
-  where
-    go : (o : Option Node) (b : Bool) → (o ≡ some t → LetTyped T t)
-        → elim o as (λ _. Option Node) [ some y ↦ some y | none ↦ elim b as (λ _. Option Node) [ true ↦ some u | false ↦ none ] ] ≡ some t → LetTyped T t
-    go (some y) b f q = f q
-    go none true f q = rw (← let z : u ≡ t = cc in z) h
-    go none false f q = absurd (let z : _≡_ {A = ℕ} 0 1 = cc in omega arith)
-
 local-name : (T : Table) (t : Node) → localOf T t .0 ≡ nodeName t
 unfolding localOf nodeName
 local-name T (node i l ps) = refl
@@ -155,13 +142,11 @@ module _ (s S : List ℕ) (env : Env) (T : Table) (x : Name) (h : Ready s S env 
       pub value-next : length T < 18446744073709551616 → Fits w64 (i + 1)
       value-next f = record { fits = omega (arith, value-within) }
 
-      pub by-local : (v : ℕ) → v ≡ getD T (i + 1) 0 → v ≡ code (tyOfIdent (envOf s T env) x)
+      pub by-local : (v c : ℕ) → v ≡ getD T (i + 1) 0 → c ≡ code (tyFrom v) → c ≡ code (tyOfIdent (envOf s T env) x)
       unfolding tyOfIdent envOf foundNode lets localOf
-      by-local v f =
-          let q : LetTyped T (nodeAt s i) = last-let x (nodeAt s i) (h .typed) (sym (l .found) ∙ rw e refl) in
-          let c : IsCode (getD T (suc i) 0) = rw (let-line .here) at q in
+      by-local v c f k =
           let g : get x (map (localOf T) (lets s (env .bound) (env .body))) ≡ some (tyFrom (getD T (suc i) 0)) = local-got ∙ rw (e, let-line .here) refl in
-          f ∙ rw (add-one i, tyOfIdent, no-such, g) (sym (code-of (getD T (suc i) 0) c .1))
+          k ∙ rw (f, add-one i, tyOfIdent, no-such, g) refl
 
     pub by-field : (v : ℕ) → r ≡ Nothing → v ≡ code (fieldTy s x) → v ≡ code (tyOfIdent (envOf s T env) x)
     unfolding tyOfIdent envOf foundNode fieldTy

@@ -2,11 +2,11 @@
 use mathlib.Core.Logic.{_≢_}
 use mathlib.Core.Path.{_≡_, refl, sym, ap, _∙_}
 use mathlib.Core.List.{List, [], _∷_, append-nil}
-use mathlib.Core.Bool.{Bool, true, false, _||_, _&&_, or-assoc, and-false, or-false}
+use mathlib.Core.Bool.{Bool, true, false, _||_, _&&_, or-assoc, or-false}
 use mathlib.Core.Option.{none}
 use Prim.Native.Nat.{ℕ, zero, suc, _+_, _-_, _/_, _<_, _≤_}
 use native.Mathlib.Omega.{arith}
-use lib.Dec.{eqb}
+use lib.Dec.{eqb, ltb}
 use lib.ListN.{length}
 use borrow.Author.Tests.{eq-eqb, ne-eqb}
 use Rattle.sheet.specs.Grammar as grammar
@@ -18,16 +18,18 @@ use Rattle.sheet.specs.Held.{Held, held, HeldAll, no-tree, tree, Among, Parted,
 use Rattle.sheet.proofs.Holds.{all-le}
 use Rattle.rules.specs.Text.{Name, among}
 use Rattle.rules.specs.Ast.{exprOf, exprsOf, nodes}
-use Rattle.rules.specs.Typing.{identLeaf, isSome, leafHas, has, hasAny, stale}
-use Rattle.rules.specs.Standing.{nodeName, before, treesFrom, nodeAt, nodesAt, exprAt, Loaded, Here}
+use Rattle.rules.specs.Typing.{identLeaf, leafHas, has, hasAny, later, stale}
+use Rattle.rules.specs.Standing.{before, treesFrom, nodeAt, exprAt, Loaded, Here}
 use Rattle.rules.proofs.Parts.{stop, _also_, pick, parts}
+use Rattle.rules.proofs.Exprs.{line-at}
+use Rattle.rules.proofs.Lets.{past-on, not-stale}
 use Rattle.rules.proofs.Standing.{stands}
-use Rattle.declared.proofs.Finding.{among-last}
-use Rattle.declared.specs.Found.{ofKind, foundNode, Stretch, Last}
+use Rattle.declared.specs.Found.{foundNode, Of, Stretch, Last}
 use Rattle.declared.specs.declared.model.Found.{Found}
 use Rattle.declared.specs.declared.model.Found.the-variants.{At, Nothing}
-use Rattle.env.specs.Force.{lets, laterNames, InForce, ExprIn}
+use Rattle.env.specs.Force.{lets, endsIn, envOf, InForce, ExprIn}
 use Rattle.env.specs.declared.env.Env.{Env}
+use Rattle.env.proofs.Lets.{let-end, endsBehind, ends-past, among-later}
 
 -- ------------------------------------------------------------ one line
 
@@ -35,24 +37,26 @@ use Rattle.env.specs.declared.env.Env.{Env}
 abbrev pub hit : (s S : List ℕ) → List Name → ℕ → Bool
 hit s S xs i = eqb (kindAt S i) 21 && among (nameAt s S i) xs
 
-pub later-lets : (s S : List ℕ) (env : Env) → InForce s S env → Stretch s S (env .later) (env .own)
-later-lets s S env f = record { loaded = f .loaded; sort = grammar.Stmt; row = f .later }
+pub bound-lets : (s S : List ℕ) (env : Env) → InForce s S env → Stretch s S (env .bound) (env .body)
+bound-lets s S env f = record { loaded = f .loaded; sort = grammar.Stmt; row = f .locals }
 
-module _ (s S : List ℕ) (env : Env) (i k : ℕ) (e : k ≡ kindAt S i) where
-  pub no-id : (r : Bool) → k ≢ 21 → r ≡ false → r ≡ hit s S (laterNames s env) i
-  no-id r q f = f ∙ rw (← e, ne-eqb k 21 q) refl
+module _ (s S : List ℕ) (env : Env) (i at k : ℕ) (f : InForce s S env) (e : k ≡ kindAt S at) where
+  pub no-id : (r : Bool) → k ≢ 21 → r ≡ false → r ≡ hit s S (later i (endsIn s env)) at
+  no-id r q z = z ∙ rw (← e, ne-eqb k 21 q) refl
 
-  module _ (x : Name) (r : Found) (q : k ≡ 21) (n : x ≡ nameAt s S i) (l : Last s S 16 x (env .later) (env .own) r) where
-    by-search : isSome (foundNode s r) ≡ hit s S (laterNames s env) i
-    unfolding laterNames lets
-    by-search = ap isSome (l .found) ∙ rw (← e, eq-eqb k 21 q, ← n) (sym (among-last nodeName x (ofKind 16 (nodesAt s (env .later) (env .own)))))
+  module _ (x : Name) (r : Found) (q : k ≡ 21) (n : x ≡ nameAt s S at) (l : Last s S 16 x (env .bound) (env .body) r) where
+    by-search : endsBehind s i (foundNode s r) ≡ hit s S (later i (endsIn s env)) at
+    unfolding lets
+    by-search = ap (endsBehind s i) (l .found) ∙ rw (← e, eq-eqb k 21 q, ← n) (sym (among-later s S env f x i))
 
-    pub is-later : (j : ℕ) → r ≡ At j → true ≡ hit s S (laterNames s env) i
-    unfolding isSome foundNode
-    is-later j h = rw (← by-search, h) refl
+    pub is-later : (j v : ℕ) (b : Bool) → r ≡ At j → v ≡ endAt S j → b ≡ ltb i v → b ≡ hit s S (later i (endsIn s env)) at
+    unfolding foundNode
+    is-later j v b h w z =
+        let g : Of S 16 (At j) = rw h at (l .kind) in
+        z ∙ rw (w, ← let-end (f .loaded) j (g .0) (g .1)) (rw h at by-search)
 
-    pub not-later : r ≡ Nothing → false ≡ hit s S (laterNames s env) i
-    unfolding isSome foundNode
+    pub not-later : r ≡ Nothing → false ≡ hit s S (later i (endsIn s env)) at
+    unfolding foundNode
     not-later h = rw (← by-search, h) refl
 
 -- ------------------------------------------------------------ lines
@@ -71,11 +75,6 @@ any-add p i (suc a) b =
 any-split : (p : ℕ → Bool) (i j k : ℕ) → i ≤ j → j ≤ k → any p i (k - i) ≡ (any p i (j - i) || any p j (k - j))
 any-split p i j k g h =
     rw (let q : k - i ≡ (j - i) + (k - j) = omega arith in q) (any-add p i (j - i) (k - j) ∙ rw (let q : i + (j - i) ≡ j = omega arith in q) refl)
-
-any-none : (p : ℕ → Bool) → ((l : ℕ) → p l ≡ false) → (i k : ℕ) → any p i k ≡ false
-unfolding any
-any-none p h i zero = refl
-any-none p h i (suc k) = rw (h i) (any-none p h (suc i) k)
 
 -- ------------------------------------------------------------ one expression
 
@@ -167,39 +166,35 @@ module _ {s S : List ℕ} (d : Loaded s S) (xs : List Name) where
 
 -- ------------------------------------------------------------ the walk over the lines
 
--- of no names none is mentioned
-stale-has : {s S : List ℕ} (d : Loaded s S) (xs : List Name) (i : ℕ) → Here S grammar.Expr i → stale xs (exprAt s i) ≡ has xs (exprAt s i)
-unfolding stale among
-stale-has {s} {S} d [] i h =
-    sym (has-lines d [] i h ∙ any-none (hit s S []) (λ l. and-false (eqb (kindAt S l) 21)) i (endAt S i - i))
-stale-has d (x ∷ xs) i h = refl
-
-pub none-later : (s : List ℕ) (env : Env) (i : ℕ) (r : Bool) → env .later ≡ 0 → r ≡ false → r ≡ stale (laterNames s env) (exprAt s i)
-unfolding laterNames lets nodesAt takeNodes nodes ofKind stale
-none-later s env i r e f = rw (laterNames, lets, e) f
+pub past-next : (s S : List ℕ) (env : Env) (i : ℕ) (r : Bool) → ExprIn s S env i → env .next ≤ i → r ≡ false → r ≡ stale (envOf s [] env) (exprAt s i)
+unfolding envOf
+past-next s S env i r h q e =
+    let here = line-at (h .force .loaded) (h .here) in
+    e ∙ sym (not-stale (envOf s [] env) (exprAt s i) (rw here (past-on (endsIn s env) (env .next) i (ends-past s S env (h .force)) q)))
 
 -- what is found so far: nothing before line at
 pub record Looking (s S : List ℕ) (env : Env) (i end at : ℕ) : Type 0 where
-  pub rest : stale (laterNames s env) (exprAt s i) ≡ any (hit s S (laterNames s env)) at (end - at)
+  pub rest : stale (envOf s [] env) (exprAt s i) ≡ any (hit s S (later i (endsIn s env))) at (end - at)
 
 pub look-start : (s S : List ℕ) (env : Env) (i end : ℕ) → ExprIn s S env i → end ≡ endAt S i → Looking s S env i end i
+unfolding stale envOf
 look-start s S env i end h e =
     let d = h .force .loaded in
-    record { rest = stale-has d (laterNames s env) i (h .here) ∙ rw e (has-lines d (laterNames s env) i (h .here)) }
+    record { rest = rw (line-at d (h .here), e) (has-lines d (later i (endsIn s env)) i (h .here)) }
 
 module _ (s S : List ℕ) (env : Env) (i end at : ℕ) (l : Looking s S env i end at) where
-  pub look-over : (r : Bool) → end ≤ at → r ≡ false → r ≡ stale (laterNames s env) (exprAt s i)
+  pub look-over : (r : Bool) → end ≤ at → r ≡ false → r ≡ stale (envOf s [] env) (exprAt s i)
   unfolding any
   look-over r h e = e ∙ sym (l .rest ∙ rw (let q : end - at ≡ 0 = omega arith in q) refl)
 
-  module _ (h : at < end) (b : Bool) (e : b ≡ hit s S (laterNames s env) at) where
-    turn : stale (laterNames s env) (exprAt s i) ≡ (b || any (hit s S (laterNames s env)) (at + 1) (end - (at + 1)))
+  module _ (h : at < end) (b : Bool) (e : b ≡ hit s S (later i (endsIn s env)) at) where
+    turn : stale (envOf s [] env) (exprAt s i) ≡ (b || any (hit s S (later i (endsIn s env))) (at + 1) (end - (at + 1)))
     unfolding any
     turn =
         l .rest
         ∙ rw (e, let q : end - at ≡ suc (end - suc at) = omega arith in q, let q : at + 1 ≡ suc at = omega arith in q) refl
 
-    pub look-found : (r : Bool) → b ≡ true → r ≡ true → r ≡ stale (laterNames s env) (exprAt s i)
+    pub look-found : (r : Bool) → b ≡ true → r ≡ true → r ≡ stale (envOf s [] env) (exprAt s i)
     look-found r q f = f ∙ sym (turn ∙ rw q refl)
 
     pub look-next : b ≡ false → Looking s S env i end (at + 1)

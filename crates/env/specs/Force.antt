@@ -6,10 +6,10 @@ use mathlib.Core.Option.{Option, none, some}
 use mathlib.Core.Path.{_≡_}
 use lib.ListN.{length, getD}
 use Rattle.sheet.specs.Grammar as grammar
-use Rattle.sheet.specs.Scratch.{entry}
+use Rattle.sheet.specs.Scratch.{entry, skip}
 use Rattle.sheet.specs.Tree.{Node, node}
 use Rattle.rules.specs.Text.{Name, is, isOne, get, lastNamed}
-use Rattle.rules.specs.Ast.{fieldOf, paramOf, typeName}
+use Rattle.rules.specs.Ast.{next, fieldOf, paramOf, typeName}
 use Rattle.rules.specs.Asking.{Ty, Address, Unknown, code}
 use Rattle.rules.specs.Kept.{Table}
 use Rattle.rules.specs.Declared.{tyOfDecl}
@@ -17,7 +17,7 @@ use Rattle.rules.specs.Model.{fieldNamed}
 use Rattle.rules.specs.Typing as typing
 use Rattle.rules.specs.Check.{paramTypes}
 use Rattle.rules.specs.Standing.{nodeName, nodesAt, exprAt, modelIn, Loaded, Here, Row}
-use Rattle.declared.specs.Codes.{IsCode, tyFrom}
+use Rattle.declared.specs.Codes.{tyFrom}
 use Rattle.declared.specs.Found.{ofKind, allFields, foundNode, foundField, Of}
 use Rattle.declared.specs.declared.model.Found.{Found}
 use Rattle.env.specs.declared.env.Env.{Env}
@@ -29,12 +29,16 @@ paramsIn s env = paramTypes (map paramOf (nodesAt s (env .count) (env .params)))
 unfoldable pub localOf : Table → Node → Name × Ty
 localOf T (node i l ps) = (l .name, tyFrom (getD T (suc i) 0))
 
+-- ... with the first line behind it
+unfoldable pub endOf : List ℕ → Node → Name × ℕ
+endOf s (node i l ps) = (l .name, next (exprAt s (suc i)))
+
 unfoldable pub lets : List ℕ → (count line : ℕ) → List Node
 lets s m i = ofKind 16 (nodesAt s m i)
 
--- names of the `let`s that were bound since the present statement or clause began
-unfoldable pub laterNames : List ℕ → Env → List Name
-laterNames s env = map nodeName (lets s (env .later) (env .own))
+-- the bound `let`s, each with the first line behind it
+unfoldable pub endsIn : List ℕ → Env → List (Name × ℕ)
+endsIn s env = map (endOf s) (lets s (env .bound) (env .body))
 
 unfoldable pub envOf : List ℕ → Table → Env → typing.Env
 envOf s T env =
@@ -43,36 +47,27 @@ envOf s T env =
       params = paramsIn s env;
       locals = map (localOf T) (lets s (env .bound) (env .body));
       genesis = env .genesis;
-      later = laterNames s env;
+      lets = endsIn s env;
     }
 
 -- ------------------------------------------------------------ what the code asks
-
--- the values of `let`s have types in the table
-abbrev pub LetTyped : Table → Node → Type 0
-LetTyped T (node i l ps) = IsCode (getD T (suc i) 0)
-
-pub data LetsTyped (T : Table) : List Node → Type 0 where
-  no-let : LetsTyped T []
-  a-let : {t : Node} {ts : List Node} → LetTyped T t → LetsTyped T ts → LetsTyped T (t ∷ ts)
 
 -- the lines that an `Env` tells are there
 pub record InForce (s S : List ℕ) (env : Env) : Type 0 where
   pub loaded : Loaded s S
   pub params : Row S grammar.Param (env .count) (env .params)
   pub locals : Row S grammar.Stmt (env .bound) (env .body)
-  pub later : Row S grammar.Stmt (env .later) (env .own)
+  pub next : env .next ≡ skip S (env .bound) (env .body)
 
 -- ... and an expression stands at line i
 pub record ExprIn (s S : List ℕ) (env : Env) (i : ℕ) : Type 0 where
   pub force : InForce s S env
   pub here : Here S grammar.Expr i
 
--- ... and the table has a byte a line, and the types of the locals
+-- ... and the table has a byte a line
 pub record Ready (s S : List ℕ) (env : Env) (T : Table) : Type 0 where
   pub force : InForce s S env
   pub room : length S / 8 ≤ length T
-  pub typed : LetsTyped T (lets s (env .bound) (env .body))
 
 -- ------------------------------------------------------------ what is found
 

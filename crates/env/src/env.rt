@@ -3,6 +3,7 @@ use declared::Found;
 use declared::field_named;
 use declared::last_named;
 use declared::ty_of_decl;
+use declared::type_code;
 use sheet::kind;
 use sheet::name;
 use text::is_word;
@@ -15,15 +16,13 @@ ghost use Rattle.rules.specs.Typing.{isNameParam, isPool, tyOfIdent};
 ghost use Rattle.env.specs.Force.{envOf, ExprIn, FieldFound, fieldTy, InForce, KeyedFound, markOf, paramsIn, Ready};
 
 // The model is that of the sheet. The parameters are `count` records from line `params` on. Of the statements from
-// line `body` on, the `let`s among the first `bound` are bound; `later` of these, from line `own` on, were bound since the
-// statement or clause began whose types are asked: none, wherever `check` itself asks.
+// line `body` on, the `let`s among the first `bound` are bound; `next` is the line behind these.
 pub struct Env {
     pub params: usize,
     pub count: usize,
     pub body: usize,
     pub bound: usize,
-    pub own: usize,
-    pub later: usize,
+    pub next: usize,
     pub genesis: bool,
 }
 
@@ -49,7 +48,7 @@ fn ty_of_field(sheet: &[u8], lines: &[u16], x: &[u8]) -> u8
     }
 }
 
-// `ty_of_ident`: a local hides a field here.
+// `ty_of_ident`: a local hides a field here. Its type is what the table has for its value, Unknown where that is no type.
 pub fn ty_of_ident(sheet: &[u8], lines: &[u16], env: Env, table: &[u8], x: &[u8]) -> u8
     requires { ⌜ Ready (now sheet) (now lines) env (now table) ⌝ }
     ensures { λ r. ⌜ r ≡ code (tyOfIdent (envOf (now (sheet .entry)) (now (table .entry)) env) (now (x .entry))) ⌝ }
@@ -59,7 +58,7 @@ pub fn ty_of_ident(sheet: &[u8], lines: &[u16], env: Env, table: &[u8], x: &[u8]
         return ty;
     }
     match last_named(sheet, lines, 16, x, env.body, env.bound) {
-        Found::At(i) => table[i + 1],
+        Found::At(i) => type_code(table[i + 1]),
         Found::Nothing => ty_of_field(sheet, lines, x),
     }
 }

@@ -17,6 +17,7 @@ ty-of-ident-spec =
     (λ c. search needs)
     (λ c. search (needs, value-next))
     (λ c. search (needs, value-within))
+    (λ c κs. search needs)
     (λ c. search needs)
     (λ c κs. search needs)
     local

@@ -1,5 +1,5 @@
 use borrow.Author.Needs.{needs}
-use Rattle.env.proofs.Mentioned.{later-lets, no-id, is-later, not-later}
+use Rattle.env.proofs.Mentioned.{bound-lets, no-id, is-later, not-later}
 use Rattle.env.proofs.later.is_later.Statement.{statement}
 use Rattle.env.proofs.later.is_later.Tie as tie
 
@@ -10,8 +10,9 @@ is-later-spec =
     (λ c κs. search needs)
     (λ c. search (needs, no-id))
     (λ c κs. search needs)
-    (λ c κs. search (needs, later-lets))
+    (λ c κs. search (needs, bound-lets))
     (λ c. search needs)
+    (λ c κs. search needs)
     (λ c. search needs)
     (λ c. search (needs, is-later))
     (λ c. search (needs, not-later)))

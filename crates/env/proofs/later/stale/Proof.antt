@@ -1,7 +1,7 @@
 use borrow.Author.Needs.{needs}
 use native.Mathlib.Omega.{arith}
 use Prim.Native.Nat.{_-_}
-use Rattle.env.proofs.Mentioned.{Looking, none-later, look-start, look-over, look-found, look-next}
+use Rattle.env.proofs.Mentioned.{Looking, past-next, look-start, look-over, look-found, look-next}
 use Rattle.env.proofs.later.stale.Statement.{statement}
 use Rattle.env.proofs.later.stale.Tie as tie
 
@@ -15,7 +15,7 @@ pub stale-spec : {M : Type 1} → statement M
 stale-spec =
     tie.close
     (tie.spec Inv μ
-    (λ c. search (needs, none-later))
+    (λ c. search (needs, past-next))
     (λ c κs. search needs)
     (λ c. search (needs, look-start))
     (λ c κs. search needs)

@@ -1,0 +1,120 @@
+-- The bound `let`s stand one behind another, so that of those of a name the last ends last. Assumes nothing.
+use mathlib.Core.Path.{_≡_, refl, sym, ap, _∙_}
+use mathlib.Core.List.{List, [], _∷_, map}
+use mathlib.Core.Bool.{Bool, true, false, cond}
+use mathlib.Core.Option.{Option, none, some}
+use Prim.Native.Nat.{ℕ, suc, _/_, _<_, _≤_}
+use native.Mathlib.Omega.{arith}
+use lib.Dec.{eqb, ltb}
+use lib.ListN.{length}
+use borrow.Author.Tests.{eqb-true, eqb-false, lt-ltb, ltb-true}
+use Rattle.text.specs.Text.{same}
+use Rattle.sheet.specs.Grammar as grammar
+use Rattle.sheet.specs.Load.{sorts, times}
+use Rattle.sheet.specs.Scratch.{kindAt, endAt, skip}
+use Rattle.sheet.specs.Tree.{Node, node, takeNodes}
+use Rattle.rules.specs.Text.{Name, among, lastNamed}
+use Rattle.rules.specs.Ast.{nodes}
+use Rattle.rules.specs.Typing.{later}
+use Rattle.rules.specs.Standing.{nodeName, nodeAt, nodesAt, Loaded, Row, stop, next}
+use Rattle.rules.proofs.Forest.{parts-end, placed-at}
+use Rattle.rules.proofs.Lets.{Past}
+use Rattle.rules.proofs.Parts.{parts}
+use Rattle.rules.proofs.Standing.{stands, nodes-next, row-behind, row-first}
+use Rattle.declared.specs.Found.{nodeKind, ofKind}
+use Rattle.env.specs.Force.{endOf, lets, endsIn, InForce}
+use Rattle.env.specs.declared.env.Env.{Env}
+
+-- the line behind a `let` is the one behind its value
+pub let-end : {s S : List ℕ} → Loaded s S → (j : ℕ) → j < length S / 8 → kindAt S j ≡ 16 → endOf s (nodeAt s j) .1 ≡ endAt S j
+unfolding endOf sorts times skip
+let-end d j w k =
+    let t = stands d j w in
+    let g = parts (t .line) 16 (t .parted) (sym (t .says .kind) ∙ k) in
+    let r = row-behind {σ = grammar.Expr} 1 [] t (rw g refl) in
+    rw (t .here) (placed-at d (row-first r) .2 ∙ parts-end grammar.Expr 1 t (rw g refl))
+
+module _ (s : List ℕ) where
+  -- each ends behind the one before, the first at line lo or behind it, the last at line hi or before it
+  abbrev Rising : ℕ → ℕ → List Node → Type 0
+  Rising lo hi [] = lo ≤ hi
+  Rising lo hi (t ∷ ts) = (lo ≤ endOf s t .1) × Rising (endOf s t .1) hi ts
+
+  from : (lo i hi : ℕ) (ts : List Node) → i ≤ lo → Rising lo hi ts → Rising i hi ts
+  from lo i hi [] h r = omega arith
+  from lo i hi (t ∷ ts) h r = (omega (arith, r .0), r .1)
+
+  most : (lo hi : ℕ) (ts : List Node) → Rising lo hi ts → lo ≤ hi
+  most lo hi [] r = r
+  most lo hi (t ∷ ts) r = omega (arith, r .0, most (endOf s t .1) hi ts (r .1))
+
+  rising-past : (lo hi : ℕ) (ts : List Node) → Rising lo hi ts → Past (map (endOf s) ts) hi
+  rising-past lo hi [] r = tt
+  rising-past lo hi (t ∷ ts) r = (most (endOf s t .1) hi ts (r .1), rising-past (endOf s t .1) hi ts (r .1))
+
+  least : (x : Name) (lo hi : ℕ) (ts : List Node) → Rising lo hi ts → (b : Node) → lastNamed nodeName x ts ≡ some b → lo ≤ endOf s b .1
+  unfolding lastNamed
+  least x lo hi [] r b e = absurd (let z : _≡_ {A = ℕ} 0 1 = cc in omega arith)
+  least x lo hi (t ∷ ts) r b e = go (lastNamed nodeName x ts) (same x (nodeName t)) (least x (endOf s t .1) hi ts (r .1) b) e
+    where
+      go : (o : Option Node) (c : Bool) → (o ≡ some b → endOf s t .1 ≤ endOf s b .1)
+          → elim o as (λ _. Option Node) [ some y ↦ some y | none ↦ elim c as (λ _. Option Node) [ true ↦ some t | false ↦ none ] ] ≡ some b → lo ≤ endOf s b .1
+      go (some y) c f q = omega (arith, r .0, f q)
+      go none true f q = rw (← let z : t ≡ b = cc in z) (r .0)
+      go none false f q = absurd (let z : _≡_ {A = ℕ} 0 1 = cc in omega arith)
+
+  -- whether the `let` that was found ends behind line i
+  abbrev pub endsBehind : ℕ → Option Node → Bool
+  endsBehind i none = false
+  endsBehind i (some t) = ltb i (endOf s t .1)
+
+  end-name : (t : Node) → endOf s t .0 ≡ nodeName t
+  unfolding endOf nodeName
+  end-name (node i l ps) = refl
+
+  last-later : (x : Name) (i lo hi : ℕ) (ts : List Node) → Rising lo hi ts → among x (later i (map (endOf s) ts)) ≡ endsBehind i (lastNamed nodeName x ts)
+  unfolding among later lastNamed
+  last-later x i lo hi [] r = refl
+  last-later x i lo hi (t ∷ ts) r =
+      go (lastNamed nodeName x ts) (same x (nodeName t)) (ltb i (endOf s t .1)) (ap (same x) (end-name t)) refl (last-later x i (endOf s t .1) hi ts (r .1)) (least x (endOf s t .1) hi ts (r .1))
+    where
+      go : (o : Option Node) (b c : Bool) → same x (endOf s t .0) ≡ b → ltb i (endOf s t .1) ≡ c → among x (later i (map (endOf s) ts)) ≡ endsBehind i o
+          → ((u : Node) → o ≡ some u → endOf s t .1 ≤ endOf s u .1)
+          → among x (elim c as (λ _. List Name) [ true ↦ endOf s t .0 ∷ later i (map (endOf s) ts) | false ↦ later i (map (endOf s) ts) ])
+          ≡ endsBehind i (elim o as (λ _. Option Node) [ some y ↦ some y | none ↦ elim b as (λ _. Option Node) [ true ↦ some t | false ↦ none ] ])
+      go (some y) true true d e h f = rw (among, d, let z = f y refl in let w = ltb-true i (endOf s t .1) e in lt-ltb i (endOf s y .1) (omega arith)) refl
+      go (some y) false true d e h f = rw (among, d) h
+      go none true true d e h f = rw (among, d, e) refl
+      go none false true d e h f = rw (among, d) h
+      go (some y) b false d e h f = h
+      go none true false d e h f = h ∙ sym e
+      go none false false d e h f = h
+
+-- the `let`s of statements that stand one behind another
+lets-rise : {s S : List ℕ} {m i : ℕ} → Loaded s S → Row S grammar.Stmt m i → Rising s i (skip S m i) (lets s m i)
+unfolding skip lets nodesAt takeNodes nodes ofKind nodeKind
+lets-rise {s} {S} {i = i} d stop = omega arith
+lets-rise {s} {S} {m = suc m} {i = i} d (next h r) =
+    rw (lets, nodes-next d m i (h .within), ofKind) (go (eqb (nodeKind (nodeAt s i)) 16) refl (lets-rise d r))
+  where
+    kind : nodeKind (nodeAt s i) ≡ kindAt S i
+    kind = let t = stands d i (h .within) in rw (t .here) (sym (t .says .kind))
+
+    go : (b : Bool) → eqb (nodeKind (nodeAt s i)) 16 ≡ b → Rising s (endAt S i) (skip S m (endAt S i)) (ofKind 16 (nodesAt s m (endAt S i)))
+        → Rising s i (skip S m (endAt S i)) (elim b as (λ _. List Node) [ true ↦ nodeAt s i ∷ ofKind 16 (nodesAt s m (endAt S i)) | false ↦ ofKind 16 (nodesAt s m (endAt S i)) ])
+    go true e q = rw (let-end d i (h .within) (sym kind ∙ eqb-true _ 16 e)) (omega (arith, h .after), q)
+    go false e q = from s (endAt S i) i (skip S m (endAt S i)) (ofKind 16 (nodesAt s m (endAt S i))) (omega (arith, h .after)) q
+
+module _ (s S : List ℕ) (env : Env) (f : InForce s S env) where
+  rising : Rising s (env .body) (env .next) (lets s (env .bound) (env .body))
+  rising = rw (f .next) (lets-rise (f .loaded) (f .locals))
+
+  -- no bound `let` ends behind line `next`
+  pub ends-past : Past (endsIn s env) (env .next)
+  unfolding endsIn
+  ends-past = rising-past s (env .body) (env .next) (lets s (env .bound) (env .body)) rising
+
+  -- a name is that of a bound `let` which ends behind line i where the last of the name does
+  pub among-later : (x : Name) (i : ℕ) → among x (later i (endsIn s env)) ≡ endsBehind s i (lastNamed nodeName x (lets s (env .bound) (env .body)))
+  unfolding endsIn
+  among-later x i = last-later s x i (env .body) (env .next) (lets s (env .bound) (env .body)) rising
