@@ -7,7 +7,7 @@ use Prim.Native.Nat.{ℕ, suc, _/_, _<_, _≤_}
 use native.Mathlib.Omega.{arith}
 use lib.Dec.{eqb, ltb}
 use lib.ListN.{length}
-use borrow.Author.Tests.{eqb-true, eqb-false, lt-ltb, ltb-true}
+use borrow.Author.Tests.{eqb-true, lt-ltb, ltb-true}
 use Rattle.text.specs.Text.{same}
 use Rattle.sheet.specs.Grammar as grammar
 use Rattle.sheet.specs.Load.{sorts, times}
@@ -17,6 +17,7 @@ use Rattle.rules.specs.Text.{Name, among, lastNamed}
 use Rattle.rules.specs.Ast.{nodes}
 use Rattle.rules.specs.Typing.{later}
 use Rattle.rules.specs.Standing.{nodeName, nodeAt, nodesAt, Loaded, Row, stop, next}
+use Rattle.rules.proofs.All.{All}
 use Rattle.rules.proofs.Forest.{parts-end, placed-at}
 use Rattle.rules.proofs.Lets.{Past}
 use Rattle.rules.proofs.Parts.{parts}
@@ -90,20 +91,40 @@ module _ (s : List ℕ) where
       go none true false d e h f = h ∙ sym e
       go none false false d e h f = h
 
--- the `let`s of statements that stand one behind another
-lets-rise : {s S : List ℕ} {m i : ℕ} → Loaded s S → Row S grammar.Stmt m i → Rising s i (skip S m i) (lets s m i)
-unfolding skip lets nodesAt takeNodes nodes ofKind nodeKind
-lets-rise {s} {S} {i = i} d stop = omega arith
-lets-rise {s} {S} {m = suc m} {i = i} d (next h r) =
-    rw (lets, nodes-next d m i (h .within), ofKind) (go (eqb (nodeKind (nodeAt s i)) 16) refl (lets-rise d r))
-  where
-    kind : nodeKind (nodeAt s i) ≡ kindAt S i
-    kind = let t = stands d i (h .within) in rw (t .here) (sym (t .says .kind))
+-- ------------------------------------------------------------ the `let`s of statements that stand one behind another
 
-    go : (b : Bool) → eqb (nodeKind (nodeAt s i)) 16 ≡ b → Rising s (endAt S i) (skip S m (endAt S i)) (ofKind 16 (nodesAt s m (endAt S i)))
-        → Rising s i (skip S m (endAt S i)) (elim b as (λ _. List Node) [ true ↦ nodeAt s i ∷ ofKind 16 (nodesAt s m (endAt S i)) | false ↦ ofKind 16 (nodesAt s m (endAt S i)) ])
-    go true e q = rw (let-end d i (h .within) (sym kind ∙ eqb-true _ 16 e)) (omega (arith, h .after), q)
-    go false e q = from s (endAt S i) i (skip S m (endAt S i)) (ofKind 16 (nodesAt s m (endAt S i))) (omega (arith, h .after)) q
+module _ {s S : List ℕ} (d : Loaded s S) where
+  -- the first statement is one of them where it is a `let`
+  lets-first : (m i : ℕ) → i < length S / 8 → lets s (suc m) i ≡ cond (eqb (kindAt S i) 16) (nodeAt s i ∷ lets s m (endAt S i)) (lets s m (endAt S i))
+  unfolding lets ofKind nodeKind
+  lets-first m i h =
+      let t = stands d i h in
+      let kind : nodeKind (nodeAt s i) ≡ kindAt S i = rw (t .here) (sym (t .says .kind)) in
+      rw (nodes-next d m i h, ofKind, kind) (go (eqb (kindAt S i) 16))
+    where
+      go : (b : Bool) → _≡_ {A = List Node} (elim b [ true ↦ nodeAt s i ∷ ofKind 16 (nodesAt s m (endAt S i)) | false ↦ ofKind 16 (nodesAt s m (endAt S i)) ]) (cond b (nodeAt s i ∷ ofKind 16 (nodesAt s m (endAt S i))) (ofKind 16 (nodesAt s m (endAt S i))))
+      go true = refl
+      go false = refl
+
+  lets-rise : {m i : ℕ} → Row S grammar.Stmt m i → Rising s i (skip S m i) (lets s m i)
+  unfolding skip lets nodesAt takeNodes nodes ofKind
+  lets-rise {i = i} stop = omega arith
+  lets-rise {m = suc m} {i = i} (next h r) = rw (lets-first m i (h .within)) (go (eqb (kindAt S i) 16) refl (lets-rise r))
+    where
+      go : (b : Bool) → eqb (kindAt S i) 16 ≡ b → Rising s (endAt S i) (skip S m (endAt S i)) (lets s m (endAt S i))
+          → Rising s i (skip S m (endAt S i)) (cond b (nodeAt s i ∷ lets s m (endAt S i)) (lets s m (endAt S i)))
+      go true e q = rw (let-end d i (h .within) (eqb-true _ 16 e)) (omega (arith, h .after), q)
+      go false e q = from s (endAt S i) i (skip S m (endAt S i)) (lets s m (endAt S i)) (omega (arith, h .after)) q
+
+  -- what holds of each `let` of the sheet
+  pub lets-all : (P : Node → Type 0) → ((j : ℕ) → j < length S / 8 → kindAt S j ≡ 16 → P (nodeAt s j)) → {m i : ℕ} → Row S grammar.Stmt m i → All P (lets s m i)
+  unfolding lets nodesAt takeNodes nodes ofKind
+  lets-all P f stop = tt
+  lets-all P f {m = suc m} {i = i} (next h r) = rw (lets-first m i (h .within)) (go (eqb (kindAt S i) 16) refl (lets-all P f r))
+    where
+      go : (b : Bool) → eqb (kindAt S i) 16 ≡ b → All P (lets s m (endAt S i)) → All P (cond b (nodeAt s i ∷ lets s m (endAt S i)) (lets s m (endAt S i)))
+      go true e q = (f i (h .within) (eqb-true _ 16 e), q)
+      go false e q = q
 
 module _ (s S : List ℕ) (env : Env) (f : InForce s S env) where
   rising : Rising s (env .body) (env .next) (lets s (env .bound) (env .body))

@@ -3,10 +3,11 @@ use Prim.Native.Nat.{ℕ, suc, _/_, _≤_}
 use mathlib.Core.List.{List, [], _∷_, map}
 use mathlib.Core.Bool.{true, false}
 use mathlib.Core.Option.{Option, none, some}
+use mathlib.Core.Logic.{_≢_}
 use mathlib.Core.Path.{_≡_}
 use lib.ListN.{length, getD}
 use Rattle.sheet.specs.Grammar as grammar
-use Rattle.sheet.specs.Scratch.{entry, skip}
+use Rattle.sheet.specs.Scratch.{entry, kindAt, skip}
 use Rattle.sheet.specs.Tree.{Node, node}
 use Rattle.rules.specs.Text.{Name, is, isOne, get, lastNamed}
 use Rattle.rules.specs.Ast.{next, fieldOf, paramOf, typeName}
@@ -64,7 +65,11 @@ pub record ExprIn (s S : List ℕ) (env : Env) (i : ℕ) : Type 0 where
   pub force : InForce s S env
   pub here : Here S grammar.Expr i
 
--- ... and the table has a byte a line
+-- line i is no `let`'s value
+pub record Apart (S : List ℕ) (i : ℕ) : Type 0 where
+  pub before : (j : ℕ) → suc j ≡ i → kindAt S j ≢ 16
+
+-- the lines of an `Env` are there, and the table has a byte a line
 pub record Ready (s S : List ℕ) (env : Env) (T : Table) : Type 0 where
   pub force : InForce s S env
   pub room : length S / 8 ≤ length T

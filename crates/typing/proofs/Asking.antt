@@ -1,7 +1,7 @@
 -- `ty_of`, `ty_again` and `typing`: what each return and each call needs. Assumes nothing.
 use mathlib.Core.Logic.{_≢_}
 use mathlib.Core.Path.{_≡_, refl, sym, ap, _∙_}
-use mathlib.Core.List.{List}
+use mathlib.Core.List.{List, []}
 use mathlib.Core.Bool.{Bool, true, false, _&&_}
 use Prim.Native.Nat.{ℕ, _+_, _-_, _<_, _≤_}
 use native.Mathlib.Numerals.{add-one}
@@ -24,7 +24,7 @@ use Rattle.declared.specs.Codes.{tyFrom, IsCode}
 use Rattle.declared.specs.declared.refusal.Refusal.{Refusal}
 use Rattle.declared.proofs.Codes.{code-of, code-is, from-code, told, untold}
 use Rattle.env.specs.Answers.{typedOf}
-use Rattle.env.specs.Force.{envOf, laterNames, ExprIn}
+use Rattle.env.specs.Force.{envOf, ExprIn}
 use Rattle.env.specs.declared.env.Env.{Env}
 use Rattle.env.specs.declared.judge.Typed.{Typed}
 use Rattle.env.specs.declared.judge.Typed.the-variants.{Is, Refused}
@@ -47,13 +47,13 @@ module _ (s S : List ℕ) (env : Env) (T : Table) (i : ℕ) (h : Asks s S env T 
 
   module _ (known : ℕ) (b : Bool) (e : known ≡ getD T i 0) (t : b ≡ (leb 1 known && leb known 10)) where
     -- answered from the table
-    pub of-known : (q : Bool) → b ≡ true → q ≡ stale (laterNames s env) (exprAt s i) → q ≡ false → Types s (tyOf (envOf s T env) (exprAt s i)) T (Is known) T
-    unfolding envOf typedOf
+    pub of-known : (q : Bool) → b ≡ true → q ≡ stale (envOf s [] env) (exprAt s i) → q ≡ false → Types s (tyOf (envOf s T env) (exprAt s i)) T (Is known) T
+    unfolding envOf typedOf stale
     of-known q y x z =
         let c = told known (sym t ∙ y) in
         record { gives = from-table (envOf s T env) (exprAt s i) T _ (sym x ∙ z) (rw (here, ← e) (code-of known c .0)); valid = c }
 
-    pub of-again : (q : Bool) → b ≡ true → q ≡ stale (laterNames s env) (exprAt s i) → q ≡ true → AsksAgain s S env T i
+    pub of-again : (q : Bool) → b ≡ true → q ≡ stale (envOf s [] env) (exprAt s i) → q ≡ true → AsksAgain s S env T i
     of-again q y x z = record { asks = h; marked = rw e at (told known (sym t ∙ y)); stale = sym x ∙ z }
 
     -- typed for the first time
@@ -108,7 +108,7 @@ module _ (s S : List ℕ) (env : Env) (T : Table) (i : ℕ) (h : AsksAgain s S e
     again-room = fresh-room s S env T i (h .asks) a U k
 
     retype : kept (tyOf (envOf s T env) (exprAt s i)) T ≡ retyped i (typedOf s a) U (λ t W. record { res = ok t; table = W })
-    unfolding envOf
+    unfolding envOf stale
     retype =
         again (envOf s T env) (exprAt s i) T (tyFrom (getD T i 0)) (h .stale) (rw at (code-of (getD T i 0) (h .marked) .0))
         ∙ rw (k .gives, at) refl

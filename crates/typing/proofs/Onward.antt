@@ -1,21 +1,39 @@
--- What stays when typing has gone on: the locals' types, and so what is in force. Assumes nothing.
+-- What stays when typing has gone on: the locals' types, and so what is in force. No asking inside an expression is of a `let`'s
+-- value, so none changes what the table has for one. Assumes nothing.
+use mathlib.Core.Logic.{_≢_}
 use mathlib.Core.Path.{_≡_, refl, sym, ap, _∙_}
-use mathlib.Core.List.{List, map}
-use mathlib.Core.Option.{some}
-use Prim.Native.Nat.{ℕ, suc}
+use mathlib.Core.List.{List, [], _∷_, map}
+use mathlib.Core.Bool.{Bool, true, false}
+use Prim.Native.Nat.{ℕ, zero, suc, _-_, _/_, _<_, _≤_}
 use native.Mathlib.Omega.{arith}
+use lib.Dec.{leb}
 use lib.ListN.{length, getD}
-use Rattle.sheet.specs.Tree.{Node, node}
-use Rattle.rules.specs.Asking.{Ty, codeR, ok, Rule}
-use Rattle.rules.specs.Kept.{Table, tyOfMark, kept}
-use Rattle.rules.proofs.Binding.{kept-length, kept-holds}
+use borrow.Author.Tests.{leb-true, leb-false}
+use Rattle.sheet.specs.Grammar as grammar
+use Rattle.sheet.specs.Scratch.{kindAt, endAt}
+use Rattle.sheet.specs.Tree.{Node, node, takeNodes}
+use Rattle.rules.specs.Ast.{exprsOf}
+use Rattle.rules.specs.Asking.{Ty, codeR, ok, Rule, ret, refuse, ask}
+use Rattle.rules.specs.Kept.{Table, kept}
+use Rattle.rules.specs.Text.{Name}
+use Rattle.rules.specs.Typing as rules
+use Rattle.rules.specs.Typing.{askEach, tyOf, typings}
+use Rattle.rules.specs.Standing.{exprAt, exprsAt, Loaded, Here, Row, stop, next}
+use Rattle.rules.proofs.All.{All}
+use Rattle.rules.proofs.Binding.{kept-length, Off, kept-off}
+use Rattle.rules.proofs.Coherence.{Fits, FitsAll, c-tyOf, c-typings, c-each, c-when, c-amount}
+use Rattle.rules.proofs.Forest.{here-inside, placed-at}
+use Rattle.rules.proofs.Keeps.{Throughout}
+use Rattle.rules.proofs.Lines.{fits-lines}
+use Rattle.rules.proofs.Standing.{stands, exprs-next}
 use Rattle.declared.proofs.Codes.{code-of}
+use Rattle.env.proofs.Lets.{lets-all}
 use Rattle.env.specs.Answers.{typedOf, Valid}
-use Rattle.env.specs.Force.{envOf, localOf, LetsTyped, no-let, a-let, Ready}
+use Rattle.env.specs.Force.{envOf, localOf, lets, Apart, Ready}
 use Rattle.env.specs.declared.env.Env.{Env}
 use Rattle.env.specs.declared.judge.Typed.{Typed}
 use Rattle.env.specs.declared.judge.Typed.the-variants.{Is, Refused}
-use Rattle.typing.specs.Asks.{answerMark}
+use Rattle.typing.specs.Asks.{amountRule, answerMark}
 
 -- the mark of an answer is its code
 pub mark-code : (s : List ℕ) (a : Typed) → Valid a → codeR (typedOf s a) ≡ answerMark a
@@ -23,27 +41,87 @@ unfolding codeR typedOf answerMark
 mark-code s (Is c) h = code-of c h .1
 mark-code s (Refused r) h = refl
 
+-- ------------------------------------------------------------ lines that are no `let`'s value
+
+module _ {s S : List ℕ} (d : Loaded s S) {i : ℕ} (h : Here S grammar.Expr i) where
+  -- the line behind that of an expression, and the one behind its parts
+  pub apart-below : Apart S (suc i)
+  apart-below = record { before = λ j e k. omega (arith, h .kind .0, k, let q : j ≡ i = omega arith in ap (kindAt S) q) }
+
+  behind : (l : ℕ) → i < l → l ≤ endAt S i → Apart S l
+  behind l a b = record { before = λ j e k. let q = here-inside d j h (omega arith) (omega arith) in omega (arith, q .kind .0, k) }
+
+  pub apart-next : Apart S (endAt S i)
+  apart-next = behind (endAt S i) (h .after) (omega arith)
+
+  -- each of its lines, where it is no `let`'s value itself
+  apart-lines : Apart S i → (l : ℕ) → i ≤ l → l < endAt S i → Apart S l
+  apart-lines a l u v = record { before = λ j e k. by-first j e k (leb l i) refl }
+    where
+      by-first : (j : ℕ) → suc j ≡ l → kindAt S j ≡ 16 → (b : Bool) → leb l i ≡ b → ⊥
+      by-first j e k true q = a .before j (let w = leb-true l i q in omega arith) k
+      by-first j e k false q = behind l (leb-false l i q) (omega arith) .before j e k
+
+-- ------------------------------------------------------------ rules that ask no `let`'s value
+
+abbrev OfLine : List ℕ → Bool → ℕ → Rule Ty → Type 0
+OfLine S g l p = Apart S l
+
+abbrev Any : Rule Ty → Ty → Type 0
+Any p t = Unit
+
+abbrev pub Clear : List ℕ → {A : Type 0} → Rule A → Type 0
+Clear S = Throughout (OfLine S) Any
+
+module _ {s S : List ℕ} (d : Loaded s S) (Γ : rules.Env) where
+  fits-at : {i : ℕ} → Here S grammar.Expr i → Apart S i → Fits (OfLine S) Any Γ (exprAt s i)
+  fits-at {i} h a =
+      let p = placed-at d h in
+      fits-lines (Apart S) Any Γ (exprAt s i) (p .1) (λ l u v. apart-lines d h a l (omega (arith, p .0, u)) (omega (arith, p .2, v)))
+
+  fits-row : {m i : ℕ} → Row S grammar.Expr m i → Apart S i → FitsAll (OfLine S) Any Γ (exprsAt s m i)
+  unfolding exprsAt takeNodes exprsOf
+  fits-row stop a = tt
+  fits-row {m = suc m} {i = i} (next h r) a = rw (exprs-next d m i (h .within)) (fits-at h a, fits-row r (apart-next d h))
+
+  pub clear-type : {i : ℕ} → Here S grammar.Expr i → Apart S i → Clear S (tyOf Γ (exprAt s i))
+  clear-type h a = c-tyOf (OfLine S) Any Γ _ (fits-at h a)
+
+  pub clear-each : {m i : ℕ} → Row S grammar.Expr m i → Apart S i → Clear S (askEach (typings Γ (exprsAt s m i)))
+  clear-each r a = c-each (OfLine S) Any _ (c-typings (OfLine S) Any Γ _ (fits-row r a))
+
+  pub clear-amount : (x : Name) {m i : ℕ} → Row S grammar.Expr m i → Apart S i → Clear S (amountRule Γ x (exprsAt s m i))
+  unfolding amountRule
+  clear-amount x r a = c-when (OfLine S) Any _ _ (c-amount (OfLine S) Any x _ (c-typings (OfLine S) Any Γ _ (fits-row r a)))
+
+clear-off : (S : List ℕ) {A : Type 0} (j : ℕ) (p : Rule A) → kindAt S j ≡ 16 → Clear S p → Off (suc j) p
+clear-off S j (ret a) k c = tt
+clear-off S j (refuse r) k c = tt
+clear-off S j (ask g l p q) k c = ((λ e. c .0 .before j e k), clear-off S j p k (c .1), λ t u. clear-off S j (q t) k (c .2 t u))
+
 -- ------------------------------------------------------------ locals
 
-module _ (T U : Table) (h : (i : ℕ) (t : Ty) → tyOfMark (getD T i 0) ≡ some t → getD U i 0 ≡ getD T i 0) where
-  lets-on : {ts : List Node} → LetsTyped T ts → LetsTyped U ts × (map (localOf U) ts ≡ map (localOf T) ts)
+-- each of these is a `let`
+abbrev IsLet : List ℕ → Node → Type 0
+IsLet S (node j l ps) = kindAt S j ≡ 16
+
+module _ (S : List ℕ) (T U : Table) (h : (j : ℕ) → kindAt S j ≡ 16 → getD U (suc j) 0 ≡ getD T (suc j) 0) where
+  same-locals : (ts : List Node) → All (IsLet S) ts → map (localOf U) ts ≡ map (localOf T) ts
   unfolding localOf
-  lets-on no-let = (no-let, refl)
-  lets-on (a-let {t = node i l ps} x xs) =
-      let e = h (suc i) _ (code-of _ x .0) in
-      let r = lets-on xs in
-      (a-let {t = node i l ps} (rw e x) (r .0), rw (e, r .1) refl)
+  same-locals [] a = refl
+  same-locals (node j l ps ∷ ts) a = rw (h j (a .0), same-locals ts (a .1)) refl
 
 -- what is in force on T is so on U
 pub record Onward (s S : List ℕ) (env : Env) (T U : Table) : Type 0 where
   pub ready : Ready s S env U
   pub same : envOf s U env ≡ envOf s T env
 
-pub onward : {A : Type 0} (s S : List ℕ) (env : Env) (T U : Table) (p : Rule A) (a : A) → Ready s S env T → kept p T ≡ record { res = ok a; table = U } → Onward s S env T U
+pub onward : {A : Type 0} (s S : List ℕ) (env : Env) (T U : Table) (p : Rule A) (a : A) → Ready s S env T → Clear S p → kept p T ≡ record { res = ok a; table = U } → Onward s S env T U
 unfolding envOf
-onward s S env T U p a r e =
+onward s S env T U p a r c e =
     let l : length U ≡ length T = sym (ap (λ o. length (o .table)) e) ∙ kept-length p T in
-    let h : (i : ℕ) (t : Ty) → tyOfMark (getD T i 0) ≡ some t → getD U i 0 ≡ getD T i 0 =
-    λ i t m. sym (ap (λ o. getD (o .table) i 0) e) ∙ kept-holds p T a i t m (ap (λ o. o .res) e) in
-    let q = lets-on T U h (r .typed) in
-    record { ready = record { force = r .force; room = omega (arith, l, r .room); typed = q .0 }; same = rw (q .1) refl }
+    let h : (j : ℕ) → kindAt S j ≡ 16 → getD U (suc j) 0 ≡ getD T (suc j) 0 =
+    λ j k. sym (ap (λ o. getD (o .table) (suc j) 0) e) ∙ kept-off p T (suc j) (clear-off S j p k c) in
+    let d = r .force .loaded in
+    let q = same-locals S T U h (lets s (env .bound) (env .body)) (lets-all d (IsLet S) (λ j w k. let t = stands d j w in rw (t .here) k) (r .force .locals)) in
+    record { ready = record { force = r .force; room = omega (arith, l, r .room) }; same = rw q refl }
