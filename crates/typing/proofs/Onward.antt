@@ -13,15 +13,15 @@ use Rattle.sheet.specs.Grammar as grammar
 use Rattle.sheet.specs.Scratch.{kindAt, endAt}
 use Rattle.sheet.specs.Tree.{Node, node, takeNodes}
 use Rattle.rules.specs.Ast.{exprsOf}
-use Rattle.rules.specs.Asking.{Ty, codeR, ok, Rule, ret, refuse, ask}
+use Rattle.rules.specs.Asking.{Ty, codeR, ok, Rule, ret, refuse, ask, _>>=_, expect}
 use Rattle.rules.specs.Kept.{Table, kept}
-use Rattle.rules.specs.Text.{Name}
+use Rattle.rules.specs.Text.{Name, Piece}
 use Rattle.rules.specs.Typing as rules
 use Rattle.rules.specs.Typing.{askEach, tyOf, typings}
 use Rattle.rules.specs.Standing.{exprAt, exprsAt, Loaded, Here, Row, stop, next}
 use Rattle.rules.proofs.All.{All}
 use Rattle.rules.proofs.Binding.{kept-length, Off, kept-off}
-use Rattle.rules.proofs.Coherence.{Fits, FitsAll, c-tyOf, c-typings, c-each, c-when, c-amount}
+use Rattle.rules.proofs.Coherence.{Fits, FitsAll, c-bind, c-expect, c-tyOf, c-typings, c-each, c-when, c-amount}
 use Rattle.rules.proofs.Forest.{here-inside, placed-at}
 use Rattle.rules.proofs.Keeps.{Throughout}
 use Rattle.rules.proofs.Lines.{fits-lines}
@@ -43,11 +43,12 @@ mark-code s (Refused r) h = refl
 
 -- ------------------------------------------------------------ lines that are no `let`'s value
 
-module _ {s S : List ℕ} (d : Loaded s S) {i : ℕ} (h : Here S grammar.Expr i) where
-  -- the line behind that of an expression, and the one behind its parts
-  pub apart-below : Apart S (suc i)
-  apart-below = record { before = λ j e k. omega (arith, h .kind .0, k, let q : j ≡ i = omega arith in ap (kindAt S) q) }
+-- the first part of what is no `let`
+pub apart-below : (S : List ℕ) (i : ℕ) → kindAt S i ≢ 16 → Apart S (suc i)
+apart-below S i n = record { before = λ j e k. n (ap (kindAt S) (let q : i ≡ j = omega arith in q) ∙ k) }
 
+module _ {s S : List ℕ} (d : Loaded s S) {i : ℕ} (h : Here S grammar.Expr i) where
+  -- the lines behind that of an expression, up to the one behind its parts
   behind : (l : ℕ) → i < l → l ≤ endAt S i → Apart S l
   behind l a b = record { before = λ j e k. let q = here-inside d j h (omega arith) (omega arith) in omega (arith, q .kind .0, k) }
 
@@ -86,6 +87,10 @@ module _ {s S : List ℕ} (d : Loaded s S) (Γ : rules.Env) where
 
   pub clear-type : {i : ℕ} → Here S grammar.Expr i → Apart S i → Clear S (tyOf Γ (exprAt s i))
   clear-type h a = c-tyOf (OfLine S) Any Γ _ (fits-at h a)
+
+  -- ... and a judgement of it that asks nothing
+  pub clear-judged : {i : ℕ} → Here S grammar.Expr i → Apart S i → (b : Ty → Bool) (n at : ℕ) (ps : Ty → List Piece) → Clear S (tyOf Γ (exprAt s i) >>= λ t. expect (b t) n at (ps t))
+  clear-judged h a b n at ps = c-bind (OfLine S) Any _ _ (clear-type h a) (λ t. c-expect (OfLine S) Any (b t) n at (ps t))
 
   pub clear-each : {m i : ℕ} → Row S grammar.Expr m i → Apart S i → Clear S (askEach (typings Γ (exprsAt s m i)))
   clear-each r a = c-each (OfLine S) Any _ (c-typings (OfLine S) Any Γ _ (fits-row r a))

@@ -91,7 +91,7 @@ module _ (s S : List ℕ) (env : Env) (T : Table) (i : ℕ) (h : AsksAt 29 s S e
 
     module _ (a : Typed) (U : Table) (k : Types s (tyOf (envOf s T env) (exprAt s (i + 1))) T a U) (c : ℕ) (e : a ≡ Is c) where
       on : Onward s S env T U
-      on = onward s S env T U _ _ (h .asks .ready) (rw (add-one i) (clear-type (h .asks .ready .force .loaded) (envOf s T env) (row-first (bin .1)) (apart-below (h .asks .ready .force .loaded) (h .asks .here)))) (gave s _ T a U k c e)
+      on = onward s S env T U _ _ (h .asks .ready) (rw (add-one i) (clear-type (h .asks .ready .force .loaded) (envOf s T env) (row-first (bin .1)) (apart-below S i (omega (arith, h .kind))))) (gave s _ T a U k c e)
 
       pub bin-right : Asks s S env U m
       bin-right = record { ready = on .ready; here = bin-operands .other .here }
