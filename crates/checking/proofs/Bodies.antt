@@ -12,8 +12,8 @@ use lib.Seq.{getD-set-same}
 use borrow.Author.Tests.{eq-eqb, ne-eqb, eqb-true, eqb-false}
 use Rattle.sheet.specs.Grammar as grammar
 use Rattle.sheet.specs.Scratch.{kindAt, nameAt, entry, endAt, skip}
-use Rattle.sheet.specs.Tree.{Node, node, takeNodes}
-use Rattle.rules.specs.Ast.{Expr, Stmt, guard, bind, emit, assign, do', line, list, nodes}
+use Rattle.sheet.specs.Tree.{Node, node}
+use Rattle.rules.specs.Ast.{Expr, Stmt, guard, bind, emit, assign, do', line, next as behind-expr, list}
 use Rattle.rules.specs.Asking.{Ty, code, codeR, Res, ok, refused, _>>=_, _>>_}
 use Rattle.rules.specs.Kept.{Table, kept}
 use Rattle.rules.specs.Declared.{eqTy}
@@ -21,7 +21,7 @@ use Rattle.rules.specs.Typing as typing
 use Rattle.rules.specs.Typing.{tyOf, typing, bound}
 use Rattle.rules.specs.Statements.{checkStmtTypes, expectPredicate, refuseNameRecipient}
 use Rattle.rules.specs.Check.{checkLocal, checkBody}
-use Rattle.rules.specs.Standing.{nodeAt, nodesAt, exprAt, exprsAt, stmtAt, stmtsAt, Loaded, Here, Row, stop}
+use Rattle.rules.specs.Standing.{nodeAt, nodesAt, exprAt, exprsAt, stmtAt, stmtsAt, Loaded, Here, Row}
 use Rattle.rules.proofs.AnyTable.{from-table, first-time}
 use Rattle.rules.proofs.Binding.{kept-length, then-ok, then-refused, kept-assoc, refused-behind}
 use Rattle.rules.proofs.Exprs.{line-at}
@@ -38,27 +38,24 @@ use Rattle.declared.specs.declared.refusal.Refusal.the-variants.{Local}
 use Rattle.declared.specs.declared.refusal.Done.{Done}
 use Rattle.declared.specs.declared.refusal.Done.the-variants.{Fine, Refused}
 use Rattle.env.specs.Answers.{typedOf}
-use Rattle.env.specs.Force.{paramsIn, envOf, localOf, lets, laterNames, LetsTyped, no-let, a-let, InForce, Ready}
+use Rattle.env.specs.Force.{paramsIn, envOf, localOf, endOf, lets, endsIn, InForce}
+use Rattle.env.proofs.Mentioned.{not-stale-at}
 use Rattle.env.specs.declared.env.Env.{Env}
 use Rattle.env.specs.declared.judge.Typed.{Typed}
 use Rattle.env.specs.declared.judge.Typed.the-variants.{Is, Refused as No}
 use Rattle.typing.specs.Asks.{Asks, Types, Does}
 use Rattle.typing.proofs.Calls.{did, stopped, does-length}
-use Rattle.typing.proofs.Onward.{Onward, onward}
 use Rattle.typing.proofs.Operators.{gave, gave-code}
 use Rattle.typing.proofs.Doing.{does-then, does-cut, does-nothing}
 use Rattle.statements.specs.Checked.{StmtIn}
 use Rattle.emits.specs.Emit.{EmitIn, emitRule}
-use Rattle.checking.specs.Walk.{withLocals, stmtRule, BodyStmt, StmtOf, Binds, StmtDoes, BodyAt}
+use Rattle.checking.specs.Walk.{withLocals, no-let, a-let, ReadyTyped, stmtRule, BodyStmt, StmtOf, Binds, StmtDoes, BodyAt}
+use Rattle.checking.proofs.Locals.{lets-append, OnTyped, on-typed}
 
 -- ------------------------------------------------------------ a statement
 
-no-later : (s : List ℕ) (T : Table) (env : Env) (e : Expr) → env .later ≡ 0 → typing.stale (envOf s T env .later) e ≡ false
-unfolding envOf laterNames lets nodesAt takeNodes nodes ofKind typing.stale
-no-later s T env e l = rw (laterNames, lets, l) refl
-
--- the table has the type that was answered, where no `let` was bound since the statement began
-marked-by : (s S : List ℕ) (env : Env) (T : Table) (i : ℕ) (t : Ty) (U : Table) → Asks s S env T i → env .later ≡ 0
+-- the table has the type that was answered, where no bound `let` ends behind the line
+marked-by : (s S : List ℕ) (env : Env) (T : Table) (i : ℕ) (t : Ty) (U : Table) → Asks s S env T i → env .next ≤ i
     → kept (tyOf (envOf s T env) (exprAt s i)) T ≡ record { res = ok t; table = U } → getD U i 0 ≡ code t
 unfolding codeR
 marked-by s S env T i t U h l e = go (leb 1 (getD T i 0) && leb (getD T i 0) 10) refl
@@ -69,7 +66,7 @@ marked-by s S env T i t U h l e = go (leb 1 (getD T i 0) && leb (getD T i 0) 10)
     go : (b : Bool) → (leb 1 (getD T i 0) && leb (getD T i 0) 10) ≡ b → getD U i 0 ≡ code t
     go true q =
         let c = code-of (getD T i 0) (told (getD T i 0) q) in
-        let f = from-table (envOf s T env) (exprAt s i) T (tyFrom (getD T i 0)) (no-later s T env (exprAt s i) l) (rw here (c .0)) in
+        let f = from-table (envOf s T env) (exprAt s i) T (tyFrom (getD T i 0)) (not-stale-at s S env T i (record { force = h .ready .force; here = h .here }) l) (rw here (c .0)) in
         let u : U ≡ T = ap (λ o. o .table) (sym e ∙ f) in
         let z : _≡_ {A = Res Ty} (ok t) (ok (tyFrom (getD T i 0))) = ap (λ o. o .res) (sym e ∙ f) in
         let y : t ≡ tyFrom (getD T i 0) = cc in
@@ -83,10 +80,10 @@ marked-by s S env T i t U h l e = go (leb 1 (getD T i 0) && leb (getD T i 0) 10)
 
 module _ (s S : List ℕ) (env : Env) (T : Table) (i : ℕ) (h : StmtOf 16 s S env T i) where
   let-is : (stmtAt s i ≡ bind (nameAt s S i) (exprAt s (suc i))) × Row S grammar.Expr 1 (suc i) × (skip S 1 (suc i) ≡ endAt S i)
-  let-is = let-at (h .stmt .ready .force .loaded) (h .stmt .here) (h .kind)
+  let-is = let-at (h .stmt .ready .ready .force .loaded) (h .stmt .here) (h .kind)
 
   pub let-asks : Asks s S env T (i + 1)
-  let-asks = record { ready = h .stmt .ready; here = rw (add-one i) (row-first (let-is .1)) }
+  let-asks = record { ready = h .stmt .ready .ready; here = rw (add-one i) (row-first (let-is .1)) }
 
   module _ (a : Typed) (U : Table) (y : Types s (tyOf (envOf s T env) (exprAt s (i + 1))) T a U) where
     typed : (c : ℕ) → a ≡ Is c → kept (tyOf (envOf s T env) (exprAt s (suc i))) T ≡ record { res = ok (tyFrom c); table = U }
@@ -101,7 +98,7 @@ module _ (s S : List ℕ) (env : Env) (T : Table) (i : ℕ) (h : StmtOf 16 s S e
         record {
           does = record { gives = rw (let-is .0) (then-ok _ (checkLocal (exprAt s (suc i))) T U (tyFrom c) _ (typed c e) f) };
           binds = λ z w.
-              record { type = tyFrom c; typed = typed c e; fits = f; marked = marked-by s S env T (suc i) (tyFrom c) U (rw (add-one i) at let-asks) (h .stmt .later) (typed c e) };
+              record { type = tyFrom c; typed = typed c e; fits = f; marked = marked-by s S env T (suc i) (tyFrom c) U (rw (add-one i) at let-asks) (omega (arith, h .stmt .next)) (typed c e) };
         }
 
     pub let-collection : (c : ℕ) → a ≡ Is c → c ≡ 9 → StmtDoes s S (envOf s T env) i T (Refused (Local (i + 1))) U
@@ -129,10 +126,10 @@ other n d = record { does = d; binds = λ z w. absurd (n w) }
 
 module _ (s S : List ℕ) (env : Env) (T : Table) (i : ℕ) (h : StmtOf 19 s S env T i) where
   do-is : (stmtAt s i ≡ do' (exprAt s (suc i))) × Row S grammar.Expr 1 (suc i) × (skip S 1 (suc i) ≡ endAt S i)
-  do-is = do-at (h .stmt .ready .force .loaded) (h .stmt .here) (h .kind)
+  do-is = do-at (h .stmt .ready .ready .force .loaded) (h .stmt .here) (h .kind)
 
   pub do-types : StmtIn s S env T i
-  do-types = record { ready = h .stmt .ready; here = h .stmt .here }
+  do-types = record { ready = h .stmt .ready .ready; here = h .stmt .here }
 
   module _ (d : Done) (U : Table) (a : Does s (checkStmtTypes (envOf s T env) (stmtAt s i)) T d U) where
     pub do-no : (x : Refusal) → d ≡ Refused x → StmtDoes s S (envOf s T env) i T (Refused x) U
@@ -140,11 +137,11 @@ module _ (s S : List ℕ) (env : Env) (T : Table) (i : ℕ) (h : StmtOf 19 s S e
     do-no x e = other (omega (arith, h .kind)) (rw (do-is .0) (does-cut s _ _ T d U (rw (do-is .0) at a) x e))
 
     module _ (e : d ≡ Fine) where
-      on : Onward s S env T U
-      on = onward s S env T U _ tt (h .stmt .ready) (did s _ T d U (a .gives) e)
+      on : OnTyped s S env T U
+      on = on-typed s S env T U _ tt (h .stmt .ready) (did s _ T d U (a .gives) e)
 
       pub do-asks : Asks s S env U (i + 1)
-      do-asks = record { ready = on .ready; here = rw (add-one i) (row-first (do-is .1)) }
+      do-asks = record { ready = on .ready .ready; here = rw (add-one i) (row-first (do-is .1)) }
 
       pub do-ok : (r : Done) (W : Table) → Does s (refuseNameRecipient (envOf s U env) (exprAt s (i + 1))) U r W → StmtDoes s S (envOf s T env) i T r W
       unfolding stmtRule
@@ -154,10 +151,10 @@ module _ (s S : List ℕ) (env : Env) (T : Table) (i : ℕ) (h : StmtOf 19 s S e
 
 module _ (s S : List ℕ) (env : Env) (T : Table) (i : ℕ) (h : BodyStmt s S env T i) (k : ℕ) (e : k ≡ kindAt S i) where
   bd : Loaded s S
-  bd = h .ready .force .loaded
+  bd = h .ready .ready .force .loaded
 
   pub guard-asks : k ≡ 15 → Asks s S env T (i + 1)
-  guard-asks q = record { ready = h .ready; here = rw (add-one i) (row-first (guard-at bd (h .here) (sym e ∙ q) .1)) }
+  guard-asks q = record { ready = h .ready .ready; here = rw (add-one i) (row-first (guard-at bd (h .here) (sym e ∙ q) .1)) }
 
   pub guard-does : (r : Done) (U : Table) → k ≡ 15 → Does s (expectPredicate (envOf s T env) (exprAt s (i + 1))) T r U → StmtDoes s S (envOf s T env) i T r U
   unfolding stmtRule
@@ -170,14 +167,14 @@ module _ (s S : List ℕ) (env : Env) (T : Table) (i : ℕ) (h : BodyStmt s S en
   stmt-do a b c d = record { stmt = h; kind = omega (arith, h .here .kind .0, h .here .kind .1) }
 
   pub emit-in : k ≡ 17 → EmitIn s S env T i
-  emit-in q = record { ready = h .ready; within = h .here .within; kind = sym e ∙ q }
+  emit-in q = record { ready = h .ready .ready; within = h .here .within; kind = sym e ∙ q }
 
   pub emit-does : (r : Done) (U : Table) → k ≡ 17 → Does s (emitRule (envOf s T env) (nameAt s S i) (list (exprsAt s (entry S i 5) (suc i)))) T r U → StmtDoes s S (envOf s T env) i T r U
   unfolding stmtRule
   emit-does r U q a = other (omega arith) (rw (emit-at bd (h .here) (sym e ∙ q) .0) a)
 
   pub assign-in : k ≡ 18 → StmtIn s S env T i
-  assign-in q = record { ready = h .ready; here = h .here }
+  assign-in q = record { ready = h .ready .ready; here = h .here }
 
   pub assign-does : (r : Done) (U : Table) → k ≡ 18 → Does s (checkStmtTypes (envOf s T env) (stmtAt s i)) T r U → StmtDoes s S (envOf s T env) i T r U
   unfolding stmtRule
@@ -186,10 +183,6 @@ module _ (s S : List ℕ) (env : Env) (T : Table) (i : ℕ) (h : BodyStmt s S en
       other (omega arith) (rw t (rw t at a))
 
 -- ------------------------------------------------------------ statements one behind another
-
-lets-append : {U : Table} {as' bs : List Node} → LetsTyped U as' → LetsTyped U bs → LetsTyped U (as' ++ bs)
-lets-append no-let k = k
-lets-append (a-let x xs) k = a-let x (lets-append xs k)
 
 ofKind-append : (k : ℕ) (as' bs : List Node) → ofKind k (as' ++ bs) ≡ ofKind k as' ++ ofKind k bs
 unfolding ofKind
@@ -232,13 +225,13 @@ is-other {s} {S} {i} d h n =
 -- one statement more is behind: what its `let` adds
 module _ (s S : List ℕ) (T : Table) (params count body total at left : ℕ) (h : BodyAt s S T params count body total at left) (n : left ≢ 0) where
   abbrev env : Env
-  env = withLocals params count body (total - left)
+  env = withLocals params count body (total - left) at
 
   abbrev next : Env
-  next = withLocals params count body (suc (total - left))
+  next = withLocals params count body (suc (total - left)) (endAt S at)
 
   d : Loaded s S
-  d = h .ready .force .loaded
+  d = h .ready .ready .force .loaded
 
   here : Here S grammar.Stmt at
   here = rw (h .here) (row-nth (total - left) (omega arith) (h .row))
@@ -271,41 +264,43 @@ module _ (s S : List ℕ) (T : Table) (params count body total at left : ℕ) (h
   force-next =
       record {
         loaded = d;
-        params = h .ready .force .params;
+        params = h .ready .ready .force .params;
         locals = row-take (suc (total - left)) (omega (arith, h .few)) (h .row);
-        later = stop;
+        next = ap (endAt S) (h .here) ∙ sym (skip-next S (total - left) body);
       }
 
   -- what is in force on U with the statement behind
   pub record Grown (U : Table) (Γ : typing.Env) : Type 0 where
-    pub ready : Ready s S next U
+    pub ready : ReadyTyped s S next U
     pub is : envOf s U next ≡ Γ
 
-  module _ (U : Table) (o : Onward s S env T U) where
+  module _ (U : Table) (o : OnTyped s S env T U) where
     still : kindAt S at ≢ 16 → Grown U (envOf s T env)
-    unfolding withLocals envOf paramsIn laterNames
+    unfolding withLocals envOf paramsIn endsIn
     still q =
         record {
           ready =
-              record { force = force-next; room = o .ready .room; typed = rw (lets-next, no-let-here q, append-nil) (o .ready .typed) };
+              record {
+                ready = record { force = force-next; room = o .ready .ready .room };
+                typed = rw (lets-next, no-let-here q, append-nil) (o .ready .typed);
+              };
           is = rw (lets-next, no-let-here q, append-nil) (o .same);
         }
 
-    bound-now : (q : kindAt S at ≡ 16) (b : Binds s (envOf s T env) T at U) → Grown U (bound (envOf s T env) (nameAt s S at) (b .type))
-    unfolding withLocals envOf paramsIn laterNames bound localOf
+    bound-now : (q : kindAt S at ≡ 16) (b : Binds s (envOf s T env) T at U) → Grown U (bound (envOf s T env) (nameAt s S at) (b .type) (behind-expr (exprAt s (suc at))))
+    unfolding withLocals envOf paramsIn endsIn bound localOf endOf
     bound-now q b =
         record {
           ready =
               record {
-                force = force-next;
-                room = o .ready .room;
+                ready = record { force = force-next; room = o .ready .ready .room };
                 typed =
                     rw (lets-next, let-here q) (lets-append (o .ready .typed) (rw (st .here) (a-let {t = node at (st .line) (st .parts)} (rw (b .marked) (code-is (b .type))) no-let)));
               };
           is =
               let was = ap (λ (Γ : typing.Env). Γ .locals) (o .same) in
               let type-is : tyFrom (getD U (suc at) 0) ≡ b .type = from-code _ (b .type) (b .marked) in
-              rw (lets-next, let-here q, map-append (localOf U) (lets s (total - left) body) (nodeAt s at ∷ []), was, st .here, st .spells .name, type-is) refl;
+              rw (lets-next, let-here q, map-append (localOf U) (lets s (total - left) body) (nodeAt s at ∷ []), map-append (endOf s) (lets s (total - left) body) (nodeAt s at ∷ []), was, st .here, st .spells .name, type-is) refl;
         }
 
   -- ------------------------------------------------------------ check_body
@@ -313,17 +308,17 @@ module _ (s S : List ℕ) (T : Table) (params count body total at left : ℕ) (h
   pub body-few : left ≤ total
   body-few = h .few
 
-  pub body-stmt : (k : ℕ) (Γ : Env) → Γ ≡ withLocals params count body k → k ≡ total - left → BodyStmt s S Γ T at
+  pub body-stmt : (k : ℕ) (Γ : Env) → Γ ≡ withLocals params count body k at → k ≡ total - left → BodyStmt s S Γ T at
   unfolding withLocals
-  body-stmt k Γ e q = rw (e, q) (record { ready = h .ready; here = here; later = refl })
+  body-stmt k Γ e q = rw (e, q) (record { ready = h .ready; here = here; next = refl })
 
   -- `checkBody` from this statement on, in which the rest is checked
   stmts-are : stmtsAt s left at ≡ stmtAt s at ∷ stmtsAt s (left - 1) (endAt S at)
   stmts-are = ap (λ k. stmtsAt s k at) (let y : left ≡ suc (left - 1) = omega arith in y) ∙ stmts-next d (left - 1) (here .within)
 
-  module _ (k : ℕ) (Γ : Env) (e : Γ ≡ withLocals params count body k) (q : k ≡ total - left) (o : Done) (U : Table) (a : StmtDoes s S (envOf s T Γ) at T o U) where
+  module _ (k : ℕ) (Γ : Env) (e : Γ ≡ withLocals params count body k at) (q : k ≡ total - left) (o : Done) (U : Table) (a : StmtDoes s S (envOf s T Γ) at T o U) where
     does : StmtDoes s S (envOf s T env) at T o U
-    does = rw (← (e ∙ ap (withLocals params count body) q)) a
+    does = rw (← (e ∙ ap (λ m. withLocals params count body m at) q)) a
 
     let-is-here : kindAt S at ≡ 16 → stmtAt s at ≡ bind (nameAt s S at) (exprAt s (suc at))
     let-is-here w = let-at d here w .0
@@ -335,13 +330,13 @@ module _ (s S : List ℕ) (T : Table) (params count body total at left : ℕ) (h
         go : (b : Bool) → eqb (kindAt S at) 16 ≡ b → Does s (checkBody (envOf s T env) (stmtAt s at ∷ stmtsAt s (left - 1) (endAt S at))) T (Refused x) U
         go true w =
             let i = let-is-here (eqb-true (kindAt S at) 16 w) in
-            record { gives = rw i (refused-behind (tyOf (envOf s T env) (exprAt s (suc at))) (checkLocal (exprAt s (suc at))) (λ ty. checkBody (bound (envOf s T env) (nameAt s S at) ty) (stmtsAt s (left - 1) (endAt S at))) T U (refusalOf s x) (rw i at (stopped s (stmtRule (envOf s T env) (stmtAt s at)) T o U (does .does .gives) x z))) }
+            record { gives = rw i (refused-behind (tyOf (envOf s T env) (exprAt s (suc at))) (checkLocal (exprAt s (suc at))) (λ ty. checkBody (bound (envOf s T env) (nameAt s S at) ty (behind-expr (exprAt s (suc at)))) (stmtsAt s (left - 1) (endAt S at))) T U (refusalOf s x) (rw i at (stopped s (stmtRule (envOf s T env) (stmtAt s at)) T o U (does .does .gives) x z))) }
         go false w =
             record { gives = step-other (envOf s T env) (stmtAt s at) (stmtsAt s (left - 1) (endAt S at)) T (is-other d here (eqb-false (kindAt S at) 16 w)) ∙ does-cut s (stmtRule (envOf s T env) (stmtAt s at)) (checkBody (envOf s T env) (stmtsAt s (left - 1) (endAt S at))) T o U (does .does) x z .gives }
 
     module _ (f : o ≡ Fine) where
-      onw : Onward s S env T U
-      onw = onward s S env T U _ tt (h .ready) (did s _ T o U (does .does .gives) f)
+      onw : OnTyped s S env T U
+      onw = on-typed s S env T U _ tt (h .ready) (did s _ T o U (does .does .gives) f)
 
       -- what is in force behind the statement, and that the rest is checked with it
       record Behind : Type 0 where
@@ -358,10 +353,10 @@ module _ (s S : List ℕ) (T : Table) (params count body total at left : ℕ) (h
               let k16 = eqb-true (kindAt S at) 16 w in
               let y = does .binds f k16 in
               record {
-                with' = bound (envOf s T env) (nameAt s S at) (y .type);
+                with' = bound (envOf s T env) (nameAt s S at) (y .type) (behind-expr (exprAt s (suc at)));
                 grows = bound-now U onw k16 y;
                 steps = λ r W k.
-                    record { gives = rw (stmts-are, let-is-here k16) (then-ok (tyOf (envOf s T env) (exprAt s (suc at))) (λ ty. checkLocal (exprAt s (suc at)) ty >>= λ _. checkBody (bound (envOf s T env) (nameAt s S at) ty) (stmtsAt s (left - 1) (endAt S at))) T U (y .type) (record { res = doneOf s r; table = W }) (y .typed) (then-ok (checkLocal (exprAt s (suc at)) (y .type)) (λ _. checkBody (bound (envOf s T env) (nameAt s S at) (y .type)) (stmtsAt s (left - 1) (endAt S at))) U U tt (record { res = doneOf s r; table = W }) (y .fits) (k .gives))) };
+                    record { gives = rw (stmts-are, let-is-here k16) (then-ok (tyOf (envOf s T env) (exprAt s (suc at))) (λ ty. checkLocal (exprAt s (suc at)) ty >>= λ _. checkBody (bound (envOf s T env) (nameAt s S at) ty (behind-expr (exprAt s (suc at)))) (stmtsAt s (left - 1) (endAt S at))) T U (y .type) (record { res = doneOf s r; table = W }) (y .typed) (then-ok (checkLocal (exprAt s (suc at)) (y .type)) (λ _. checkBody (bound (envOf s T env) (nameAt s S at) (y .type) (behind-expr (exprAt s (suc at)))) (stmtsAt s (left - 1) (endAt S at))) U U tt (record { res = doneOf s r; table = W }) (y .fits) (k .gives))) };
               }
           go false w =
               let no = eqb-false (kindAt S at) 16 w in
@@ -379,11 +374,11 @@ module _ (s S : List ℕ) (T : Table) (params count body total at left : ℕ) (h
             few = omega (arith, h .few);
             row = h .row;
             here = rw z (em ∙ ap (endAt S) (h .here) ∙ sym (skip-next S (total - left) body));
-            ready = rw z (behind .grows .ready);
+            ready = rw (z, em) (behind .grows .ready);
           }
 
       pub body-ok : (m : ℕ) (r : Done) (W : Table) → m ≡ endAt S at
-          → Does s (checkBody (envOf s U (withLocals params count body (total - (left - 1)))) (stmtsAt s (left - 1) m)) U r W
+          → Does s (checkBody (envOf s U (withLocals params count body (total - (left - 1)) m)) (stmtsAt s (left - 1) m)) U r W
           → Does s (checkBody (envOf s T env) (stmtsAt s left at)) T r W
       body-ok m r W em k =
           let z : suc (total - left) ≡ total - (left - 1) = omega (arith, h .few) in

@@ -27,13 +27,13 @@ use Rattle.declared.specs.declared.refusal.Refusal.{Refusal}
 use Rattle.declared.specs.declared.refusal.Done.{Done}
 use Rattle.declared.specs.declared.refusal.Done.the-variants.{Fine, Refused}
 use Rattle.declared.proofs.Answers.{answers-then, answers-cut}
-use Rattle.env.specs.Force.{envOf, paramsIn, lets, laterNames, no-let}
+use Rattle.env.specs.Force.{envOf, paramsIn, lets, endsIn}
 use Rattle.env.specs.declared.env.Env.{Env}
 use Rattle.typing.specs.Asks.{Does}
 use Rattle.typing.proofs.Calls.{does-length}
 use Rattle.typing.proofs.Doing.{does-then, does-cut, asks-none}
 use Rattle.wrapping.specs.Lines.{FewEntry}
-use Rattle.checking.specs.Walk.{named, withLocals, recordRule, a-clause, RecordsIn, BodyAt, EntryIn, entryEnv, typesRule, usesRule}
+use Rattle.checking.specs.Walk.{named, withLocals, no-let, recordRule, a-clause, RecordsIn, BodyAt, EntryIn, entryEnv, typesRule, usesRule}
 use Rattle.checking.proofs.Recording.{row-rule, rule-clause}
 
 -- ------------------------------------------------------------ what is typed
@@ -60,20 +60,16 @@ module _ (s S : List ℕ) (T : Table) (i : ℕ) (h : EntryIn s S T i) where
 
     module _ (env : Env) (ee : env ≡ named (i + 1) a false) where
       in-force : envOf s T env ≡ entryEnv (modelIn s) (entryAt s i)
-      unfolding named envOf paramsIn lets nodesAt takeNodes nodes ofKind laterNames entryEnv typing.new paramsAt
+      unfolding named envOf paramsIn lets nodesAt takeNodes nodes ofKind endsIn entryEnv typing.new paramsAt
       in-force = rw (ee, parts .is, ea, add-one i) refl
 
       pub clauses-in : (at b : ℕ) → at ≡ skip S (entry S i 5) (suc i) → b ≡ entry S i 6 → RecordsIn s S env T b at
-      unfolding named lets nodesAt takeNodes nodes ofKind
+      unfolding named lets nodesAt takeNodes nodes ofKind skip
       clauses-in at b et eb =
           rw (ee, et, eb)
           (record {
-            ready =
-                record {
-                  force = record { loaded = d; params = params; locals = stop; later = stop };
-                  room = h .sheet .room;
-                  typed = no-let;
-                };
+            ready = record { force = record { loaded = d; params = params; locals = stop; next = refl }; room = h .sheet .room };
+            bare = refl;
             sort = grammar.Clause;
             walked = a-clause;
             row = parts .clauses;
@@ -103,18 +99,17 @@ module _ (s S : List ℕ) (T : Table) (i : ℕ) (h : EntryIn s S T i) where
             ready =
                 rw none
                 (record {
-                  force = record { loaded = d; params = params; locals = stop; later = stop };
-                  room = h .sheet .room;
+                  ready = record { force = record { loaded = d; params = params; locals = stop; next = refl }; room = h .sheet .room };
                   typed = no-let;
                 });
           }
 
-      pub body-does : (r : Done) (U : Table) → Does s (checkBody (envOf s T (withLocals (i + 1) a body (total - total))) (stmtsAt s total body)) T r U
+      pub body-does : (r : Done) (U : Table) → Does s (checkBody (envOf s T (withLocals (i + 1) a body (total - total) body)) (stmtsAt s total body)) T r U
           → Does s (checkBody (entryEnv (modelIn s) (entryAt s i)) (entryAt s i .body)) T r U
-      unfolding withLocals envOf paramsIn lets nodesAt takeNodes nodes ofKind laterNames entryEnv typing.new paramsAt
+      unfolding withLocals envOf paramsIn lets nodesAt takeNodes nodes ofKind endsIn entryEnv typing.new paramsAt
       body-does r U k =
           let c : entryAt s i .body ≡ stmtsAt s total body = ap (λ (x : Entry). x .body) (parts .is) ∙ rw (← ey, ← ec) refl in
-          let e : envOf s T (withLocals (i + 1) a body (total - total)) ≡ entryEnv (modelIn s) (entryAt s i) = rw (none, parts .is, ea, add-one i) refl in
+          let e : envOf s T (withLocals (i + 1) a body (total - total) body) ≡ entryEnv (modelIn s) (entryAt s i) = rw (none, parts .is, ea, add-one i) refl in
           rw (c, ← e) k
 
   module _ (o : Done) (U : Table) (a : Does s (forEach (entryAt s i .clauses) (clausePredicate (entryEnv (modelIn s) (entryAt s i)))) T o U) where

@@ -1,3 +1,4 @@
+pub mod Locals
 pub mod Recording
 pub mod Bodies
 pub mod Entries

@@ -9,7 +9,7 @@ use native.Mathlib.Omega.{arith}
 use lib.Dec.{eqb}
 use borrow.Author.Tests.{eq-eqb, ne-eqb, eqb-true, eqb-false, not-true, not-false}
 use Rattle.sheet.specs.Grammar as grammar
-use Rattle.sheet.specs.Scratch.{kindAt, entry, endAt}
+use Rattle.sheet.specs.Scratch.{kindAt, entry, endAt, skip}
 use Rattle.sheet.specs.Tree.{takeNodes}
 use Rattle.rules.specs.Ast.{Expr, Field, Stmt, Event, Entry, nodes, fieldOf, stmtOf, itemOf, eventOf, entryOf}
 use Rattle.rules.specs.Asking.{Rule, ret, _>>=_, _>>_, forEach}
@@ -34,7 +34,7 @@ use Rattle.declared.specs.Refusal.{doneOf}
 use Rattle.declared.specs.declared.refusal.Refusal.{Refusal}
 use Rattle.declared.specs.declared.refusal.Done.{Done}
 use Rattle.declared.specs.declared.refusal.Done.the-variants.{Fine, Refused}
-use Rattle.env.specs.Force.{envOf, paramsIn, lets, laterNames, no-let, Ready}
+use Rattle.env.specs.Force.{envOf, paramsIn, lets, endsIn, Ready}
 use Rattle.env.specs.declared.env.Env.{Env}
 use Rattle.typing.specs.Asks.{Asks, Does}
 use Rattle.typing.proofs.Calls.{does-length}
@@ -183,15 +183,15 @@ bare g = named 0 0 g
 
 -- no parameters and no locals are in force
 bare-ready : (s S : List ℕ) (T : Table) (g : Bool) → SheetIn s S T → Ready s S (named 0 0 g) T
-unfolding named lets nodesAt takeNodes nodes ofKind
-bare-ready s S T g h = record { force = record { loaded = h .loaded; params = stop; locals = stop; later = stop }; room = h .room; typed = no-let }
+unfolding named skip
+bare-ready s S T g h = record { force = record { loaded = h .loaded; params = stop; locals = stop; next = refl }; room = h .room }
 
 new-env : (s : List ℕ) (T : Table) → envOf s T (named 0 0 false) ≡ typing.new (modelIn s) []
-unfolding named envOf paramsIn lets nodesAt takeNodes nodes ofKind laterNames typing.new paramTypes
+unfolding named envOf paramsIn lets nodesAt takeNodes nodes ofKind endsIn typing.new paramTypes
 new-env s T = refl
 
 genesis-env : (s : List ℕ) (T : Table) → envOf s T (named 0 0 true) ≡ typing.inGenesis (typing.new (modelIn s) [])
-unfolding named envOf paramsIn lets nodesAt takeNodes nodes ofKind laterNames typing.new typing.inGenesis paramTypes
+unfolding named envOf paramsIn lets nodesAt takeNodes nodes ofKind endsIn typing.new typing.inGenesis paramTypes
 genesis-env s T = refl
 
 module _ (s S : List ℕ) (T : Table) (pass i : ℕ) (h : OwnItem s S T pass i) where
@@ -300,10 +300,11 @@ module _ (s S : List ℕ) (T : Table) (pass i : ℕ) (h : OwnItem s S T pass i) 
             b three w (eq-eqb k 4 (ek ∙ w))
 
     pub item-records : (env : Env) (g : Bool) → env ≡ named 0 0 g → RecordsIn s S env T m (i + 1)
+    unfolding named
     item-records env g f =
         records-of (RecordsIn s S env T m (i + 1))
-        (λ e w z. rw f (record { ready = bare-ready s S T g sh; sort = grammar.Field; walked = a-field; row = rw (em, add-one i) (state-model d here w .1) }))
-        (λ e w z. rw f (record { ready = bare-ready s S T g sh; sort = grammar.Stmt; walked = a-stmt; row = rw (em, add-one i) (genesis-model d here w .1) }))
+        (λ e w z. rw f (record { ready = bare-ready s S T g sh; bare = refl; sort = grammar.Field; walked = a-field; row = rw (em, add-one i) (state-model d here w .1) }))
+        (λ e w z. rw f (record { ready = bare-ready s S T g sh; bare = refl; sort = grammar.Stmt; walked = a-stmt; row = rw (em, add-one i) (genesis-model d here w .1) }))
 
     pub records-pass : (env : Env) (r : Done) (U : Table) → env ≡ named 0 0 (eqb k 4) → Does s (forEach (nodesAt s m (i + 1)) (recordRule (envOf s T env))) T r U
         → Does s (passRule s pass (itemModel (itemOf (nodeAt s i)))) T r U

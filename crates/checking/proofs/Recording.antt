@@ -39,10 +39,10 @@ use Rattle.env.specs.Force.{envOf}
 use Rattle.env.specs.declared.env.Env.{Env}
 use Rattle.typing.specs.Asks.{Asks, Does}
 use Rattle.typing.proofs.Calls.{did}
-use Rattle.typing.proofs.Onward.{onward}
 use Rattle.typing.proofs.Doing.{does-then, does-cut, does-nothing, asks-none}
 use Rattle.statements.specs.Checked.{StmtIn, DefaultIn}
 use Rattle.checking.specs.Walk.{declaredRule, paramRule, recordRule, Walked, a-field, a-clause, a-stmt, KindIn, ClauseIn, RecordIn, RecordsIn}
+use Rattle.checking.proofs.Locals.{none-bound, OnTyped, on-typed}
 
 -- ------------------------------------------------------------ what a field or parameter declares
 
@@ -304,11 +304,15 @@ module _ (s S : List ℕ) (env : Env) (T : Table) (m i : ℕ) (h : RecordsIn s S
     records-no x e = rw nodes-are (does-cut s _ _ T d U a x e)
 
     module _ (e : d ≡ Fine) (j : ℕ) (q : j ≡ endAt S i) where
+      on : OnTyped s S env T U
+      on = on-typed s S env T U _ tt (none-bound s S env T (h .ready) (h .bare)) (did s _ T d U (a .gives) e)
+
       pub records-rest : RecordsIn s S env U (m - 1) j
       records-rest =
           rw q
           (record {
-            ready = onward s S env T U _ tt (h .ready) (did s _ T d U (a .gives) e) .ready;
+            ready = on .ready .ready;
+            bare = h .bare;
             sort = h .sort;
             walked = h .walked;
             row = row-rest rows;
@@ -318,8 +322,7 @@ module _ (s S : List ℕ) (env : Env) (T : Table) (m i : ℕ) (h : RecordsIn s S
           → Does s (forEach (nodesAt s m i) (recordRule (envOf s T env))) T r W
       unfolding forEach
       records-ok r W k =
-          let same = onward s S env T U _ tt (h .ready) (did s _ T d U (a .gives) e) .same in
-          rw nodes-are (does-then s _ _ T d U a e r W (rw (← same, ← q) k))
+          rw nodes-are (does-then s _ _ T d U a e r W (rw (← on .same, ← q) k))
 
 -- the rule of each record of a row is that of its sort
 module _ {A : Type 0} {s S : List ℕ} (σ : grammar.Sort) (Γ : typing.Env) (f : Node → A) (g : A → Rule Unit) (d : Loaded s S)

@@ -7,7 +7,7 @@ use lib.Dec.{eqb, ltb}
 use lib.ListN.{length, getD}
 use Rattle.sheet.specs.Grammar as grammar
 use Rattle.sheet.specs.Scratch.{kindAt, skip}
-use Rattle.sheet.specs.Tree.{Node}
+use Rattle.sheet.specs.Tree.{Node, node}
 use Rattle.rules.specs.Text.{Name}
 use Rattle.rules.specs.Ast.{Type', Param, Entry, Stmt, guard, bind, emit, assign, do', fieldOf, clauseOf, stmtOf}
 use Rattle.rules.specs.Asking.{Ty, code, ok, Rule, ret, _>>=_, _>>_, forEach}
@@ -21,10 +21,11 @@ use Rattle.rules.specs.Typing as typing
 use Rattle.rules.specs.Statements.{checkStmtTypes, expectPredicate, refuseNameRecipient}
 use Rattle.rules.specs.Check.{clausePredicate, clauseAssets, paramTypes, checkBody, checkLocal, checkField, checkGenesis, checkEventParam, checkEntryParam, checkEntry}
 use Rattle.rules.specs.Standing.{exprAt, stmtAt, modelIn, Loaded, Here, Row}
+use Rattle.declared.specs.Codes.{IsCode}
 use Rattle.declared.specs.Found.{nodeKind}
 use Rattle.declared.specs.declared.refusal.Done.{Done}
 use Rattle.declared.specs.declared.refusal.Done.the-variants.{Fine}
-use Rattle.env.specs.Force.{Ready}
+use Rattle.env.specs.Force.{lets, Ready}
 use Rattle.env.specs.declared.env.Env.{Env}
 use Rattle.typing.specs.Asks.{Does}
 use Rattle.emits.specs.Emit.{emitRule}
@@ -33,11 +34,24 @@ use Rattle.emits.specs.Emit.{emitRule}
 
 -- parameters and no locals
 unfoldable pub named : ℕ → ℕ → Bool → Env
-named params count genesis = record { params = params; count = count; body = 0; bound = 0; own = 0; later = 0; genesis = genesis }
+named params count genesis = record { params = params; count = count; body = 0; bound = 0; next = 0; genesis = genesis }
 
--- parameters, and the `let`s among the first `bound` statements
-unfoldable pub withLocals : ℕ → ℕ → ℕ → ℕ → Env
-withLocals params count body bound = record { params = params; count = count; body = body; bound = bound; own = 0; later = 0; genesis = false }
+-- parameters, and the `let`s among the first `bound` statements, behind which line `next` is
+unfoldable pub withLocals : (params count body bound next : ℕ) → Env
+withLocals params count body bound next = record { params = params; count = count; body = body; bound = bound; next = next; genesis = false }
+
+-- the values of `let`s have types in the table
+abbrev pub LetTyped : Table → Node → Type 0
+LetTyped T (node i l ps) = IsCode (getD T (suc i) 0)
+
+pub data LetsTyped (T : Table) : List Node → Type 0 where
+  no-let : LetsTyped T []
+  a-let : {t : Node} {ts : List Node} → LetTyped T t → LetsTyped T ts → LetsTyped T (t ∷ ts)
+
+-- what is in force, and the bound `let`s have types
+pub record ReadyTyped (s S : List ℕ) (env : Env) (T : Table) : Type 0 where
+  pub ready : Ready s S env T
+  pub typed : LetsTyped T (lets s (env .bound) (env .body))
 
 -- a sheet that is read, its lines, and a table with a byte for each
 pub record SheetIn (s S : List ℕ) (T : Table) : Type 0 where
@@ -67,8 +81,10 @@ pub record RecordIn (s S : List ℕ) (env : Env) (T : Table) (i : ℕ) : Type 0 
   pub walked : Walked sort
   pub here : Here S sort i
 
+-- ... several, one behind another, and no `let` is bound
 pub record RecordsIn (s S : List ℕ) (env : Env) (T : Table) (m i : ℕ) : Type 0 where
   pub ready : Ready s S env T
+  pub bare : env .bound ≡ 0
   pub sort : grammar.Sort
   pub walked : Walked sort
   pub row : Row S sort m i
@@ -107,11 +123,11 @@ stmtRule Γ (emit x es) = emitRule Γ x es
 stmtRule Γ (assign s op target value) = checkStmtTypes Γ (assign s op target value)
 stmtRule Γ (do' e) = checkStmtTypes Γ (do' e) >>= λ _. refuseNameRecipient Γ e
 
--- a statement, and no `let` was bound since it began
+-- a statement, directly behind those that are bound
 pub record BodyStmt (s S : List ℕ) (env : Env) (T : Table) (i : ℕ) : Type 0 where
-  pub ready : Ready s S env T
+  pub ready : ReadyTyped s S env T
   pub here : Here S grammar.Stmt i
-  pub later : env .later ≡ 0
+  pub next : env .next ≡ i
 
 -- ... of kind k
 pub record StmtOf (k : ℕ) (s S : List ℕ) (env : Env) (T : Table) (i : ℕ) : Type 0 where
@@ -134,7 +150,7 @@ pub record BodyAt (s S : List ℕ) (T : Table) (params count body total at left 
   pub few : left ≤ total
   pub row : Row S grammar.Stmt total body
   pub here : at ≡ skip S (total - left) body
-  pub ready : Ready s S (withLocals params count body (total - left)) T
+  pub ready : ReadyTyped s S (withLocals params count body (total - left) at) T
 
 -- ------------------------------------------------------------ entries and items
 

@@ -41,23 +41,22 @@ pub fn names(params: usize, count: usize, genesis: bool) -> Env
         count,
         body: 0,
         bound: 0,
-        own: 0,
-        later: 0,
+        next: 0,
         genesis,
     }
 }
 
-// `count` parameters from line `params` on; the `let`s among the first `bound` statements from line body on are locals.
-fn locals(params: usize, count: usize, body: usize, bound: usize) -> Env
-    ensures { λ r. ⌜ r ≡ withLocals params count body bound ⌝ }
+// `count` parameters from line `params` on; the `let`s among the first `bound` statements from line body on, which end at line
+// `next`, are locals.
+fn locals(params: usize, count: usize, body: usize, bound: usize, next: usize) -> Env
+    ensures { λ r. ⌜ r ≡ withLocals params count body bound next ⌝ }
 {
     Env {
         params,
         count,
         body,
         bound,
-        own: 0,
-        later: 0,
+        next,
         genesis: false,
     }
 }
@@ -123,12 +122,12 @@ fn check_body(
     left: usize,
 ) -> Done
     requires { ⌜ BodyAt (now sheet) (now lines) (now table) params count body total at left ⌝ }
-    ensures { λ r. ⌜ Does (now (sheet .entry)) (checkBody (envOf (now (sheet .entry)) (now (table .entry)) (withLocals params count body (total - left))) (stmtsAt (now (sheet .entry)) left at)) (now (table .entry)) r (now (table .exit)) ⌝ }
+    ensures { λ r. ⌜ Does (now (sheet .entry)) (checkBody (envOf (now (sheet .entry)) (now (table .entry)) (withLocals params count body (total - left) at)) (stmtsAt (now (sheet .entry)) left at)) (now (table .entry)) r (now (table .exit)) ⌝ }
 {
     if left == 0 {
         return Done::Fine;
     }
-    let env = locals(params, count, body, total - left);
+    let env = locals(params, count, body, total - left, at);
     match check_stmt(sheet, lines, env, table, at) {
         Done::Fine => check_body(
             sheet,

@@ -17,7 +17,8 @@ use Rattle.sheet.specs.Tree.{Node, node, Nodes, nil, more, takeNodes}
 use Rattle.sheet.specs.Held.{Held, held, HeldAll, no-tree, tree, Among, Parted, Formed, formed, FormedAll, none-due, one-due}
 use Rattle.sheet.proofs.Holds.{all-le}
 use Rattle.rules.specs.Text.{Name, among}
-use Rattle.rules.specs.Ast.{exprOf, exprsOf, nodes}
+use Rattle.rules.specs.Ast.{exprOf, exprsOf}
+use Rattle.rules.specs.Kept.{Table}
 use Rattle.rules.specs.Typing.{identLeaf, leafHas, has, hasAny, later, stale}
 use Rattle.rules.specs.Standing.{before, treesFrom, nodeAt, exprAt, Loaded, Here}
 use Rattle.rules.proofs.Parts.{stop, _also_, pick, parts}
@@ -166,11 +167,15 @@ module _ {s S : List ℕ} (d : Loaded s S) (xs : List Name) where
 
 -- ------------------------------------------------------------ the walk over the lines
 
-pub past-next : (s S : List ℕ) (env : Env) (i : ℕ) (r : Bool) → ExprIn s S env i → env .next ≤ i → r ≡ false → r ≡ stale (envOf s [] env) (exprAt s i)
+-- a line at which no bound `let` has yet to end
+pub not-stale-at : (s S : List ℕ) (env : Env) (T : Table) (i : ℕ) → ExprIn s S env i → env .next ≤ i → stale (envOf s T env) (exprAt s i) ≡ false
 unfolding envOf
-past-next s S env i r h q e =
-    let here = line-at (h .force .loaded) (h .here) in
-    e ∙ sym (not-stale (envOf s [] env) (exprAt s i) (rw here (past-on (endsIn s env) (env .next) i (ends-past s S env (h .force)) q)))
+not-stale-at s S env T i h q =
+    not-stale (envOf s T env) (exprAt s i)
+    (rw (line-at (h .force .loaded) (h .here)) (past-on (endsIn s env) (env .next) i (ends-past s S env (h .force)) q))
+
+pub past-next : (s S : List ℕ) (env : Env) (i : ℕ) (r : Bool) → ExprIn s S env i → env .next ≤ i → r ≡ false → r ≡ stale (envOf s [] env) (exprAt s i)
+past-next s S env i r h q e = e ∙ sym (not-stale-at s S env [] i h q)
 
 -- what is found so far: nothing before line at
 pub record Looking (s S : List ℕ) (env : Env) (i end at : ℕ) : Type 0 where

@@ -24,7 +24,14 @@ fn is_later(sheet: &[u8], lines: &[u16], env: Env, i: usize, at: usize) -> bool
     if kind(lines, at) != 21 {
         return false;
     }
-    match last_named(sheet, lines, 16, name(sheet, lines, at), env.body, env.bound) {
+    match last_named(
+        sheet,
+        lines,
+        16,
+        name(sheet, lines, at),
+        env.body,
+        env.bound,
+    ) {
         Found::At(j) => i < end(lines, j),
         Found::Nothing => false,
     }
