@@ -26,7 +26,7 @@ use Rattle.rules.specs.Declared.{tyOfDecl, eqTy}
 use Rattle.rules.specs.Check.{paramTypes}
 use Rattle.rules.specs.Typing as typing
 use Rattle.rules.specs.Typing.{identOf, tyOfIdent, isNameParam, keyedField, isPool}
-use Rattle.rules.specs.Standing.{nodeName, nodeAt, nodesAt, exprAt, typeAt, fieldAt, paramAt, Loaded}
+use Rattle.rules.specs.Standing.{nodeName, nodesAt, exprAt, typeAt, fieldAt, paramAt, Loaded}
 use Rattle.rules.proofs.Keeps.{code-marks}
 use Rattle.rules.proofs.Exprs.{ident-at}
 use Rattle.rules.proofs.Parts.{parts}

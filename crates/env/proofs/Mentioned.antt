@@ -3,7 +3,6 @@ use mathlib.Core.Logic.{_≢_}
 use mathlib.Core.Path.{_≡_, refl, sym, ap, _∙_}
 use mathlib.Core.List.{List, [], _∷_, append-nil}
 use mathlib.Core.Bool.{Bool, true, false, _||_, _&&_, or-assoc, or-false}
-use mathlib.Core.Option.{none}
 use Prim.Native.Nat.{ℕ, zero, suc, _+_, _-_, _/_, _<_, _≤_}
 use native.Mathlib.Omega.{arith}
 use lib.Dec.{eqb, ltb}
@@ -13,7 +12,7 @@ use Rattle.sheet.specs.Grammar as grammar
 use Rattle.sheet.specs.Line.{Line}
 use Rattle.sheet.specs.Load.{sorts, times}
 use Rattle.sheet.specs.Scratch.{kindAt, nameAt, endAt}
-use Rattle.sheet.specs.Tree.{Node, node, Nodes, nil, more, takeNodes}
+use Rattle.sheet.specs.Tree.{Node, node, Nodes, nil, more}
 use Rattle.sheet.specs.Held.{Held, held, HeldAll, no-tree, tree, Among, Parted, Formed, formed, FormedAll, none-due, one-due}
 use Rattle.sheet.proofs.Holds.{all-le}
 use Rattle.rules.specs.Text.{Name, among}

@@ -1,10 +1,9 @@
 -- Document 01's exception for `let`s holds of no line behind all that are bound. Assumes nothing.
-use mathlib.Core.Path.{_≡_, refl, ap, _∙_}
+use mathlib.Core.Path.{_≡_, refl}
 use mathlib.Core.List.{List, [], _∷_}
-use mathlib.Core.Bool.{Bool, true, false}
+use mathlib.Core.Bool.{false}
 use Prim.Native.Nat.{ℕ, _≤_}
 use native.Mathlib.Omega.{arith}
-use lib.Dec.{ltb}
 use borrow.Author.Tests.{le-ltb}
 use Rattle.rules.specs.Text.{Name, among}
 use Rattle.rules.specs.Ast.{Leaf, int, id, date, str, caller, native as native', inasset, now, Expr, leaf, unary, binary, field, call, wrap, Exprs, nil, more, line}

@@ -2,15 +2,15 @@
 use mathlib.Core.Path.{_≡_, refl, sym, ap, _∙_}
 use mathlib.Core.Logic.{_≢_}
 use mathlib.Core.List.{List, [], _∷_}
-use mathlib.Core.Bool.{Bool, true, false, not, _&&_, _||_, cond}
-use Prim.Native.Nat.{ℕ, zero, suc, _<_}
+use mathlib.Core.Bool.{Bool, true, false, true≢false, not, _&&_, _||_, cond}
+use Prim.Native.Nat.{ℕ, zero, suc, _+_, _<_}
 use native.Mathlib.Omega.{arith}
 use lib.Dec.{eqb}
 use lib.ListN.{length, getD, replicate, length-replicate}
 use lib.Seq.{getD-set-same, getD-set-other}
 use borrow.Author.Tests.{eqb-true, eqb-false, ne-eqb}
-use Rattle.rules.specs.Asking.{Ty, Res, ok, refused, Rule, ret, refuse, ask, Asking, Out, ended, fresh, reached, refusedIn, firstCode, codeOf}
-use Rattle.rules.specs.Kept.{Table, putIf, mark, marks}
+use Rattle.rules.specs.Asking.{Ty, Res, ok, refused, Rule, ret, refuse, ask, Asking, Out, ended, fresh, reached, reachedFrom, refusedIn, firstCode, codeOf}
+use Rattle.rules.specs.Kept.{Table, putIf, mark, marks, count}
 use Rattle.rules.proofs.All.{All, all-append}
 use Rattle.rules.proofs.Keeps.{code-marks, length-marks, zeros}
 
@@ -91,3 +91,24 @@ code-reached l ((i, c) ∷ rest) h = go (eqb i l) (eqb c 11) (refusedIn l rest) 
 -- A line is marked exactly where the rules ask its type.
 pub marked-reached : {A : Type 0} (p : Rule A) (n l : ℕ) → l < n → eqb (getD (marks (replicate n 0) (fresh p .log)) l 0) 0 ≡ not (reached l (fresh p .log))
 marked-reached p n l h = ap (λ c. eqb c 0) (marks-code p n l h) ∙ code-reached l (fresh p .log) (coded p)
+
+count-from : (T : Table) (i : ℕ) (asked : List Asking) → ((l : ℕ) → l < length T → eqb (getD T l 0) 0 ≡ not (reached (i + l) asked)) → count T ≡ reachedFrom i (length T) asked
+unfolding count reachedFrom
+count-from [] i asked h = refl
+count-from (c ∷ T) i asked h =
+    go c (reached i asked) (rw (let e : i + 0 ≡ i = omega arith in e) at (h 0 (omega arith)))
+    (count-from T (suc i) asked (λ l q. rw (let e : suc i + l ≡ i + suc l = omega arith in e) (h (suc l) (omega arith))))
+  where
+    go : (c : ℕ) (b : Bool) → eqb c 0 ≡ not b → count T ≡ reachedFrom (suc i) (length T) asked
+        → count (c ∷ T) ≡ elim b as (λ _. ℕ) [ true ↦ suc (reachedFrom (suc i) (length T) asked) | false ↦ reachedFrom (suc i) (length T) asked ]
+    go zero true q r = absurd (let z : _≡_ {A = Bool} true false = q in true≢false z)
+    go zero false q r = r
+    go (suc c) true q r = ap suc r
+    go (suc c) false q r = absurd (let z : true ≡ false = sym q ∙ ne-eqb (suc c) 0 (λ w. omega arith) in true≢false z)
+
+-- As many lines are marked as the rules reach.
+pub count-reached : {A : Type 0} (p : Rule A) (n : ℕ) → count (marks (replicate n 0) (fresh p .log)) ≡ reachedFrom 0 n (fresh p .log)
+count-reached p n =
+    let T = marks (replicate n 0) (fresh p .log) in
+    let e : length T ≡ n = length-marks (replicate n 0) (fresh p .log) ∙ length-replicate {A = ℕ} n 0 in
+    count-from T 0 (fresh p .log) (λ l h. rw (let z : 0 + l ≡ l = omega arith in z) (marked-reached p n l (rw e at h))) ∙ rw e refl

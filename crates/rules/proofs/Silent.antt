@@ -5,7 +5,7 @@ use mathlib.Core.Option.{Option, none, some}
 use Prim.Native.Nat.{ℕ}
 use Rattle.rules.specs.Text.{Name, Piece}
 use Rattle.rules.specs.Ast.{Type', Arg, ofType, ofInt, mOfN, AssignOp, Expr, leaf, unary, binary, field, call, wrap, Exprs, nil, more, Param, Clause, limits, denies, mints, after, Entry, Stmt, guard, bind, emit, assign, do'}
-use Rattle.rules.specs.Asking.{Ty, Rule, ifSomeElse, forEach, Out}
+use Rattle.rules.specs.Asking.{Ty, Rule, ifSomeElse, forEach}
 use Rattle.rules.specs.Declarations.{guardianBound, storableArg, storableArgs, storableKeyed, known, storableAs, storable, eventFieldType, refuseWord64AsDigest}
 use Rattle.rules.specs.Model.{Model}
 use Rattle.rules.specs.Typing.{Env}

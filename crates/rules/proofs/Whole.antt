@@ -8,7 +8,7 @@ use native.Mathlib.Omega.{arith}
 use lib.ListN.{getElem?}
 use Rattle.rules.specs.Text.{Name}
 use Rattle.rules.specs.Ast.{AssignOp, Expr, leaf, unary, binary, field, call, wrap, Exprs, nil, more, Param, Field, Clause, limits, denies, mints, after, Entry, Stmt, guard, bind, emit, assign, do', list, next}
-use Rattle.rules.specs.Asking.{Ty, Rule, ret, _>>_, Out, fresh, ok, forEach, ifSome}
+use Rattle.rules.specs.Asking.{Ty, Rule, ret, _>>_, fresh, ok, forEach, ifSome}
 use Rattle.rules.specs.Model.{Model}
 use Rattle.rules.specs.Typing.{Env, new, bound, Asked, Call, callOf, typings, askOf, tyOf}
 use Rattle.rules.specs.Statements.{checkEmitField, checkEmitFields, checkAssign, checkKeyedUse, checkStmtTypes, expectPredicate, refuseNameRecipient}

@@ -1,6 +1,6 @@
 -- How a rule is written: it gives a value, refuses, or asks a line's type and goes on with the answer.
 -- `fresh` is what a rule means: its result, and its askings in the order in which they end.
-use Prim.Native.Nat.{ℕ}
+use Prim.Native.Nat.{ℕ, zero, suc}
 use mathlib.Core.List.{List, [], _∷_, _++_}
 use mathlib.Core.Bool.{Bool, true, false, _&&_, _||_, cond}
 use mathlib.Core.Option.{Option, none, some}
@@ -81,6 +81,11 @@ Asking = ℕ × ℕ
 unfoldable pub reached : ℕ → List Asking → Bool
 reached l [] = false
 reached l (a ∷ rest) = eqb (a .0) l || reached l rest
+
+-- how many of the n lines from line i on are reached
+unfoldable pub reachedFrom : (i n : ℕ) → List Asking → ℕ
+reachedFrom i zero asked = 0
+reachedFrom i (suc n) asked = elim (reached i asked) [ true ↦ suc (reachedFrom (suc i) n asked) | false ↦ reachedFrom (suc i) n asked ]
 
 unfoldable pub refusedIn : ℕ → List Asking → Bool
 refusedIn l [] = false

@@ -71,30 +71,6 @@ module _ (s S : List ℕ) (env : Env) (T : Table) (i : ℕ) (h : Asks s S env T 
     pub fresh-room : i < length U
     fresh-room = omega (arith, of-room, types-length s _ T a U k)
 
--- a line whose type was answered has a type in the table
-pub leaves-type : (s S : List ℕ) (env : Env) (T : Table) (i : ℕ) (a : Typed) (U : Table) (c : ℕ) → Asks s S env T i
-    → Types s (tyOf (envOf s T env) (exprAt s i)) T a U → a ≡ Is c → IsCode (getD U i 0)
-unfolding typedOf codeR
-leaves-type s S env T i a U c h k e = go (leb 1 (getD T i 0) && leb (getD T i 0) 10) refl
-  where
-    o : kept (tyOf (envOf s T env) (exprAt s i)) T ≡ record { res = ok (tyFrom c); table = U }
-    o = k .gives ∙ rw e refl
-
-    left : U ≡ kept (tyOf (envOf s T env) (exprAt s i)) T .table
-    left = sym (ap (λ x. x .table) o)
-
-    go : (b : Bool) → (leb 1 (getD T i 0) && leb (getD T i 0) 10) ≡ b → IsCode (getD U i 0)
-    go true q =
-        let y = told (getD T i 0) q in
-        rw (left, kept-holds _ T (tyFrom c) i _ (code-of (getD T i 0) y .0) (ap (λ x. x .res) o)) y
-    go false q =
-        let f = first-time (envOf s T env) (exprAt s i) T (rw (here s S env T i h) (untold (getD T i 0) q)) in
-        let r : kept (typing (envOf s T env) (exprAt s i)) T .res ≡ ok (tyFrom c) = sym (ap (λ x. x .res) f) ∙ ap (λ x. x .res) o in
-        let X = kept (typing (envOf s T env) (exprAt s i)) T .table in
-        let g : getD U i 0 ≡ code (tyFrom c) =
-        ap (λ W. getD W i 0) (left ∙ ap (λ x. x .table) f) ∙ rw (here s S env T i h, r) (getD-set-same X i (code (tyFrom c)) 0 (rw (kept-length (typing (envOf s T env) (exprAt s i)) T) (of-room s S env T i h))) in
-        rw g (code-is (tyFrom c))
-
 -- typed again
 module _ (s S : List ℕ) (env : Env) (T : Table) (i : ℕ) (h : AsksAgain s S env T i) where
   at : line (exprAt s i) ≡ i

@@ -1,3 +1,4 @@
+pub mod AnyTable
 pub mod Asking
 pub mod Calls
 pub mod Doing

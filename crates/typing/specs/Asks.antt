@@ -108,6 +108,11 @@ unfoldable pub answerMark : Typed → ℕ
 answerMark (Is c) = c
 answerMark (Refused r) = 11
 
+-- ... on a line that has the type c
+unfoldable pub againMark : ℕ → Typed → ℕ
+againMark c (Is d) = c
+againMark c (Refused r) = 11
+
 -- the codes of lines that have no parts, by their kind; that of a name is looked up
 abbrev pub leafCodes : List ℕ
 leafCodes = 1 ∷ 10 ∷ 7 ∷ 8 ∷ 3 ∷ 3 ∷ 3 ∷ 1 ∷ []
