@@ -1,2 +1,3 @@
 pub mod Outcomes
+pub mod Reached
 pub mod Telling

@@ -75,7 +75,7 @@ ruled : (s : List ℕ) (types scratch most n : ℕ) (ls : List Line) → load s 
 unfolding judged keptVerdict keptJudge modelIn linesIn readLines
 ruled s types scratch most n ls l e c = verdict-kept s types scratch most ∙ rw (l, e, c, times-replicate) refl
 
-told-types : (most : ℕ) (r : Res Unit) (T : Table) → told most r T .types ≡ T
+pub told-types : (most : ℕ) (r : Res Unit) (T : Table) → told most r T .types ≡ T
 unfolding told
 told-types most (ok u) T = refl
 told-types most (ruled-out r) T = refl
