@@ -12,14 +12,14 @@ use Rattle.sheet.specs.Grammar as grammar
 use Rattle.sheet.specs.Line.{Line}
 use Rattle.sheet.specs.Load.{sorts, times}
 use Rattle.sheet.specs.Scratch.{kindAt, nameAt, endAt}
-use Rattle.sheet.specs.Tree.{Node, node, Nodes, nil, more}
+use Rattle.sheet.specs.Tree.{Node, node, Nodes, nil, more, before}
 use Rattle.sheet.specs.Held.{Held, held, HeldAll, no-tree, tree, Among, Parted, Formed, formed, FormedAll, none-due, one-due}
 use Rattle.sheet.proofs.Holds.{all-le}
 use Rattle.rules.specs.Text.{Name, among}
 use Rattle.rules.specs.Ast.{exprOf, exprsOf}
 use Rattle.rules.specs.Kept.{Table}
 use Rattle.rules.specs.Typing.{identLeaf, leafHas, has, hasAny, later, stale}
-use Rattle.rules.specs.Standing.{before, treesFrom, nodeAt, exprAt, Loaded, Here}
+use Rattle.rules.specs.Standing.{treesFrom, nodeAt, exprAt, Loaded, Here}
 use Rattle.rules.proofs.Parts.{stop, _also_, pick, parts}
 use Rattle.rules.proofs.Exprs.{line-at}
 use Rattle.rules.proofs.Lets.{past-on, not-stale}

@@ -14,12 +14,12 @@ use lib.ListN.{length}
 use Rattle.text.specs.Text.{bytes, same}
 use Rattle.sheet.specs.Held.{held, HeldAll, no-tree, tree}
 use Rattle.sheet.specs.Scratch.{nameAt, kindAt, endAt}
-use Rattle.sheet.specs.Tree.{Nodes, nil}
+use Rattle.sheet.specs.Tree.{Nodes, nil, before as joined}
 use Rattle.sheet.proofs.Holds.{all-le}
 use Rattle.rules.specs.Text.{Piece, lit, raw, dec, is, digits, render}
 use Rattle.rules.specs.Ast.{Arg, Args, anil, amore, typeOf, argsOf}
 use Rattle.rules.specs.Declarations.{argText, argsText, typeText}
-use Rattle.rules.specs.Standing.{before as joined, treesFrom, typeAt, argAt, Loaded}
+use Rattle.rules.specs.Standing.{treesFrom, typeAt, argAt, Loaded}
 use Rattle.rules.proofs.Places.{there-or-not}
 use Rattle.rules.proofs.Standing.{stands, none-beyond, beyond}
 use Rattle.declared.proofs.Types.{arg-told}

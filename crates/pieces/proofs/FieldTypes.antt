@@ -10,12 +10,12 @@ use lib.Dec.{ltb}
 use lib.ListN.{length, getD}
 use Rattle.sheet.specs.Held.{held, HeldAll, no-tree, tree}
 use Rattle.sheet.specs.Scratch.{nameAt, endAt}
-use Rattle.sheet.specs.Tree.{Node, node, Nodes}
+use Rattle.sheet.specs.Tree.{Node, node, Nodes, before}
 use Rattle.sheet.proofs.Holds.{all-le}
 use Rattle.rules.specs.Text.{render}
 use Rattle.rules.specs.Ast.{blankNode, nodes, typeName, typeOf, fieldOf, paramOf}
 use Rattle.rules.specs.Declarations.{typeText}
-use Rattle.rules.specs.Standing.{before, treesFrom, nodeAt, typeAt, fieldAt, paramAt, Loaded}
+use Rattle.rules.specs.Standing.{treesFrom, nodeAt, typeAt, fieldAt, paramAt, Loaded}
 use Rattle.rules.proofs.Places.{there-or-not, no-entry, named-at, type-name-at}
 use Rattle.rules.proofs.Standing.{stands, beyond}
 use Rattle.pieces.specs.Types.{typeLine}

@@ -8,7 +8,7 @@ use lib.ListN.{length, getElem?, take, length-take}
 use Rattle.sheet.specs.Grammar.{Sort}
 use Rattle.sheet.specs.Line.{Line}
 use Rattle.sheet.specs.Load.{lines, load, sorts, times}
-use Rattle.sheet.specs.Tree.{Node, node, Nodes, nil, more, takeNodes, build as trees}
+use Rattle.sheet.specs.Tree.{Node, node, Nodes, nil, more, takeNodes, build as trees, before}
 use Rattle.sheet.specs.Scratch.{endAt, skip}
 use Rattle.sheet.specs.Held.{Says, Held, held, HeldAll, no-tree, tree, every, EveryOf, no-more, and-more, Spells, Parted, formed, FormedAll, none-due, one-due}
 use Rattle.sheet.specs.Promise.{answer, scratchAfter}
@@ -18,7 +18,7 @@ use Rattle.sheet.specs.declared.loader.Answer.the-variants.{Lines}
 use Rattle.sheet.proofs.Holds.{all-le}
 use Rattle.sheet.proofs.Loaded.{whole, loaded, left-size, left-few, answer-lines}
 use Rattle.rules.specs.Ast.{more as moreExprs, blankNode, nodes, exprsOf}
-use Rattle.rules.specs.Standing.{readLines, linesIn, before, without, treesFrom, nodeAt, nodesAt, exprAt, exprsAt, Loaded, LoadedIn, Here, Row, stop, next}
+use Rattle.rules.specs.Standing.{readLines, linesIn, without, treesFrom, nodeAt, nodesAt, exprAt, exprsAt, Loaded, LoadedIn, Here, Row, stop, next}
 
 -- the trees from line i on: what their records are, where they stand and what they say
 record Trees (s S : List ℕ) (n i : ℕ) (ns : Nodes) : Type 0 where

@@ -184,7 +184,7 @@ abbrev pub assignOps : List AssignOp
 assignOps = Set ∷ AddTo ∷ SubFrom ∷ []
 
 -- expressions, kinds 20 to 33: line i, what it says, and its parts
-abbrev exprKinds : List (ℕ → Line → Exprs → Expr)
+abbrev pub exprKinds : List (ℕ → Line → Exprs → Expr)
 exprKinds =
     (λ i l es. leaf i (spanOf l) (int (l .name)))
     ∷ (λ i l es. leaf i (spanOf l) (id (l .name)))

@@ -9,7 +9,7 @@ use Rattle.sheet.specs.Line.{Line}
 use Rattle.sheet.specs.Load.{Loaded as Read, lines, refused}
 use Rattle.sheet.specs.Scan.{scanAll}
 use Rattle.sheet.specs.Scratch.{kindAt, endAt}
-use Rattle.sheet.specs.Tree.{Node, node, Nodes, nil, more, takeNodes, build as trees}
+use Rattle.sheet.specs.Tree.{Node, node, Nodes, nil, more, takeNodes, build as trees, before}
 use Rattle.rules.specs.Ast.{Type', Arg, Expr, Exprs, Field, Param, Clause, Stmt, Entry, Event, blankNode, nodes, spanOf, argOf, typeOf, exprOf, exprsOf, fieldOf, paramOf, clauseOf, stmtOf, entryOf, eventOf}
 use Rattle.rules.specs.Text.{Name}
 use Rattle.rules.specs.Model.{Model}
@@ -25,11 +25,6 @@ linesIn s = readLines (scanAll s)
 
 unfoldable pub modelIn : List ℕ → Model
 modelIn s = modelOf (linesIn s)
-
--- trees before others
-unfoldable pub before : Nodes → Nodes → Nodes
-before nil ns = ns
-before (more t ts) ns = more t (before ts ns)
 
 -- the trees that are left when k lines are taken away, each from the first tree
 unfoldable pub without : ℕ → Nodes → Nodes

@@ -76,7 +76,7 @@ mutual
   all-put (tree {i} h r) j v g = tree (held-put h j v g) (rw (← end-put _ i j v g) at (all-put r j v (omega (arith, held-less h))))
 
 -- how many trees
-abbrev count : Nodes → ℕ
+abbrev pub count : Nodes → ℕ
 count nil = 0
 count (more t ns) = suc (count ns)
 
@@ -87,7 +87,7 @@ count-drop (suc k) nil h = absurd (omega arith)
 count-drop (suc k) (more t ns) h = omega (arith, count-drop k ns (omega arith))
 
 -- as many trees are built as are due
-due-count : {k : ℕ} {ls : List Line} → Due k ls → (i : ℕ) → count (build i ls) ≡ k
+pub due-count : {k : ℕ} {ls : List Line} → Due k ls → (i : ℕ) → count (build i ls) ≡ k
 unfolding build grow
 due-count done i = refl
 due-count (next {k} {l} {ls} d) i =

@@ -17,3 +17,9 @@ pub mod ScanNeeds
 pub mod Forms
 pub mod Loading
 pub mod Loaded
+pub mod Paired
+pub mod Twins
+pub mod Trees
+pub mod Rereading
+pub mod Refused
+pub mod Joining

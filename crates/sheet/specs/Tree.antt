@@ -36,3 +36,8 @@ grow i l ns = more (node i l (takeNodes (total (l .parts)) ns)) (dropNodes (tota
 unfoldable pub build : ℕ → List Line → Nodes
 build i [] = nil
 build i (l ∷ ls) = grow i l (build (suc i) ls)
+
+-- trees before others
+unfoldable pub before : Nodes → Nodes → Nodes
+before nil ns = ns
+before (more t ts) ns = more t (before ts ns)

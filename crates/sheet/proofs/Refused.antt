@@ -1,0 +1,64 @@
+-- A refusal of the reader has a number from 1 on. Assumes nothing.
+use mathlib.Core.List.{List, [], _∷_, _++_}
+use mathlib.Core.Bool.{Bool, true, false, cond}
+use mathlib.Core.Option.{Option, none as nothing, some}
+use Prim.Native.Nat.{ℕ, zero, suc, _+_, _≤_}
+use native.Mathlib.Omega.{arith}
+use lib.Dec.{eqb, ltb}
+use lib.ListN.{length}
+use Rattle.sheet.specs.Grammar.{Sort, Contract, rowOf, none, kindFor}
+use Rattle.sheet.specs.Line.{Line, Read, good, bad, orTen, readAs, fieldsOf, readPieces, readLine}
+use Rattle.sheet.specs.Load.{Loaded, lines, refused, linesOf, after, sorts, due, judged, scan, early, loadFrom, load}
+
+abbrev Counted : Read → Type 0
+Counted (good l) = Unit
+Counted (bad n) = 1 ≤ n
+
+abbrev pub FromOne : Loaded → Type 0
+FromOne (lines ls) = Unit
+FromOne (refused n i) = 1 ≤ n
+
+either-counted : (b : Bool) (p q : Read) → Counted p → Counted q → Counted (cond b p q)
+either-counted true p q h k = h
+either-counted false p q h k = k
+
+ten-counted : (o : Option Line) → Counted (orTen o)
+unfolding orTen
+ten-counted (some l) = tt
+ten-counted nothing = omega arith
+
+line-counted : (s : Sort) (at : ℕ) (l : List ℕ) → Counted (readLine s at l)
+unfolding readLine readPieces readAs
+line-counted s at l = go (fieldsOf l)
+  where
+    go : (fs : List (List ℕ)) → Counted (readPieces s at fs)
+    go [] = omega arith
+    go (w ∷ fs) =
+        either-counted (eqb (kindFor s w) none) _ _ (omega arith)
+        (either-counted (eqb (length fs) (length (rowOf (kindFor s w) .rules))) _ _ (ten-counted _) (omega arith))
+
+after-one : (l : Line) (r : Loaded) → FromOne r → FromOne (after l r)
+after-one l (lines ls) h = tt
+after-one l (refused n i) h = h
+
+judged-one : (i : ℕ) (b : Bool) (r : Read) (f : Line → Loaded) → Counted r → ((l : Line) → FromOne (f l)) → FromOne (judged i b r f)
+unfolding judged
+judged-one i true r f h k = omega arith
+judged-one i false (bad n) f h k = h
+judged-one i false (good l) f h k = after-one l (f l) (k l)
+
+scan-one : (i at : ℕ) (ds : List (ℕ × Sort)) (ls : List (List ℕ)) → FromOne (scan i at ds ls)
+unfolding scan
+scan-one i at [] [] = tt
+scan-one i at (d ∷ ds) [] = omega arith
+scan-one i at [] (l ∷ ls) = omega arith
+scan-one i at (d ∷ ds) (l ∷ ls) =
+    judged-one i (ltb 64 (d .0)) (readLine (d .1) at l) _ (line-counted (d .1) at l) (λ x. scan-one (suc i) (at + length l + 1) (due (suc (d .0)) (sorts (x .parts)) ++ ds) ls)
+
+pub load-one : (s : List ℕ) (types scratch : ℕ) → FromOne (load s types scratch)
+unfolding load loadFrom
+load-one s types scratch = go (early s types scratch)
+  where
+    go : (k : ℕ) → FromOne (loadFrom k s)
+    go zero = scan-one 1 0 ((0, Contract) ∷ []) (linesOf s)
+    go (suc k) = omega arith
