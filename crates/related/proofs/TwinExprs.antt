@@ -1,0 +1,161 @@
+-- Expressions, statements and clauses of two trees with the same records, but for their lines and perhaps for the texts of literals, are alike. Assumes nothing.
+use mathlib.Core.Path.{_≡_, refl, sym, ap, _∙_}
+use mathlib.Core.Logic.{_⊎_, inl, inr}
+use mathlib.Core.List.{List, [], Forall₂, Forall₂·nil as nil₂, Forall₂·cons as cons₂}
+use mathlib.Core.Bool.{Bool, true, false}
+use mathlib.Core.Option.{none, Option·map}
+use Prim.Native.Nat.{ℕ, zero, suc, _-_, _≤_}
+use package.native.Mathlib.Omega.{arith}
+use lib.Dec.{ltb}
+use borrow.Author.Tests.{ltb-true, ltb-false}
+use lib.ListN.{getD, getElem?, List·getD-eq-default}
+use Rattle.sheet.specs.Grammar as grammar
+use Rattle.sheet.specs.Line.{Line}
+use Rattle.sheet.specs.Tree.{Node, node, Nodes}
+use Rattle.sheet.specs.Same.{SameRecord}
+use Rattle.sheet.proofs.Paired.{Opt, take₂, drop₂, at₂, map₂, opt-map}
+use Rattle.sheet.proofs.Twins.{Twin, twin, Twins, no-twin, and-twin}
+use Rattle.rules.specs.Text.{Name}
+use Rattle.rules.specs.Ast.{Leaf, int, date, str, caller, native, inasset, now, Expr, leaf, Exprs, nil, more, spanOf, exprKinds, exprOf, exprsOf, nodes, blankNode, clauseOf, stmtOf}
+use Rattle.rules.specs.Typing.{identLeaf}
+use Rattle.rules.proofs.Parts.{Each as Numbers, stop, _also_, pick}
+use Rattle.related.proofs.Alike.{Setting}
+use Rattle.related.proofs.Like.{SameField, LeafLike, l-text, l-same, Like, leaf~, unary~, binary~, field~, call~, wrap~, Likes, nil~, more~, id-like}
+use Rattle.related.proofs.LikeStatements.{SameEvent, StmtLike, guard~, bind~, emit~, assign~, do~}
+use Rattle.related.proofs.LikeEntries.{ClauseLike, limits~, denies~, mints~, after~}
+
+-- the same record, and the models of the setting tell the same of the name that it mentions
+pub record SameNamed (S : Setting) (l k : Line) : Type 0 where
+  pub same : SameRecord (S .Free) l k
+  pub field : (l .kind ≡ 21) ⊎ (l .kind ≡ 6) → SameField S (l .name)
+  pub event : l .kind ≡ 17 → SameEvent S (l .name)
+
+abbrev pub SettingTwin : Setting → Node → Node → Type 0
+SettingTwin S = Twin (S .Lines) (SameNamed S)
+
+pub nodes-twins : {L : ℕ → ℕ → Type 0} {R : Line → Line → Type 0} {ns ms : Nodes} → Twins L R ns ms → Forall₂ (Twin L R) (nodes ns) (nodes ms)
+unfolding nodes
+nodes-twins no-twin = nil₂
+nodes-twins (and-twin h k) = cons₂ h (nodes-twins k)
+
+-- names differ only in an `int`
+pub same-name : {Free : Type 0} {l k : Line} → SameRecord Free l k → (l .kind ≡ 20 → ⊥) → l .name ≡ k .name
+same-name {Free} {l} {k} h f = go (h .name)
+  where
+    go : (l .name ≡ k .name) ⊎ (Free × (l .kind ≡ 20)) → l .name ≡ k .name
+    go (inl e) = e
+    go (inr e) = absurd (f (e .1))
+
+-- ------------------------------------------------------------ expressions
+
+plain : {S : Setting} (k : Leaf) → identLeaf k ≡ none → LeafLike S k k
+plain {S} k e = l-same {k = k} (λ x q. absurd (let z : _≡_ {A = ℕ} 0 1 = cc (e, q) in omega arith))
+
+abbrev first : Exprs → Expr
+first nil = leaf 0 0 now
+first (more e es) = e
+
+abbrev rest : Exprs → Exprs
+rest nil = nil
+rest (more e es) = es
+
+first-like : {S : Setting} {es fs : Exprs} → Likes S es fs → Like S (first es) (first fs)
+unfolding identLeaf
+first-like {S} nil~ = leaf~ (S .same-line 0) (plain now refl)
+first-like (more~ h k) = h
+
+rest-like : {S : Setting} {es fs : Exprs} → Likes S es fs → Likes S (rest es) (rest fs)
+rest-like nil~ = nil~
+rest-like (more~ h k) = k
+
+text-like : {S : Setting} {T : Type 0} {x y : Name} → (x ≡ y) ⊎ (S .Free × T) → LeafLike S (int x) (int y)
+unfolding identLeaf
+text-like {y = y} (inl e) = rw e (plain (int y) refl)
+text-like (inr f) = l-text (f .0)
+
+module _ (S : Setting) (i j : ℕ) (n : S .Lines i j) (l k : Line) (h : SameNamed S l k) (ps qs : Nodes) (es : Likes S (exprsOf ps) (exprsOf qs)) where
+  abbrev Made : ℕ → Type 0
+  Made d = l .kind - 20 ≡ d → Like S (exprOf (node i l ps)) (exprOf (node j k qs))
+
+  side : (d : ℕ) → l .kind - 20 ≡ d → k .kind - 20 ≡ d
+  side d e = ap (λ (n : ℕ). n - 20) (sym (h .same .kind)) ∙ e
+
+  made : Numbers Made 0 14
+  unfolding exprOf identLeaf
+  made =
+      (λ e. rw (e, side 0 e, h .same .spans) (leaf~ n (text-like (h .same .name))))
+      also (λ e. rw (e, side 1 e, h .same .spans, ← same-name (h .same) (λ q. omega arith)) (leaf~ n (id-like (l .name) (h .field (inl (omega arith))))))
+      also (λ e. rw (e, side 2 e, h .same .spans) (leaf~ n (plain date refl)))
+      also (λ e. rw (e, side 3 e, h .same .spans) (leaf~ n (plain str refl)))
+      also (λ e. rw (e, side 4 e, h .same .spans) (leaf~ n (plain caller refl)))
+      also (λ e. rw (e, side 5 e, h .same .spans) (leaf~ n (plain native refl)))
+      also (λ e. rw (e, side 6 e, h .same .spans) (leaf~ n (plain inasset refl)))
+      also (λ e. rw (e, side 7 e, h .same .spans) (leaf~ n (plain now refl)))
+      also (λ e. rw (e, side 8 e, h .same .spans, h .same .op) (unary~ n (first-like es)))
+      also (λ e. rw (e, side 9 e, h .same .spans, h .same .op) (binary~ n (first-like es) (first-like (rest-like es))))
+      also (λ e. rw (e, side 10 e, h .same .spans, same-name (h .same) (λ q. omega arith)) (field~ n (first-like es)))
+      also (λ e. rw (e, side 11 e, h .same .spans) (call~ n (first-like es) (rest-like es)))
+      also (λ e. rw (e, side 12 e, h .same .spans) (wrap~ n (first-like es)))
+      also (λ e. rw (e, side 13 e, h .same .spans) (wrap~ n (first-like es)))
+      also stop
+
+  -- no expression's kind
+  other : 14 ≤ l .kind - 20 → Like S (exprOf (node i l ps)) (exprOf (node j k qs))
+  unfolding exprOf identLeaf
+  other e =
+      let d : ℕ → Line → Exprs → Expr = λ i l es. leaf i (spanOf l) now in
+      rw (← h .same .kind, h .same .spans, List·getD-eq-default exprKinds d {n = l .kind - 20} e) (leaf~ n (plain now refl))
+
+  expr-made : Like S (exprOf (node i l ps)) (exprOf (node j k qs))
+  expr-made = go (ltb (l .kind - 20) 14) refl
+    where
+      go : (b : Bool) → ltb (l .kind - 20) 14 ≡ b → Like S (exprOf (node i l ps)) (exprOf (node j k qs))
+      go true e = pick (l .kind - 20) made (omega arith) (ltb-true _ _ e) refl
+      go false e = other (ltb-false _ _ e)
+
+module _ {S : Setting} where
+  mutual
+    unfolding exprsOf
+
+    expr-twin : {t u : Node} → SettingTwin S t u → Like S (exprOf t) (exprOf u)
+    expr-twin (twin {ps = ps} {qs = qs} n h r) = expr-made S _ _ n _ _ h ps qs (exprs-twin r)
+
+    exprs-twin : {ns ms : Nodes} → Twins (S .Lines) (SameNamed S) ns ms → Likes S (exprsOf ns) (exprsOf ms)
+    exprs-twin no-twin = nil~
+    exprs-twin (and-twin h k) = more~ (expr-twin h) (exprs-twin k)
+
+  pub at-twin : {ns ms : List Node} (n : ℕ) → Forall₂ (SettingTwin S) ns ms → Like S (exprOf (getD ns n blankNode)) (exprOf (getD ms n blankNode))
+  unfolding exprOf identLeaf
+  at-twin n nil₂ = leaf~ (S .same-line 0) (plain (int []) refl)
+  at-twin zero (cons₂ h k) = expr-twin h
+  at-twin (suc n) (cons₂ h k) = at-twin n k
+
+  pub maybe-twin : {ns ms : List Node} (n : ℕ) → Forall₂ (SettingTwin S) ns ms → Opt (Like S) (Option·map exprOf (getElem? ns n)) (Option·map exprOf (getElem? ms n))
+  maybe-twin n h = opt-map exprOf exprOf (λ t u k. expr-twin k) (at₂ n h)
+
+-- ------------------------------------------------------------ statements and clauses
+
+module _ (S : Setting) (i j : ℕ) (n : S .Lines i j) (l k : Line) (h : SameNamed S l k) (ps qs : Nodes) (r : Forall₂ (SettingTwin S) (nodes ps) (nodes qs)) where
+  stmt-made : (d : ℕ) → l .kind - 15 ≡ d → k .kind - 15 ≡ d → StmtLike S (stmtOf (node i l ps)) (stmtOf (node j k qs))
+  unfolding stmtOf identLeaf
+  stmt-made zero e f = rw (e, f) (guard~ (at-twin 0 r))
+  stmt-made (suc zero) e f = rw (e, f, same-name (h .same) (λ q. omega arith)) (bind~ (at-twin 0 r))
+  stmt-made (suc (suc zero)) e f = rw (e, f, ← same-name (h .same) (λ q. omega arith)) (emit~ (h .event (omega arith)) (map₂ exprOf exprOf (λ t u q. expr-twin q) r))
+  stmt-made (suc (suc (suc zero))) e f = rw (e, f, h .same .spans, h .same .op) (assign~ (at-twin 0 r) (at-twin 1 r))
+  stmt-made (suc (suc (suc (suc zero)))) e f = rw (e, f) (do~ (at-twin 0 r))
+  stmt-made (suc (suc (suc (suc (suc d))))) e f = rw (e, f) (do~ (leaf~ (S .same-line 0) (plain now refl)))
+
+  clause-made : (d : ℕ) → l .kind - 11 ≡ d → k .kind - 11 ≡ d → ClauseLike S (clauseOf (node i l ps)) (clauseOf (node j k qs))
+  unfolding clauseOf
+  clause-made zero e f = rw (e, f) (limits~ (at-twin 0 r))
+  clause-made (suc zero) e f = rw (e, f) (denies~ (at-twin 0 r))
+  clause-made (suc (suc zero)) e f = rw (e, f) mints~
+  clause-made (suc (suc (suc zero))) e f = rw (e, f, h .same .parts) (after~ (maybe-twin 0 (take₂ (getD (k .parts) 0 (0, grammar.Contract) .0) r)) (maybe-twin 0 (drop₂ (getD (k .parts) 0 (0, grammar.Contract) .0) r)))
+  clause-made (suc (suc (suc (suc d)))) e f = rw (e, f) mints~
+
+module _ {S : Setting} where
+  pub stmt-twin : {t u : Node} → SettingTwin S t u → StmtLike S (stmtOf t) (stmtOf u)
+  stmt-twin (twin {l = l} {ps = ps} {qs = qs} n h r) = stmt-made S _ _ n _ _ h ps qs (nodes-twins r) (l .kind - 15) refl (ap (λ (n : ℕ). n - 15) (sym (h .same .kind)))
+
+  pub clause-twin : {t u : Node} → SettingTwin S t u → ClauseLike S (clauseOf t) (clauseOf u)
+  clause-twin (twin {l = l} {ps = ps} {qs = qs} n h r) = clause-made S _ _ n _ _ h ps qs (nodes-twins r) (l .kind - 11) refl (ap (λ (n : ℕ). n - 11) (sym (h .same .kind)))

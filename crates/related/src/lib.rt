@@ -1,0 +1,1 @@
+// Theorems that compare the rules on two sheets: specs/ and proofs/. There is no code.
