@@ -17,3 +17,4 @@ pub mod ScanNeeds
 pub mod Forms
 pub mod Loading
 pub mod Loaded
+pub mod Bytes
