@@ -89,10 +89,14 @@ each-sized : {s : List ℕ} {j : ℕ} {xs : List Line} → Each (λ k. Named) j 
 each-sized no-line no-line = no-line
 each-sized (one p ps) (one q qs) = one (record { short = p .short; takes = q }) (each-sized ps qs)
 
--- A line adds at most two bytes more than its name has to the text of a type, and takes at least three more of the sheet: so 64 times
--- what the lines before line i add is at most this.
+-- A line adds to the text of a type its name, or `_`, and at most two bytes more; of the sheet it takes its name and at least three more.
+-- A name has at most 64 bytes: so 64 times what the lines before line i add is at most this.
 abbrev room : List ℕ → ℕ → ℕ
 room s i = 63 * before i (linesOf s) + 3 * i
+
+-- what that leaves a type's text, where the sheet has 16,384 bytes and 1,024 lines
+abbrev typeMost : ℕ
+typeMost = 16176
 
 -- an argument by its kind, from 8 on
 by-kind : (k i : ℕ) (l : Line) (ps : Nodes) → l .kind - 8 ≡ k → length (l .name) ≤ 64
@@ -103,7 +107,7 @@ by-kind (suc zero) i l ps e h = rw e (omega arith)
 by-kind (suc (suc zero)) i l ps e h = rw e (omega arith)
 by-kind (suc (suc (suc k))) i l ps e h = rw e (omega arith)
 
--- what stands at the end of arguments, with what stood before the next
+-- what ends the arguments has fewer bytes than what stands before the next
 abbrev Closes : String → Type 0
 Closes b = weights (cond (is (bytes b) "<") [] (lit ">" ∷ [])) + 1 ≤ length (bytes b)
 
@@ -123,7 +127,7 @@ mutual
 
 record BriefType (ty : Type') : Type 0 where
   name : length (typeName ty) ≤ 64
-  text : weights (typeText ty) ≤ 16176
+  text : weights (typeText ty) ≤ typeMost
 
 -- what messages say of the record at a line
 record Brief (t : Node) : Type 0 where
@@ -136,18 +140,18 @@ record Brief (t : Node) : Type 0 where
 
 -- line i, whose parts stand from line j up to line k
 module _ {s S : List ℕ} {n : ℕ} where
-  type-brief : (i : ℕ) (l : Line) {j k : ℕ} {ps : Nodes} → HeldAll S n j k ps → EveryOf (Sized s) ps → room s k ≤ 64 * 16176
+  type-brief : (i : ℕ) (l : Line) {j k : ℕ} {ps : Nodes} → HeldAll S n j k ps → EveryOf (Sized s) ps → room s k ≤ 64 * typeMost
       → length (l .name) ≤ 64 → 64 * length (l .name) ≤ room s j → BriefType (typeOf (node i l ps))
   unfolding typeName typeOf typeText weights weight is same
   type-brief i l r ps h a b = record { name = a; text = omega (arith, args-weight "<" (omega arith) r ps) }
 
-  first-brief : {j k : ℕ} {ps : Nodes} → HeldAll S n j k ps → EveryOf (Sized s) ps → room s k ≤ 64 * 16176 → BriefType (typeOf (getD (nodes ps) 0 blankNode))
+  first-brief : {j k : ℕ} {ps : Nodes} → HeldAll S n j k ps → EveryOf (Sized s) ps → room s k ≤ 64 * typeMost → BriefType (typeOf (getD (nodes ps) 0 blankNode))
   unfolding nodes is same weights weight
   first-brief no-tree no-more h = type-brief _ _ {j = 0} no-tree no-more (omega arith) (omega arith) (omega arith)
   first-brief (tree (held w y r) rs) (and-more (every p qs) ps) h =
       type-brief _ _ r qs (omega (arith, args-weight "<" (omega arith) rs ps)) (p .short) (omega (arith, p .short, p .takes))
 
-  brief : (i : ℕ) (l : Line) {j k : ℕ} {ps : Nodes} → HeldAll S n j k ps → EveryOf (Sized s) ps → room s k ≤ 64 * 16176
+  brief : (i : ℕ) (l : Line) {j k : ℕ} {ps : Nodes} → HeldAll S n j k ps → EveryOf (Sized s) ps → room s k ≤ 64 * typeMost
       → length (l .name) ≤ 64 → 64 * length (l .name) ≤ room s j → Brief (node i l ps)
   unfolding nodeName paramOf fieldOf
   brief i l r ps h a b =
@@ -219,6 +223,6 @@ module _ (s S : List ℕ) (d : Loaded s S) (small : length s ≤ 16384) (few : l
   bounded (Overflow assign) = omega (arith, brief-at (suc assign))
   bounded (KeyKinds map key) = omega (arith, brief-at map)
 
--- every refusal's message, whatever lines it names
+-- the message of every refusal, whatever lines it names
 pub short : (s S : List ℕ) (r : Refusal) → Loaded s S → length s ≤ 16384 → length S / 8 ≤ 1024 → length (render (refusalOf s r .text)) ≤ longest
 short s S r d b h = omega (arith, render-few (refusalOf s r .text), bounded s S d b h r)
