@@ -1,6 +1,6 @@
 -- A message that the lent buffer has room for stands whole at the buffer's start; `verdict` promises that 16,384 bytes are room for every
 -- message. Assumes nothing.
-use mathlib.Core.Path.{_≡_, refl, ap, _∙_}
+use mathlib.Core.Path.{_≡_, refl, ap}
 use mathlib.Core.List.{List}
 use Prim.Native.Nat.{ℕ, _≤_}
 use native.Mathlib.Omega.{arith}
@@ -8,10 +8,9 @@ use lib.ListN.{length, take}
 use lib.Seq.{take-at}
 use borrow.Author.Tests.{le-leb}
 use Rattle.sheet.specs.Load.{Loaded, lines, refused as unread, load}
-use Rattle.rules.specs.Asking.{Res, ok, refused, fresh}
+use Rattle.rules.specs.Asking.{Res, ok, refused}
 use Rattle.rules.specs.Kept.{Table}
-use Rattle.rules.specs.Check.{check}
-use Rattle.rules.specs.Verdict.{written, fitting, told, ruled, modelOf, refusedSheet, judge, verdict}
+use Rattle.rules.specs.Verdict.{written, fitting, told, ruled, refusedSheet, judge, verdict}
 use Rattle.pieces.specs.Writing.{longest}
 use Rattle.verdict.specs.Outcome.{answerOf, Outcome, outcome}
 
