@@ -1,19 +1,21 @@
--- Every message is short. Assumes nothing.
+-- Every message has at most 16,384 bytes. Assumes nothing.
 use mathlib.Core.Path.{_≡_, refl}
 use mathlib.Core.List.{List, [], _∷_, _++_}
 use mathlib.Core.Bool.{Bool, true, false, cond}
-use Prim.Native.Nat.{ℕ, zero, suc, _+_, _-_, _*_, _/_, _%_, _≤_, _<_}
+use Prim.Native.Nat.{ℕ, zero, suc, _+_, _-_, _*_, _/_, _%_, _≤_}
 use Prim.Native.String.{String}
 use native.Mathlib.Omega.{arith}
 use lib.Dec.{eqb}
 use lib.ListN.{length, getD, length-append}
 use borrow.Author.Tests.{eqb-true, eqb-false}
-use Rattle.text.specs.Text.{bytes}
-use Rattle.sheet.specs.Held.{Held, HeldAll, no-tree, tree, held, Every, every, EveryOf, no-more, and-more}
+use Rattle.text.specs.Text.{bytes, same}
+use Rattle.sheet.specs.Held.{Held, HeldAll, no-tree, tree, held, Each, none as no-line, one, Every, every, EveryOf, no-more, and-more}
 use Rattle.sheet.specs.Line.{Line}
+use Rattle.sheet.specs.Load.{linesOf}
 use Rattle.sheet.specs.Scratch.{kindAt, endAt}
 use Rattle.sheet.specs.Tree.{Node, node, Nodes}
-use Rattle.sheet.proofs.Holds.{all-le, all-most}
+use Rattle.sheet.proofs.Bytes.{before, lines-most, Takes, lines-take}
+use Rattle.sheet.proofs.Loaded.{every-line}
 use Rattle.rules.specs.Text.{Piece, lit, raw, dec, is, digits, render}
 use Rattle.rules.specs.Ast.{Type', typeName, argOf, argsOf, typeOf, fieldOf, paramOf, nodes, blankNode}
 use Rattle.rules.specs.Declarations.{typeText, argText, argsText}
@@ -22,12 +24,13 @@ use Rattle.rules.specs.Declared.{describe}
 use Rattle.rules.specs.Standing.{nodeName, nodeAt, typeAt, paramAt, fieldAt, namedAt, Loaded}
 use Rattle.rules.proofs.Places.{there-or-not, is-there, dot-there, not-dot-at}
 use Rattle.rules.proofs.Records.{named}
-use Rattle.rules.proofs.Standing.{stands, beyond}
+use Rattle.rules.proofs.Standing.{Stands, stands, beyond}
 use Rattle.declared.specs.Refusal.{dotAt, refusalOf}
 use Rattle.declared.specs.Codes.{tyFrom}
 use Rattle.declared.specs.declared.refusal.Refusal.{Refusal}
 use Rattle.declared.specs.declared.refusal.Refusal.the-variants.{NameStored, Arity, OnlyTypes, Inner, UnknownType, NoArguments, Digest, Default, Guardian, Predicate, ReachesField, ReachesValues, ReachesEvent, Local, AssetSlot, NameIntoAddress, WrappingIntoNarrow, LiteralIntoNarrow, Slot, Recipient, Receiver, KeyedOp, Amount, Straight, ByName, Holds, Not, Neg, Logical, Arithmetic, Ordering, Names, Compared, EmitField, Dropped, Overflow, KeyKinds}
-use Rattle.pieces.proofs.Texts.{Named, blank-named, named-at}
+use Rattle.pieces.specs.Writing.{longest}
+use Rattle.pieces.proofs.Texts.{Named, lines-named, every-at}
 
 -- ------------------------------------------------------------ pieces
 
@@ -77,37 +80,54 @@ described Unknown = omega arith
 
 -- ------------------------------------------------------------ types
 
+-- what is known of line k of the sheet s
+record Sized (s : List ℕ) (k : ℕ) (l : Line) : Type 0 where
+  short : length (l .name) ≤ 64
+  takes : Takes (linesOf s) k l
+
+each-sized : {s : List ℕ} {j : ℕ} {xs : List Line} → Each (λ k. Named) j xs → Each (Takes (linesOf s)) j xs → Each (Sized s) j xs
+each-sized no-line no-line = no-line
+each-sized (one p ps) (one q qs) = one (record { short = p .short; takes = q }) (each-sized ps qs)
+
+-- A line adds to the text of a type its name, or `_`, and at most two bytes more; of the sheet it takes its name and at least three more.
+-- A name has at most 64 bytes: so 64 times what the lines before line i add is at most this.
+abbrev room : List ℕ → ℕ → ℕ
+room s i = 63 * before i (linesOf s) + 3 * i
+
+-- what that leaves a type's text, where the sheet has 16,384 bytes and 1,024 lines
+abbrev typeMost : ℕ
+typeMost = 16176
+
 -- an argument by its kind, from 8 on
-by-kind : (k i : ℕ) (l : Line) (ps : Nodes) → l .kind - 8 ≡ k → length (l .name) ≤ 64 → weights (argText (argOf (node i l ps))) ≤ 64 + weights (argsText "<" (argsOf ps))
+by-kind : (k i : ℕ) (l : Line) (ps : Nodes) → l .kind - 8 ≡ k → length (l .name) ≤ 64
+    → 64 * (weights (argText (argOf (node i l ps))) + 2) ≤ 63 * (length (l .name) + 3) + 3 + 64 * weights (argsText "<" (argsOf ps))
 unfolding argOf argText typeText weights weight
 by-kind zero i l ps e h = rw e (omega arith)
 by-kind (suc zero) i l ps e h = rw e (omega arith)
 by-kind (suc (suc zero)) i l ps e h = rw e (omega arith)
 by-kind (suc (suc (suc k))) i l ps e h = rw e (omega arith)
 
-closing-weight : (t : Bool) → weights (cond t [] (lit ">" ∷ [])) ≤ 1
-unfolding weights weight
-closing-weight true = omega arith
-closing-weight false = omega arith
+-- what ends the arguments has fewer bytes than what stands before the next
+abbrev Closes : String → Type 0
+Closes b = weights (cond (is (bytes b) "<") [] (lit ">" ∷ [])) + 1 ≤ length (bytes b)
 
--- at most 67 bytes for each line, and a `>` behind arguments
 mutual
-  unfolding argsText argsOf weights weight
+  unfolding argsText argsOf weights weight is same
 
-  arg-weight : {S : List ℕ} {n i : ℕ} {t : Node} → Held S n i t → Every (λ k. Named) t → weights (argText (argOf t)) + 67 * i + 2 ≤ 67 * endAt S i
-  arg-weight (held {i} {l} {ps} w y r) (every p qs) = omega (arith, by-kind (l .kind - 8) i l ps refl (p .short), args-weight "<" (omega arith) r qs)
+  arg-weight : {s S : List ℕ} {n i : ℕ} {t : Node} → Held S n i t → Every (Sized s) t → 64 * (weights (argText (argOf t)) + 2) + room s i ≤ room s (endAt S i)
+  arg-weight (held {i} {l} {ps} w y r) (every p qs) =
+      omega (arith, p .takes, by-kind (l .kind - 8) i l ps refl (p .short), args-weight "<" (omega arith) r qs)
 
-  args-weight : {S : List ℕ} {n i j : ℕ} {ns : Nodes} (b : String) → length (bytes b) ≤ 2 → HeldAll S n i j ns → EveryOf (λ k. Named) ns
-      → weights (argsText b (argsOf ns)) + 67 * i ≤ 67 * j + 1
-  args-weight b h no-tree no-more = omega (arith, closing-weight (is (bytes b) "<"))
+  args-weight : {s S : List ℕ} {n i j : ℕ} {ns : Nodes} (b : String) → Closes b → HeldAll S n i j ns → EveryOf (Sized s) ns
+      → 64 * (weights (argsText b (argsOf ns)) + 1) + room s i ≤ room s j + 64 * length (bytes b)
+  args-weight b h no-tree no-more = omega arith
   args-weight b h (tree r rs) (and-more p ps) = rw weights-append (omega (arith, arg-weight r p, args-weight ", " (omega arith) rs ps))
 
 -- ------------------------------------------------------------ what stands at a line
 
--- a name, and 67 bytes for each of 1,024 lines
 record BriefType (ty : Type') : Type 0 where
   name : length (typeName ty) ≤ 64
-  text : weights (typeText ty) ≤ 68673
+  text : weights (typeText ty) ≤ typeMost
 
 -- what messages say of the record at a line
 record Brief (t : Node) : Type 0 where
@@ -118,29 +138,39 @@ record Brief (t : Node) : Type 0 where
   param-type : BriefType (paramOf t .ty)
   field-type : BriefType (fieldOf t .ty)
 
--- a record whose parts end at line 1024 at most
-type-brief : {S : List ℕ} {n i j k : ℕ} {l : Line} {ps : Nodes} → HeldAll S n j k ps → k ≤ 1024 → Every (λ m. Named) (node i l ps) → BriefType (typeOf (node i l ps))
-unfolding typeName typeOf typeText weights weight
-type-brief r h (every p ps) = record { name = p .short; text = omega (arith, p .short, args-weight "<" (omega arith) r ps) }
+-- line i, whose parts stand from line j up to line k
+module _ {s S : List ℕ} {n : ℕ} where
+  type-brief : (i : ℕ) (l : Line) {j k : ℕ} {ps : Nodes} → HeldAll S n j k ps → EveryOf (Sized s) ps → room s k ≤ 64 * typeMost
+      → length (l .name) ≤ 64 → 64 * length (l .name) ≤ room s j → BriefType (typeOf (node i l ps))
+  unfolding typeName typeOf typeText weights weight is same
+  type-brief i l r ps h a b = record { name = a; text = omega (arith, args-weight "<" (omega arith) r ps) }
 
-first-brief : {S : List ℕ} {n j k : ℕ} {ps : Nodes} → HeldAll S n j k ps → k ≤ 1024 → EveryOf (λ m. Named) ps → BriefType (typeOf (getD (nodes ps) 0 blankNode))
-unfolding nodes
-first-brief {S} {n} no-tree h no-more = type-brief {S = S} {n = n} no-tree h blank-named
-first-brief (tree (held w y r) rs) h (and-more p ps) = type-brief r (omega (arith, all-le rs)) p
+  first-brief : {j k : ℕ} {ps : Nodes} → HeldAll S n j k ps → EveryOf (Sized s) ps → room s k ≤ 64 * typeMost → BriefType (typeOf (getD (nodes ps) 0 blankNode))
+  unfolding nodes is same weights weight
+  first-brief no-tree no-more h = type-brief _ _ {j = 0} no-tree no-more (omega arith) (omega arith) (omega arith)
+  first-brief (tree (held w y r) rs) (and-more (every p qs) ps) h =
+      type-brief _ _ r qs (omega (arith, args-weight "<" (omega arith) rs ps)) (p .short) (omega (arith, p .short, p .takes))
 
-brief : {S : List ℕ} {n i j k : ℕ} {l : Line} {ps : Nodes} → HeldAll S n j k ps → k ≤ 1024 → Every (λ m. Named) (node i l ps) → Brief (node i l ps)
-unfolding nodeName paramOf fieldOf
-brief r h (every p ps) =
-    let first = first-brief r h ps in
-    record { name = p .short; param = p .short; field = p .short; type = type-brief r h (every p ps); param-type = first; field-type = first }
+  brief : (i : ℕ) (l : Line) {j k : ℕ} {ps : Nodes} → HeldAll S n j k ps → EveryOf (Sized s) ps → room s k ≤ 64 * typeMost
+      → length (l .name) ≤ 64 → 64 * length (l .name) ≤ room s j → Brief (node i l ps)
+  unfolding nodeName paramOf fieldOf
+  brief i l r ps h a b =
+      let first = first-brief r ps h in
+      record { name = a; param = a; field = a; type = type-brief i l r ps h a b; param-type = first; field-type = first }
 
--- A sheet that is loaded, of at most 1,024 lines.
-module _ (s S : List ℕ) (d : Loaded s S) (few : length S / 8 ≤ 1024) where
+-- A sheet that is loaded, of at most 16,384 bytes and 1,024 lines.
+module _ (s S : List ℕ) (d : Loaded s S) (small : length s ≤ 16384) (few : length S / 8 ≤ 1024) where
+  sized : {i : ℕ} (t : Stands s S i) → Every (Sized s) (node i (t .line) (t .parts))
+  sized t = every-at t (λ xs e. each-sized (lines-named (linesOf s) 1 0 0 _ xs e) (lines-take (linesOf s) 1 0 _ xs e))
+
   brief-at : (i : ℕ) → Brief (nodeAt s i)
   brief-at i =
       there-or-not d i
-      (λ w. let t = stands d i w in rw (t .here) (brief (t .held) (omega (arith, all-most (t .held) w)) (rw (t .here) at (named-at s i))))
-      (λ w. rw (beyond d i w) (brief {S = S} {n = 0} {k = 0} no-tree (omega arith) blank-named))
+      (λ w.
+      let t = stands d i w in
+      let p = every-line (sized t) in
+      rw (t .here) (brief i _ (t .held) (p .1) (omega (arith, lines-most s (endAt S i), t .ends)) (p .0 .short) (omega (arith, p .0 .short, p .0 .takes))))
+      (λ w. rw (beyond d i w) (brief {s = s} {S = S} {n = 0} 0 _ {j = 0} no-tree no-more (omega arith) (omega arith) (omega arith)))
 
   dot-brief : (i : ℕ) → length (dotAt s i .name) ≤ 64
   unfolding dotAt namedAt
@@ -152,7 +182,7 @@ module _ (s S : List ℕ) (d : Loaded s S) (few : length S / 8 ≤ 1024) where
           rw (dotAt, dot-there d i e, ← named d (is-there d i (omega (arith, e)))) (brief-at i .name)
       go false q = rw (dotAt, not-dot-at d i (eqb-false (kindAt S i) 30 q)) (omega arith)
 
-  bounded : (r : Refusal) → weights (refusalOf s r .text) ≤ 69000
+  bounded : (r : Refusal) → weights (refusalOf s r .text) ≤ longest
   unfolding refusalOf weights weight typeAt paramAt fieldAt namedAt
   bounded (NameStored ty) = omega arith
   bounded (Arity ty) = omega (arith, brief-at ty)
@@ -193,6 +223,6 @@ module _ (s S : List ℕ) (d : Loaded s S) (few : length S / 8 ≤ 1024) where
   bounded (Overflow assign) = omega (arith, brief-at (suc assign))
   bounded (KeyKinds map key) = omega (arith, brief-at map)
 
--- the length of every refusal's message, whatever lines it names, is a u32
-pub short : (s S : List ℕ) (r : Refusal) → Loaded s S → length S / 8 ≤ 1024 → length (render (refusalOf s r .text)) < 4294967296
-short s S r d h = omega (arith, render-few (refusalOf s r .text), bounded s S d h r)
+-- the message of every refusal, whatever lines it names
+pub short : (s S : List ℕ) (r : Refusal) → Loaded s S → length s ≤ 16384 → length S / 8 ≤ 1024 → length (render (refusalOf s r .text)) ≤ longest
+short s S r d b h = omega (arith, render-few (refusalOf s r .text), bounded s S d b h r)

@@ -15,16 +15,15 @@ use Rattle.text.specs.declared.field.Number.the-variants.{Is, Bad}
 use Rattle.sheet.specs.Grammar.{Sort, Rule, span, name, text, assignOp, unOp, binOp, count, flag, rowOf, kindFor}
 use Rattle.sheet.specs.Line.{Line, withName, begun, when, onNumber, readField, readFields, andThen, good, readPieces, readLine, fieldsOf}
 use Rattle.sheet.specs.Load.{Loaded as Load, lines, refused, linesOf, scan}
-use Rattle.sheet.specs.Held.{Each, none as no-line, one, Every, EveryOf, no-more, and-more, every}
+use Rattle.sheet.specs.Held.{Each, none as no-line, one, Every, every, EveryOf, no-more, and-more}
 use Rattle.sheet.specs.Scan.{scanAll}
 use Rattle.sheet.specs.Scratch.{kindAt, nameAt}
-use Rattle.sheet.specs.Tree.{Nodes, nil, more}
+use Rattle.sheet.specs.Tree.{node, Nodes}
 use Rattle.sheet.proofs.Holds.{judged-lines}
-use Rattle.sheet.proofs.Loaded.{built, every-line}
+use Rattle.sheet.proofs.Loaded.{built, every-first, every-line}
 use Rattle.sheet.proofs.ReadAs.{read-as}
-use Rattle.rules.specs.Ast.{blankNode}
-use Rattle.rules.specs.Standing.{readLines, linesIn, without, treesFrom, nodeAt, Loaded}
-use Rattle.rules.proofs.Standing.{stands, spells-before}
+use Rattle.rules.specs.Standing.{readLines, linesIn, without, treesFrom, Loaded}
+use Rattle.rules.proofs.Standing.{Stands, stands, spells-before}
 
 -- ------------------------------------------------------------ a line that is read
 
@@ -105,7 +104,7 @@ pieces-named σ at (w ∷ fs) l e =
     λ q. subst (λ j. readFields (rowOf j .rules) a fs (begun k at) ≡ some l) (sym (b .0) ∙ q) r in
     record { short = b .1; literal = λ q. plain-all false (l .name) (literal-text a fs (begun k at) l (by-kind q)) .1 }
 
-lines-named : (ls : List (List ℕ)) (i j at : ℕ) (ds : List (ℕ × Sort)) (xs : List Line) → scan i at ds ls ≡ lines xs → Each (λ k. Named) j xs
+pub lines-named : (ls : List (List ℕ)) (i j at : ℕ) (ds : List (ℕ × Sort)) (xs : List Line) → scan i at ds ls ≡ lines xs → Each (λ k. Named) j xs
 unfolding scan readLine
 lines-named [] i j at [] xs e = let n : xs ≡ [] = cc in rw n no-line
 lines-named [] i j at (d ∷ ds) xs e = absurd (let z : _≡_ {A = ℕ} 0 1 = cc in omega arith)
@@ -122,28 +121,18 @@ every-without zero h = h
 every-without (suc k) no-more = no-more
 every-without (suc k) (and-more (every h ps) ns) = every-without k (spells-before ps ns)
 
-read-named : (r : Load) → ((xs : List Line) → r ≡ lines xs → Each (λ k. Named) 0 xs) → Each (λ k. Named) 0 (readLines r)
+read-each : {P : ℕ → Line → Type 0} (r : Load) → ((xs : List Line) → r ≡ lines xs → Each P 0 xs) → Each P 0 (readLines r)
 unfolding readLines
-read-named (lines xs) h = h xs refl
-read-named (refused n i) h = no-line
+read-each (lines xs) h = h xs refl
+read-each (refused n i) h = no-line
 
-nameless : (l : Line) → l .name ≡ [] → Named l
-unfolding all
-nameless l e = record { short = rw e (omega arith); literal = λ q. rw e refl }
-
-pub blank-named : Every (λ k. Named) blankNode
-blank-named = every (nameless _ refl) no-more
-
--- every line of the record at a line of the sheet, with its parts
-pub named-at : (s : List ℕ) (i : ℕ) → Every (λ k. Named) (nodeAt s i)
-unfolding nodeAt treesFrom linesIn
-named-at s i = first (treesFrom s i) refl (every-without i (built (read-named (scanAll s) (λ xs. lines-named (linesOf s) 1 0 0 _ xs))))
-  where
-    first : (ns : Nodes) → treesFrom s i ≡ ns → EveryOf (λ k. Named) ns → Every (λ k. Named) (nodeAt s i)
-    first nil q no-more = rw q blank-named
-    first (more t ns) q (and-more h hs) = rw q h
+-- what holds of each line that is read holds of every line of the record at line i
+pub every-at : {P : ℕ → Line → Type 0} {s S : List ℕ} {i : ℕ} (t : Stands s S i) → ((xs : List Line) → scanAll s ≡ lines xs → Each P 0 xs)
+    → Every P (node i (t .line) (t .parts))
+unfolding treesFrom linesIn
+every-at {s = s} {i = i} t h = rw (t .here) at (every-first (rw (t .next) at (every-without i (built (read-each (scanAll s) h)))) .0)
 
 pub literal-plain : (s S : List ℕ) (i : ℕ) → Loaded s S → i < length S / 8 → kindAt S i ≡ 20 → all (plain false) (nameAt s S i) ≡ true
 literal-plain s S i d h e =
     let t = stands d i h in
-    rw (t .spells .name) (every-line (rw (t .here) at (named-at s i)) .0 .literal (sym (t .says .kind) ∙ e))
+    rw (t .spells .name) (every-line (every-at t (λ xs. lines-named (linesOf s) 1 0 0 _ xs)) .0 .literal (sym (t .says .kind) ∙ e))

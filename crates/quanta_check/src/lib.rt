@@ -5,6 +5,8 @@ pub use load::Load;
 pub use load::quanta_load;
 use verdict::Answer;
 ghost use mathlib.Core.Path.{_≡_};
+ghost use Prim.Native.Nat.{_≤_};
+ghost use Rattle.pieces.specs.Writing.{longest};
 ghost use Rattle.verdict.specs.Outcome.{outcome};
 
 // The verdict call.
@@ -16,6 +18,7 @@ pub extern "C" fn quanta_check(
     message: &mut [u8],
 ) -> Answer
     ensures { λ r. ⌜ record { answer = r; scratch = now (scratch .exit); types = now (types .exit); message = now (message .exit) } ≡ outcome (now (sheet .entry)) (now (scratch .entry)) (now (types .entry)) (now (message .entry)) ⌝ }
+    ensures { λ r. ⌜ r .length ≤ longest ⌝ }
 {
     verdict::verdict(sheet, scratch, types, message)
 }

@@ -23,3 +23,4 @@ pub mod Trees
 pub mod Rereading
 pub mod Refused
 pub mod Joining
+pub mod Bytes

@@ -88,13 +88,13 @@ Like at y k ss rs l =
     × Parts ss (toldSorts rs) (l .parts)
 
 -- a field that is read, and then the others
-on-number : (x : Number) (g : ℕ → Line) (F : Line → Option Line) (m : Line) (C : Type 0)
+pub on-number : (x : Number) (g : ℕ → Line) (F : Line → Option Line) (m : Line) (C : Type 0)
     → andThen (onNumber x g) F ≡ some m → ((v : ℕ) → x ≡ Is v → F (g v) ≡ some m → C) → C
 unfolding andThen onNumber
 on-number (Is v) g F m C e k = k v refl e
 on-number Bad g F m C e k = absurd (let z : _≡_ {A = ℕ} 0 1 = cc in omega arith)
 
-on-test : (b : Bool) (l : Line) (F : Line → Option Line) (m : Line) (C : Type 0) → andThen (when b l) F ≡ some m → (b ≡ true → F l ≡ some m → C) → C
+pub on-test : (b : Bool) (l : Line) (F : Line → Option Line) (m : Line) (C : Type 0) → andThen (when b l) F ≡ some m → (b ≡ true → F l ≡ some m → C) → C
 unfolding andThen when
 on-test true l F m C e k = k refl e
 on-test false l F m C e k = absurd (let z : _≡_ {A = ℕ} 0 1 = cc in omega arith)

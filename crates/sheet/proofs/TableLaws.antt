@@ -52,7 +52,7 @@ numbers-length g (flag s ∷ rs) = ap suc (numbers-length (suc g) rs)
 pub numbers-count : (k : ℕ) → length (numbersOf k) ≡ length (rowOf k .rules)
 numbers-count k = numbers-length (length (rowOf k .always)) (rowOf k .rules)
 
-abbrev every : (Row → Bool) → List Row → Bool
+abbrev pub every : (Row → Bool) → List Row → Bool
 every t [] = true
 every t (r ∷ rs) = t r && every t rs
 

@@ -1,16 +1,20 @@
 // Reads a sheet from standard input and writes one line: `accepted`, or the refusal's number, its place and, from 12 on, its
 // message, parted by commas.
 use verdict::Answer;
+ghost use Prim.Native.Nat.{_≤_};
+ghost use lib.ListN.{length};
 
-// The message is left off if it is longer than what was lent.
-fn write_message(message: &[u8], length: usize) {
+// The message has n bytes, and all of them are there.
+fn write_message(message: &[u8], n: usize)
+    requires { ⌜ n ≤ length (now message) ⌝ }
+{
     io::write_all(1, b",");
-    if length <= message.len() {
-        io::write_all(1, &message[..length]);
-    }
+    io::write_all(1, &message[..n]);
 }
 
-fn write_answer(answer: Answer, message: &[u8]) {
+fn write_answer(answer: Answer, message: &[u8])
+    requires { ⌜ answer .length ≤ length (now message) ⌝ }
+{
     if answer.number == 0 {
         io::write_all(1, b"accepted\n");
         return;

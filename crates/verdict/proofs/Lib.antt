@@ -1,3 +1,4 @@
 pub mod Outcomes
 pub mod Reached
 pub mod Telling
+pub mod Fitting

@@ -139,7 +139,12 @@ module _ (s S U : List ℕ) (types : ℕ) (r : loader.Answer) (a : r ≡ answer 
       pub exact : Exact s (take (8 * n) U) (take n T)
       exact =
           record {
-            lines = record { loaded = in-scratch .loaded; few = omega (arith, in-scratch .few, entries-length) };
+            lines =
+                record {
+                  loaded = in-scratch .loaded;
+                  small = passed s types S _ n refl (read-as .early) (read-as .count) .small;
+                  few = omega (arith, in-scratch .few, entries-length);
+                };
             bytes = omega (arith, entries-length, table-length);
           }
 

@@ -19,7 +19,7 @@ use Rattle.declared.specs.Refusal.{refusalOf, doneOf}
 use Rattle.declared.specs.declared.refusal.Refusal.{Refusal}
 use Rattle.declared.specs.declared.refusal.Done.{Done}
 use Rattle.declared.specs.declared.refusal.Done.the-variants.{Fine, Refused}
-use Rattle.pieces.specs.Writing.{Adds}
+use Rattle.pieces.specs.Writing.{longest, Adds}
 use Rattle.pieces.proofs.Adding.{told-all, all-written}
 use Rattle.message.proofs.Lengths.{short}
 use Rattle.refusals.specs.Numbers.{Numbers}
@@ -36,13 +36,16 @@ written-none B = refl
 
 -- A message of r: `add_message` told its length n of the buffer B and left U. M is the lent buffer.
 module _ (s S : List ℕ) (r : Refusal) (h : Few s S) where
+  text-short : length (textOf s r) ≤ longest
+  unfolding textOf
+  text-short = short s S r (h .loaded) (h .small) (h .few)
+
   pub told-length : (B U : List ℕ) (n : ℕ) → Adds (render (refusalOf s r .text)) B 0 U n → n ≡ length (textOf s r)
   unfolding textOf
-  told-length B U n x = let b = short s S r (h .loaded) (h .few) in omega (arith, x .told, told-all (0 + length (textOf s r)) (omega arith))
+  told-length B U n x = let b = text-short in omega (arith, x .told, told-all (0 + length (textOf s r)) (omega arith))
 
   pub told-fits : (B U : List ℕ) (n : ℕ) → Adds (render (refusalOf s r .text)) B 0 U n → Fits w32 n
-  unfolding textOf
-  told-fits B U n x = omega (arith, told-length B U n x, short s S r (h .loaded) (h .few))
+  told-fits B U n x = omega (arith, told-length B U n x, text-short)
 
   pub told-long : (B U M : List ℕ) (n : ℕ) → Adds (render (refusalOf s r .text)) B 0 U n → length M < n → M ≡ written (fitting (length M) (textOf s r)) M
   unfolding fitting
@@ -82,15 +85,15 @@ module _ (s S : List ℕ) (T U : Table) (d : Done) (x : Does s (check (modelIn s
   unfolding told answerOf doneOf
   judges-accepted M n e c =
       let j = rw e at (judged-told (length M)) in
-      record { answer = rw (j, c) refl; types = rw j refl; message = rw j (sym (written-none M)) }
+      record { answer = rw (j, c) refl; short = omega arith; types = rw j refl; message = rw j (sym (written-none M)) }
 
-  pub judges-refused : (r : Refusal) (M N : List ℕ) (k p n l : ℕ) → d ≡ Refused r → Numbers r k → p ≡ refusalOf s r .place → n ≡ count U → l ≡ length (textOf s r)
+  pub judges-refused : (r : Refusal) (M N : List ℕ) (k p n l : ℕ) → Exact s S T → d ≡ Refused r → Numbers r k → p ≡ refusalOf s r .place → n ≡ count U → l ≡ length (textOf s r)
       → N ≡ written (fitting (length M) (textOf s r)) M
       → Judges s T M (record { number = k; place = p; count = n; length = l }) U N
   unfolding told answerOf doneOf textOf
-  judges-refused r M N k p n l e a b c f g =
+  judges-refused r M N k p n l h e a b c f g =
       let j = rw e at (judged-told (length M)) in
-      record { answer = rw (j, a .numbers s, b, c, f) refl; types = rw j refl; message = rw j g }
+      record { answer = rw (j, a .numbers s, b, c, f) refl; short = rw f (text-short s S r (h .lines)); types = rw j refl; message = rw j g }
 
 -- ------------------------------------------------------------ a table that is cleared before
 

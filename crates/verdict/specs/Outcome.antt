@@ -12,6 +12,7 @@ use Rattle.rules.specs.Verdict as ruled
 use Rattle.rules.specs.Verdict.{written, told, verdict}
 use Rattle.declared.specs.Refusal.{refusalOf}
 use Rattle.declared.specs.declared.refusal.Refusal.{Refusal}
+use Rattle.pieces.specs.Writing.{longest}
 use Rattle.verdict.specs.declared.Answer.{Answer}
 
 unfoldable pub answerOf : ruled.Answer → Answer
@@ -45,9 +46,10 @@ outcome s S T M =
 unfoldable pub textOf : List ℕ → Refusal → List ℕ
 textOf s r = render (refusalOf s r .text)
 
--- the lines of a sheet that is read, at most 1,024
+-- the lines of a sheet that is read, at most 1,024 in 16,384 bytes
 pub record Few (s S : List ℕ) : Type 0 where
   pub loaded : Loaded s S
+  pub small : length s ≤ 16384
   pub few : length S / 8 ≤ 1024
 
 -- ... and a table with a byte for each
@@ -59,8 +61,9 @@ pub record Exact (s S : List ℕ) (T : Table) : Type 0 where
 unfoldable pub judged : (s : List ℕ) → Table → (most : ℕ) → ruled.Answer
 judged s T most = let o = kept (check (modelIn s)) T in told most (o .res) (o .table)
 
--- r is that answer, which leaves U for the table T and N for the message buffer M
+-- r is that answer, whose message is not too long, and which leaves U for the table T and N for the message buffer M
 pub record Judges (s : List ℕ) (T : Table) (M : List ℕ) (r : Answer) (U N : List ℕ) : Type 0 where
   pub answer : r ≡ answerOf (judged s T (length M))
+  pub short : r .length ≤ longest
   pub types : U ≡ judged s T (length M) .types
   pub message : N ≡ written (judged s T (length M) .message) M

@@ -10,9 +10,11 @@ use refusals::place_of;
 use sheet::clear;
 use sheet::load;
 ghost use mathlib.Core.Path.{_≡_};
+ghost use Prim.Native.Nat.{_≤_};
 ghost use lib.ListN.{length};
 ghost use Rattle.sheet.specs.Load.{times};
 ghost use Rattle.rules.specs.Verdict.{fitting, written};
+ghost use Rattle.pieces.specs.Writing.{longest};
 ghost use Rattle.verdict.specs.Outcome.{Exact, Few, Judges, outcome, textOf};
 
 // Number is 0 for acceptance. Place is a line from 1 for 6 to 11 and a span from 12 on. Count is how many lines are marked, length
@@ -87,6 +89,7 @@ fn judge_lines(sheet: &[u8], lines: &mut [u16], table: &mut [u8], message: &mut 
 // bound among the state fields it names the first in the sheet, where the rules leave open which (`Allowed` of rules/specs/Verdict).
 pub fn verdict(sheet: &[u8], scratch: &mut [u16], types: &mut [u8], message: &mut [u8]) -> Answer
     ensures { λ r. ⌜ record { answer = r; scratch = now (scratch .exit); types = now (types .exit); message = now (message .exit) } ≡ outcome (now (sheet .entry)) (now (scratch .entry)) (now (types .entry)) (now (message .entry)) ⌝ }
+    ensures { λ r. ⌜ r .length ≤ longest ⌝ }
 {
     match load(sheet, scratch, types.len()) {
         sheet::Answer::Lines(n) => judge_lines(

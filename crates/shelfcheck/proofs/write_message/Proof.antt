@@ -5,7 +5,7 @@ use Rattle.shelfcheck.proofs.write_message.Statement.{statement}
 use Rattle.shelfcheck.proofs.write_message.Tie as tie
 
 slice-aggregate-write-all-2 : tie.Need-slice-aggregate-write-all-2
-slice-aggregate-write-all-2 c = sym (length-take-le _ _ (c .before .if1 .taken))
+slice-aggregate-write-all-2 c = search (needs, length-take-le, sym)
 
 pub write-message-spec : {M : Type 1} → statement M
 write-message-spec =
@@ -15,5 +15,4 @@ write-message-spec =
     (λ c κs. search needs)
     slice-aggregate-write-all-2
     (λ c κs. search needs)
-    (λ c. search needs)
     (λ c. search needs))
