@@ -14,7 +14,7 @@ use Rattle.sheet.specs.Line.{Line}
 use Rattle.sheet.specs.Load.{linesOf}
 use Rattle.sheet.specs.Scratch.{kindAt, endAt}
 use Rattle.sheet.specs.Tree.{Node, node, Nodes}
-use Rattle.sheet.proofs.Bytes.{before, lines-most, Takes, lines-take}
+use Rattle.sheet.proofs.Bytes.{bytesUpto, lines-most, Takes, lines-take}
 use Rattle.sheet.proofs.Loaded.{every-line}
 use Rattle.rules.specs.Text.{Piece, lit, raw, dec, is, digits, render}
 use Rattle.rules.specs.Ast.{Type', typeName, argOf, argsOf, typeOf, fieldOf, paramOf, nodes, blankNode}
@@ -92,7 +92,7 @@ each-sized (one p ps) (one q qs) = one (record { short = p .short; takes = q }) 
 -- A line adds to the text of a type its name, or `_`, and at most two bytes more; of the sheet it takes its name and at least three more.
 -- A name has at most 64 bytes: so 64 times what the lines before line i add is at most this.
 abbrev room : List ℕ → ℕ → ℕ
-room s i = 63 * before i (linesOf s) + 3 * i
+room s i = 63 * bytesUpto i (linesOf s) + 3 * i
 
 -- what that leaves a type's text, where the sheet has 16,384 bytes and 1,024 lines
 abbrev typeMost : ℕ

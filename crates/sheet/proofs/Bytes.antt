@@ -21,25 +21,25 @@ use Rattle.sheet.proofs.ReadAs.{on-number, on-test, read-as}
 use Rattle.sheet.proofs.TableLaws.{every}
 
 -- the bytes of the first k pieces, each with the byte that ends it
-abbrev pub before : ℕ → List (List ℕ) → ℕ
-before zero fs = 0
-before (suc k) [] = 0
-before (suc k) (f ∷ fs) = length f + 1 + before k fs
+abbrev pub bytesUpto : ℕ → List (List ℕ) → ℕ
+bytesUpto zero fs = 0
+bytesUpto (suc k) [] = 0
+bytesUpto (suc k) (f ∷ fs) = length f + 1 + bytesUpto k fs
 
 -- ... are not more than there are
-before-most : (p : ℕ → Bool) (w l : List ℕ) (k : ℕ) → before k (ended p w l) ≤ length w + length l
+upto-most : (p : ℕ → Bool) (w l : List ℕ) (k : ℕ) → bytesUpto k (ended p w l) ≤ length w + length l
 unfolding ended
-before-most p w l zero = omega arith
-before-most p w [] (suc k) = omega arith
-before-most p w (b ∷ bs) (suc k) = go (p b) (before-most p [] bs k) (before-most p (w ++ (b ∷ [])) bs (suc k))
+upto-most p w l zero = omega arith
+upto-most p w [] (suc k) = omega arith
+upto-most p w (b ∷ bs) (suc k) = go (p b) (upto-most p [] bs k) (upto-most p (w ++ (b ∷ [])) bs (suc k))
   where
-    go : (t : Bool) → before k (ended p [] bs) ≤ 0 + length bs → before (suc k) (ended p (w ++ (b ∷ [])) bs) ≤ length (w ++ (b ∷ [])) + length bs
-        → before (suc k) (elim t [ true ↦ w ∷ ended p [] bs | false ↦ ended p (w ++ (b ∷ [])) bs ]) ≤ length w + suc (length bs)
+    go : (t : Bool) → bytesUpto k (ended p [] bs) ≤ 0 + length bs → bytesUpto (suc k) (ended p (w ++ (b ∷ [])) bs) ≤ length (w ++ (b ∷ [])) + length bs
+        → bytesUpto (suc k) (elim t [ true ↦ w ∷ ended p [] bs | false ↦ ended p (w ++ (b ∷ [])) bs ]) ≤ length w + suc (length bs)
     go true h g = omega arith
     go false h g = omega (arith, length-append w (b ∷ []))
 
-pub lines-most : (s : List ℕ) (k : ℕ) → before k (linesOf s) ≤ length s
-lines-most s k = omega (arith, before-most (either 10 10) [] s k)
+pub lines-most : (s : List ℕ) (k : ℕ) → bytesUpto k (linesOf s) ≤ length s
+lines-most s k = omega (arith, upto-most (either 10 10) [] s k)
 
 -- ------------------------------------------------------------ a line
 
@@ -78,7 +78,7 @@ word-long σ w h = go (ltb (place w (wordsOf (rows σ))) (length (rows σ))) ref
     go true q g = place-long w (rows σ) (all-long σ) (ltb-true _ _ q)
     go false q g = absurd (g refl)
 
-fields-name : (rs : List Rule) (a : ℕ) (fs : List (List ℕ)) (l m : Line) → readFields rs a fs l ≡ some m → length (m .name) ≤ length (l .name) + before (length fs) fs
+fields-name : (rs : List Rule) (a : ℕ) (fs : List (List ℕ)) (l m : Line) → readFields rs a fs l ≡ some m → length (m .name) ≤ length (l .name) + bytesUpto (length fs) fs
 unfolding readFields readField
 fields-name [] a fs l m e = let q : l ≡ m = cc in rw q (omega arith)
 fields-name (r ∷ rs) a [] l m e = absurd (let z : _≡_ {A = ℕ} 0 1 = cc in omega arith)
@@ -91,7 +91,7 @@ fields-name (binOp ∷ rs) a (f ∷ fs) l m e = on-test _ _ _ m _ e (λ q w. ome
 fields-name (count s ∷ rs) a (f ∷ fs) l m e = on-number _ _ _ m _ e (λ v q w. omega (arith, fields-name rs _ fs _ m w))
 fields-name (flag s ∷ rs) a (f ∷ fs) l m e = on-number _ _ _ m _ e (λ v q w. omega (arith, fields-name rs _ fs _ m w))
 
-pieces-least : (σ : Sort) (at : ℕ) (fs : List (List ℕ)) (l : Line) → readPieces σ at fs ≡ good l → length (l .name) + 3 ≤ before (length fs) fs
+pieces-least : (σ : Sort) (at : ℕ) (fs : List (List ℕ)) (l : Line) → readPieces σ at fs ≡ good l → length (l .name) + 3 ≤ bytesUpto (length fs) fs
 unfolding readPieces
 pieces-least σ at [] l e = absurd (let z : _≡_ {A = ℕ} 0 1 = cc in omega arith)
 pieces-least σ at (w ∷ fs) l e =
@@ -100,13 +100,13 @@ pieces-least σ at (w ∷ fs) l e =
 line-least : (σ : Sort) (at : ℕ) (y : List ℕ) (l : Line) → readLine σ at y ≡ good l → length (l .name) + 3 ≤ length y + 1
 unfolding readLine fieldsOf
 line-least σ at y l e =
-    omega (arith, pieces-least σ at (fieldsOf y) l e, before-most (either 44 10) [] (y ++ (10 ∷ [])) (length (fieldsOf y)), length-append y (10 ∷ []))
+    omega (arith, pieces-least σ at (fieldsOf y) l e, upto-most (either 44 10) [] (y ++ (10 ∷ [])) (length (fieldsOf y)), length-append y (10 ∷ []))
 
 -- ------------------------------------------------------------ all lines
 
 -- line k of the lines ls
 abbrev pub Takes : List (List ℕ) → ℕ → Line → Type 0
-Takes ls k l = length (l .name) + 3 + before k ls ≤ before (suc k) ls
+Takes ls k l = length (l .name) + 3 + bytesUpto k ls ≤ bytesUpto (suc k) ls
 
 each-next : {P Q : ℕ → Line → Type 0} {j : ℕ} {xs : List Line} → ((k : ℕ) (l : Line) → P k l → Q (suc k) l) → Each P j xs → Each Q (suc j) xs
 each-next f no-line = no-line
