@@ -13,7 +13,7 @@ use borrow.Author.Tests.{eq-eqb, ne-eqb, eqb-true, eqb-false}
 use Rattle.sheet.specs.Grammar as grammar
 use Rattle.sheet.specs.Scratch.{kindAt, nameAt, entry, endAt, skip}
 use Rattle.sheet.specs.Tree.{Node, node}
-use Rattle.rules.specs.Ast.{Expr, Stmt, guard, bind, emit, assign, do', line, next as behind-expr, list}
+use Rattle.rules.specs.Ast.{Expr, Stmt, guard, bind, emit, assign, do', line, lineAfter, list}
 use Rattle.rules.specs.Asking.{Ty, code, codeR, Res, ok, refused, _>>=_, _>>_}
 use Rattle.rules.specs.Kept.{Table, kept}
 use Rattle.rules.specs.Declared.{eqTy}
@@ -38,7 +38,7 @@ use Rattle.declared.specs.declared.refusal.Refusal.the-variants.{Local}
 use Rattle.declared.specs.declared.refusal.Done.{Done}
 use Rattle.declared.specs.declared.refusal.Done.the-variants.{Fine, Refused}
 use Rattle.env.specs.Answers.{typedOf}
-use Rattle.env.specs.Force.{paramsIn, envOf, localOf, endOf, lets, endsIn, InForce}
+use Rattle.env.specs.Force.{paramsIn, envOf, localOf, namedEnd, lets, endsIn, InForce}
 use Rattle.env.proofs.Mentioned.{not-stale-at}
 use Rattle.env.specs.declared.env.Env.{Env}
 use Rattle.env.specs.declared.judge.Typed.{Typed}
@@ -141,13 +141,13 @@ module _ (s S : List ℕ) (env : Env) (T : Table) (i : ℕ) (h : StmtOf 19 s S e
       on = on-typed s S env T U _ tt (h .stmt .ready) (did s _ T d U (a .gives) e)
 
       pub do-asks : Asks s S env U (i + 1)
-      do-asks = record { ready = on .ready .ready; here = rw (add-one i) (row-first (do-is .1)) }
+      do-asks = record { ready = on .on .ready; here = rw (add-one i) (row-first (do-is .1)) }
 
       pub do-ok : (r : Done) (W : Table) → Does s (refuseNameRecipient (envOf s U env) (exprAt s (i + 1))) U r W → StmtDoes s S (envOf s T env) i T r W
       unfolding stmtRule
       do-ok r W k =
           other (omega (arith, h .kind))
-          (rw (do-is .0) (does-then s _ _ T d U (rw (do-is .0) at a) e r W (rw (← on .same, ← add-one i) k)))
+          (rw (do-is .0) (does-then s _ _ T d U (rw (do-is .0) at a) e r W (rw (← on .on .same, ← add-one i) k)))
 
 module _ (s S : List ℕ) (env : Env) (T : Table) (i : ℕ) (h : BodyStmt s S env T i) (k : ℕ) (e : k ≡ kindAt S i) where
   bd : Loaded s S
@@ -281,26 +281,26 @@ module _ (s S : List ℕ) (T : Table) (params count body total at left : ℕ) (h
         record {
           ready =
               record {
-                ready = record { force = force-next; room = o .ready .ready .room };
-                typed = rw (lets-next, no-let-here q, append-nil) (o .ready .typed);
+                ready = record { force = force-next; room = o .on .ready .room };
+                typed = rw (lets-next, no-let-here q, append-nil) (o .typed);
               };
-          is = rw (lets-next, no-let-here q, append-nil) (o .same);
+          is = rw (lets-next, no-let-here q, append-nil) (o .on .same);
         }
 
-    bound-now : (q : kindAt S at ≡ 16) (b : Binds s (envOf s T env) T at U) → Grown U (bound (envOf s T env) (nameAt s S at) (b .type) (behind-expr (exprAt s (suc at))))
-    unfolding withLocals envOf paramsIn endsIn bound localOf endOf
+    bound-now : (q : kindAt S at ≡ 16) (b : Binds s (envOf s T env) T at U) → Grown U (bound (envOf s T env) (nameAt s S at) (b .type) (lineAfter (exprAt s (suc at))))
+    unfolding withLocals envOf paramsIn endsIn bound localOf namedEnd
     bound-now q b =
         record {
           ready =
               record {
-                ready = record { force = force-next; room = o .ready .ready .room };
+                ready = record { force = force-next; room = o .on .ready .room };
                 typed =
-                    rw (lets-next, let-here q) (lets-append (o .ready .typed) (rw (st .here) (a-let {t = node at (st .line) (st .parts)} (rw (b .marked) (code-is (b .type))) no-let)));
+                    rw (lets-next, let-here q) (lets-append (o .typed) (rw (st .here) (a-let {t = node at (st .line) (st .parts)} (rw (b .marked) (code-is (b .type))) no-let)));
               };
           is =
-              let was = ap (λ (Γ : typing.Env). Γ .locals) (o .same) in
+              let was = ap (λ (Γ : typing.Env). Γ .locals) (o .on .same) in
               let type-is : tyFrom (getD U (suc at) 0) ≡ b .type = from-code _ (b .type) (b .marked) in
-              rw (lets-next, let-here q, map-append (localOf U) (lets s (total - left) body) (nodeAt s at ∷ []), map-append (endOf s) (lets s (total - left) body) (nodeAt s at ∷ []), was, st .here, st .spells .name, type-is) refl;
+              rw (lets-next, let-here q, map-append (localOf U) (lets s (total - left) body) (nodeAt s at ∷ []), map-append (namedEnd s) (lets s (total - left) body) (nodeAt s at ∷ []), was, st .here, st .spells .name, type-is) refl;
         }
 
   -- ------------------------------------------------------------ check_body
@@ -330,7 +330,7 @@ module _ (s S : List ℕ) (T : Table) (params count body total at left : ℕ) (h
         go : (b : Bool) → eqb (kindAt S at) 16 ≡ b → Does s (checkBody (envOf s T env) (stmtAt s at ∷ stmtsAt s (left - 1) (endAt S at))) T (Refused x) U
         go true w =
             let i = let-is-here (eqb-true (kindAt S at) 16 w) in
-            record { gives = rw i (refused-behind (tyOf (envOf s T env) (exprAt s (suc at))) (checkLocal (exprAt s (suc at))) (λ ty. checkBody (bound (envOf s T env) (nameAt s S at) ty (behind-expr (exprAt s (suc at)))) (stmtsAt s (left - 1) (endAt S at))) T U (refusalOf s x) (rw i at (stopped s (stmtRule (envOf s T env) (stmtAt s at)) T o U (does .does .gives) x z))) }
+            record { gives = rw i (refused-behind (tyOf (envOf s T env) (exprAt s (suc at))) (checkLocal (exprAt s (suc at))) (λ ty. checkBody (bound (envOf s T env) (nameAt s S at) ty (lineAfter (exprAt s (suc at)))) (stmtsAt s (left - 1) (endAt S at))) T U (refusalOf s x) (rw i at (stopped s (stmtRule (envOf s T env) (stmtAt s at)) T o U (does .does .gives) x z))) }
         go false w =
             record { gives = step-other (envOf s T env) (stmtAt s at) (stmtsAt s (left - 1) (endAt S at)) T (is-other d here (eqb-false (kindAt S at) 16 w)) ∙ does-cut s (stmtRule (envOf s T env) (stmtAt s at)) (checkBody (envOf s T env) (stmtsAt s (left - 1) (endAt S at))) T o U (does .does) x z .gives }
 
@@ -353,10 +353,10 @@ module _ (s S : List ℕ) (T : Table) (params count body total at left : ℕ) (h
               let k16 = eqb-true (kindAt S at) 16 w in
               let y = does .binds f k16 in
               record {
-                with' = bound (envOf s T env) (nameAt s S at) (y .type) (behind-expr (exprAt s (suc at)));
+                with' = bound (envOf s T env) (nameAt s S at) (y .type) (lineAfter (exprAt s (suc at)));
                 grows = bound-now U onw k16 y;
                 steps = λ r W k.
-                    record { gives = rw (stmts-are, let-is-here k16) (then-ok (tyOf (envOf s T env) (exprAt s (suc at))) (λ ty. checkLocal (exprAt s (suc at)) ty >>= λ _. checkBody (bound (envOf s T env) (nameAt s S at) ty (behind-expr (exprAt s (suc at)))) (stmtsAt s (left - 1) (endAt S at))) T U (y .type) (record { res = doneOf s r; table = W }) (y .typed) (then-ok (checkLocal (exprAt s (suc at)) (y .type)) (λ _. checkBody (bound (envOf s T env) (nameAt s S at) (y .type) (behind-expr (exprAt s (suc at)))) (stmtsAt s (left - 1) (endAt S at))) U U tt (record { res = doneOf s r; table = W }) (y .fits) (k .gives))) };
+                    record { gives = rw (stmts-are, let-is-here k16) (then-ok (tyOf (envOf s T env) (exprAt s (suc at))) (λ ty. checkLocal (exprAt s (suc at)) ty >>= λ _. checkBody (bound (envOf s T env) (nameAt s S at) ty (lineAfter (exprAt s (suc at)))) (stmtsAt s (left - 1) (endAt S at))) T U (y .type) (record { res = doneOf s r; table = W }) (y .typed) (then-ok (checkLocal (exprAt s (suc at)) (y .type)) (λ _. checkBody (bound (envOf s T env) (nameAt s S at) (y .type) (lineAfter (exprAt s (suc at)))) (stmtsAt s (left - 1) (endAt S at))) U U tt (record { res = doneOf s r; table = W }) (y .fits) (k .gives))) };
               }
           go false w =
               let no = eqb-false (kindAt S at) 16 w in

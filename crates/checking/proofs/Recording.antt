@@ -311,7 +311,7 @@ module _ (s S : List ℕ) (env : Env) (T : Table) (m i : ℕ) (h : RecordsIn s S
       records-rest =
           rw q
           (record {
-            ready = on .ready .ready;
+            ready = on .on .ready;
             bare = h .bare;
             sort = h .sort;
             walked = h .walked;
@@ -322,7 +322,7 @@ module _ (s S : List ℕ) (env : Env) (T : Table) (m i : ℕ) (h : RecordsIn s S
           → Does s (forEach (nodesAt s m i) (recordRule (envOf s T env))) T r W
       unfolding forEach
       records-ok r W k =
-          rw nodes-are (does-then s _ _ T d U a e r W (rw (← on .same, ← q) k))
+          rw nodes-are (does-then s _ _ T d U a e r W (rw (← on .on .same, ← q) k))
 
 -- the rule of each record of a row is that of its sort
 module _ {A : Type 0} {s S : List ℕ} (σ : grammar.Sort) (Γ : typing.Env) (f : Node → A) (g : A → Rule Unit) (d : Loaded s S)

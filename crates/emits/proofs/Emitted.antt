@@ -39,14 +39,14 @@ use Rattle.declared.specs.declared.refusal.Done.the-variants.{Fine, Refused}
 use Rattle.declared.proofs.Answers.{fits, misfits}
 use Rattle.declared.proofs.Codes.{from-code}
 use Rattle.declared.proofs.Tables.{or-parts}
-use Rattle.env.specs.Force.{envOf, Apart, ExprIn}
+use Rattle.env.specs.Force.{envOf, NoValue, ExprIn}
 use Rattle.env.specs.declared.env.Env.{Env}
 use Rattle.env.specs.declared.judge.Typed.{Typed}
 use Rattle.env.specs.declared.judge.Typed.the-variants.{Is, Refused as No}
 use Rattle.typing.specs.Asks.{Asks, AsksAll, Types, Does}
 use Rattle.typing.proofs.Calls.{did}
 use Rattle.typing.proofs.Doing.{typed-then, not-typed, does-then, does-cut}
-use Rattle.typing.proofs.Onward.{Onward, onward, apart-below, apart-next, clear-judged, clear-each}
+use Rattle.typing.proofs.Onward.{Onward, onward, no-value-below, no-value-next, clear-judged, clear-each}
 use Rattle.typing.proofs.Operators.{gave-code}
 use Rattle.emits.specs.Emit.{emitRule, fieldsRule, EmitIn, FieldIn, FieldsIn, Mismatches, JudgesField}
 use Rattle.declared.specs.Answers.{Answers}
@@ -174,10 +174,10 @@ module _ (s S : List ℕ) (env : Env) (T : Table) (arg args param params : ℕ) 
       module _ (e : d ≡ Fine) (a' p' : ℕ) (ea : a' ≡ endAt S arg) (ep : p' ≡ endAt S param) where
         on : Onward s S env T U
         unfolding checkEmitField
-        on = onward s S env T U first tt (h .ready) (clear-judged (h .ready .force .loaded) (envOf s T env) (row-first these) (h .apart) _ _ _ _) (did s first T d U (k .gives) e)
+        on = onward s S env T U first tt (h .ready) (clear-judged (h .ready .force .loaded) (envOf s T env) (row-first these) (h .no-value) _ _ _ _) (did s first T d U (k .gives) e)
 
         pub fields-rest : FieldsIn s S env U a' (args - 1) p' (params - 1)
-        fields-rest = record { ready = on .ready; these = rw ea (row-rest these); apart = rw ea (apart-next (h .ready .force .loaded) (row-first these)); those = rw ep (row-rest those) }
+        fields-rest = record { ready = on .ready; these = rw ea (row-rest these); no-value = rw ea (no-value-next (h .ready .force .loaded) (row-first these)); those = rw ep (row-rest those) }
 
         pub fields-ok : (r : Done) (W : Table) → Does s (fieldsRule (envOf s U env) (list (exprsAt s (args - 1) a')) (paramsAt s (params - 1) p')) U r W → Does s Fields T r W
         fields-ok r W g' = record { gives = opened ∙ does-then s first rest T d U k e r W (rw (← on .same, ← ea, ← ep) g') .gives }
@@ -206,8 +206,8 @@ module _ (s S : List ℕ) (env : Env) (T : Table) (i : ℕ) (h : EmitIn s S env 
       let o = group (h .ready .force .loaded) (h .within) grammar.Expr (p .0) (p .1) in
       rw (o .3) (o .2)
 
-  args-apart : Apart S (suc i)
-  args-apart = apart-below S i (omega (arith, h .kind))
+  args-no-value : NoValue S (suc i)
+  args-no-value = no-value-below S i (omega (arith, h .kind))
 
   abbrev es : Exprs
   es = exprsAt s (entry S i 5) (suc i)
@@ -232,7 +232,7 @@ module _ (s S : List ℕ) (env : Env) (T : Table) (i : ℕ) (h : EmitIn s S env 
 
       module _ (m k : ℕ) (em : m ≡ entry S i 5) (ek : k ≡ entry S event 5) where
         pub event-fields : FieldsIn s S env T (i + 1) m (event + 1) k
-        event-fields = record { ready = h .ready; these = rw (em, add-one i) row; apart = rw (add-one i) args-apart; those = rw (ek, add-one event) (params .1) }
+        event-fields = record { ready = h .ready; these = rw (em, add-one i) row; no-value = rw (add-one i) args-no-value; those = rw (ek, add-one event) (params .1) }
 
         pub event-done : (d : Done) (U : Table) → Does s (fieldsRule (envOf s T env) (list (exprsAt s m (i + 1))) (paramsAt s k (event + 1))) T d U → Does s Emits T d U
         unfolding checkEmitFields fieldsRule envOf ifSome foundEvent
@@ -240,7 +240,7 @@ module _ (s S : List ℕ) (env : Env) (T : Table) (i : ℕ) (h : EmitIn s S env 
 
   module _ (m : ℕ) (em : m ≡ entry S i 5) where
     pub emit-asks : AsksAll s S env T m (i + 1)
-    emit-asks = record { ready = h .ready; row = rw (em, add-one i) row; apart = rw (add-one i) args-apart }
+    emit-asks = record { ready = h .ready; row = rw (em, add-one i) row; no-value = rw (add-one i) args-no-value }
 
     module _ (d : Done) (U : Table) (k : Does s (askEach (typings (envOf s T env) (exprsAt s m (i + 1)))) T d U) where
       abbrev all : Rule Unit
@@ -255,7 +255,7 @@ module _ (s S : List ℕ) (env : Env) (T : Table) (i : ℕ) (h : EmitIn s S env 
 
       module _ (e : d ≡ Fine) where
         on-emit : Onward s S env T U
-        on-emit = onward s S env T U _ tt (h .ready) (clear-each (h .ready .force .loaded) (envOf s T env) (emit-asks .row) (emit-asks .apart)) (did s _ T d U (k .gives) e)
+        on-emit = onward s S env T U _ tt (h .ready) (clear-each (h .ready .force .loaded) (envOf s T env) (emit-asks .row) (emit-asks .no-value)) (did s _ T d U (k .gives) e)
 
         pub emit-on : EmitIn s S env U i
         emit-on = record { ready = on-emit .ready; within = h .within; kind = h .kind }

@@ -33,14 +33,14 @@ use Rattle.declared.specs.declared.refusal.Done.{Done}
 use Rattle.declared.specs.declared.refusal.Done.the-variants.{Fine, Refused}
 use Rattle.declared.proofs.Answers.{fits, misfits}
 use Rattle.declared.proofs.Tables.{wordsIn, place-most, pick-place}
-use Rattle.env.specs.Force.{envOf, Apart}
+use Rattle.env.specs.Force.{envOf, NoValue}
 use Rattle.env.specs.declared.env.Env.{Env}
 use Rattle.env.specs.declared.judge.Typed.{Typed}
 use Rattle.env.specs.declared.judge.Typed.the-variants.{Is, Refused as No}
 use Rattle.typing.specs.Asks.{Asks, AsksAll, Types, Does}
 use Rattle.typing.proofs.Calls.{did}
 use Rattle.typing.proofs.Doing.{typed-then, not-typed, does-then, does-cut}
-use Rattle.typing.proofs.Onward.{Onward, onward, apart-next, clear-judged}
+use Rattle.typing.proofs.Onward.{Onward, onward, no-value-next, clear-judged}
 use Rattle.typing.proofs.Operators.{gave-code}
 use Rattle.emits.specs.Recipient.{recipientRule, recipientsRule, Recipients, JudgesRecipient}
 
@@ -133,10 +133,10 @@ module _ (s S : List ℕ) (env : Env) (T : Table) (left at : ℕ) (h : AsksAll s
       module _ (e : d ≡ Fine) (m : ℕ) (q : m ≡ endAt S at) where
         on : Onward s S env T U
         unfolding recipientRule
-        on = onward s S env T U first tt (h .ready) (clear-judged (h .ready .force .loaded) (envOf s T env) (row-first row) (h .apart) _ _ _ _) (did s first T d U (k .gives) e)
+        on = onward s S env T U first tt (h .ready) (clear-judged (h .ready .force .loaded) (envOf s T env) (row-first row) (h .no-value) _ _ _ _) (did s first T d U (k .gives) e)
 
         pub all-rest : AsksAll s S env U (left - 1) m
-        all-rest = record { ready = on .ready; row = rw q (row-rest row); apart = rw q (apart-next (h .ready .force .loaded) (row-first row)) }
+        all-rest = record { ready = on .ready; row = rw q (row-rest row); no-value = rw q (no-value-next (h .ready .force .loaded) (row-first row)) }
 
         pub all-ok : (r : Done) (W : Table) → Does s (recipientsRule (envOf s U env) (list (exprsAt s (left - 1) m))) U r W → Does s All T r W
         all-ok r W g = record { gives = opened ∙ does-then s first rest T d U k e r W (rw (← on .same, ← q) g) .gives }
@@ -189,8 +189,8 @@ module _ (s S : List ℕ) (env : Env) (T : Table) (i : ℕ) (h : Asks s S env T 
       args : Row S grammar.Expr m at
       args = rw (em, ea, add-one i) (row-rest all)
 
-      args-apart : Apart S at
-      args-apart = rw (ea, add-one i) (apart-next (h .ready .force .loaded) (row-first all))
+      args-no-value : NoValue S at
+      args-no-value = rw (ea, add-one i) (no-value-next (h .ready .force .loaded) (row-first all))
 
       opened' : kept Refuses T ≡ kept (recipientsRule (envOf s T env) (take due (list (exprsAt s m at)))) T
       unfolding refuseNameRecipient recipientsRule recipientRule ifSome
@@ -199,13 +199,13 @@ module _ (s S : List ℕ) (env : Env) (T : Table) (i : ℕ) (h : Asks s S env T 
           (first-ones due (r .few) (recipientRule (envOf s T env)) (list (exprsAt s m at)) T)
 
       pub few-asks : m < due → AsksAll s S env T m at
-      few-asks l = record { ready = h .ready; row = args; apart = args-apart }
+      few-asks l = record { ready = h .ready; row = args; no-value = args-no-value }
 
       pub few-done : (d : Done) (U : Table) → m < due → Does s (recipientsRule (envOf s T env) (list (exprsAt s m at))) T d U → Does s Refuses T d U
       few-done d U l g = record { gives = opened' ∙ rw (take-all due (h .ready .force .loaded) args (omega arith)) (g .gives) }
 
       pub due-asks : due ≤ m → AsksAll s S env T due at
-      due-asks l = record { ready = h .ready; row = row-take due l args; apart = args-apart }
+      due-asks l = record { ready = h .ready; row = row-take due l args; no-value = args-no-value }
 
       pub due-done : (d : Done) (U : Table) → due ≤ m → Does s (recipientsRule (envOf s T env) (list (exprsAt s due at))) T d U → Does s Refuses T d U
       due-done d U l g = record { gives = opened' ∙ rw (take-list due (h .ready .force .loaded) args l) (g .gives) }

@@ -16,7 +16,7 @@ use Rattle.rules.specs.Standing.{exprAt, paramAt, Here, Row}
 use Rattle.declared.specs.Answers.{Answers}
 use Rattle.declared.specs.Refusal.{doneOf}
 use Rattle.declared.specs.declared.refusal.Done.{Done}
-use Rattle.env.specs.Force.{envOf, Apart, Ready}
+use Rattle.env.specs.Force.{envOf, NoValue, Ready}
 use Rattle.env.specs.declared.env.Env.{Env as CodeEnv}
 
 -- the `emit` clause of `checkBody`, without the rest of the body
@@ -45,7 +45,7 @@ pub record FieldIn (s S : List ℕ) (env : CodeEnv) (T : Table) (arg param : ℕ
 pub record FieldsIn (s S : List ℕ) (env : CodeEnv) (T : Table) (arg args param params : ℕ) : Type 0 where
   pub ready : Ready s S env T
   pub these : Row S grammar.Expr args arg
-  pub apart : Apart S arg
+  pub no-value : NoValue S arg
   pub those : Row S grammar.Param params param
 
 -- ------------------------------------------------------------ what is promised

@@ -23,12 +23,12 @@ use Rattle.rules.proofs.Lets.{Past}
 use Rattle.rules.proofs.Parts.{parts}
 use Rattle.rules.proofs.Standing.{stands, nodes-next, row-behind, row-first}
 use Rattle.declared.specs.Found.{nodeKind, ofKind}
-use Rattle.env.specs.Force.{endOf, lets, endsIn, InForce}
+use Rattle.env.specs.Force.{namedEnd, lets, endsIn, InForce}
 use Rattle.env.specs.declared.env.Env.{Env}
 
 -- the line behind a `let` is the one behind its value
-pub let-end : {s S : List ℕ} → Loaded s S → (j : ℕ) → j < length S / 8 → kindAt S j ≡ 16 → endOf s (nodeAt s j) .1 ≡ endAt S j
-unfolding endOf sorts times skip
+pub let-end : {s S : List ℕ} → Loaded s S → (j : ℕ) → j < length S / 8 → kindAt S j ≡ 16 → namedEnd s (nodeAt s j) .1 ≡ endAt S j
+unfolding namedEnd sorts times skip
 let-end d j w k =
     let t = stands d j w in
     let g = parts (t .line) 16 (t .parted) (sym (t .says .kind) ∙ k) in
@@ -39,7 +39,7 @@ module _ (s : List ℕ) where
   -- each ends behind the one before, the first at line lo or behind it, the last at line hi or before it
   abbrev Rising : ℕ → ℕ → List Node → Type 0
   Rising lo hi [] = lo ≤ hi
-  Rising lo hi (t ∷ ts) = (lo ≤ endOf s t .1) × Rising (endOf s t .1) hi ts
+  Rising lo hi (t ∷ ts) = (lo ≤ namedEnd s t .1) × Rising (namedEnd s t .1) hi ts
 
   from : (lo i hi : ℕ) (ts : List Node) → i ≤ lo → Rising lo hi ts → Rising i hi ts
   from lo i hi [] h r = omega arith
@@ -47,19 +47,19 @@ module _ (s : List ℕ) where
 
   most : (lo hi : ℕ) (ts : List Node) → Rising lo hi ts → lo ≤ hi
   most lo hi [] r = r
-  most lo hi (t ∷ ts) r = omega (arith, r .0, most (endOf s t .1) hi ts (r .1))
+  most lo hi (t ∷ ts) r = omega (arith, r .0, most (namedEnd s t .1) hi ts (r .1))
 
-  rising-past : (lo hi : ℕ) (ts : List Node) → Rising lo hi ts → Past (map (endOf s) ts) hi
+  rising-past : (lo hi : ℕ) (ts : List Node) → Rising lo hi ts → Past (map (namedEnd s) ts) hi
   rising-past lo hi [] r = tt
-  rising-past lo hi (t ∷ ts) r = (most (endOf s t .1) hi ts (r .1), rising-past (endOf s t .1) hi ts (r .1))
+  rising-past lo hi (t ∷ ts) r = (most (namedEnd s t .1) hi ts (r .1), rising-past (namedEnd s t .1) hi ts (r .1))
 
-  least : (x : Name) (lo hi : ℕ) (ts : List Node) → Rising lo hi ts → (b : Node) → lastNamed nodeName x ts ≡ some b → lo ≤ endOf s b .1
+  least : (x : Name) (lo hi : ℕ) (ts : List Node) → Rising lo hi ts → (b : Node) → lastNamed nodeName x ts ≡ some b → lo ≤ namedEnd s b .1
   unfolding lastNamed
   least x lo hi [] r b e = absurd (let z : _≡_ {A = ℕ} 0 1 = cc in omega arith)
-  least x lo hi (t ∷ ts) r b e = go (lastNamed nodeName x ts) (same x (nodeName t)) (least x (endOf s t .1) hi ts (r .1) b) e
+  least x lo hi (t ∷ ts) r b e = go (lastNamed nodeName x ts) (same x (nodeName t)) (least x (namedEnd s t .1) hi ts (r .1) b) e
     where
-      go : (o : Option Node) (c : Bool) → (o ≡ some b → endOf s t .1 ≤ endOf s b .1)
-          → elim o as (λ _. Option Node) [ some y ↦ some y | none ↦ elim c as (λ _. Option Node) [ true ↦ some t | false ↦ none ] ] ≡ some b → lo ≤ endOf s b .1
+      go : (o : Option Node) (c : Bool) → (o ≡ some b → namedEnd s t .1 ≤ namedEnd s b .1)
+          → elim o as (λ _. Option Node) [ some y ↦ some y | none ↦ elim c as (λ _. Option Node) [ true ↦ some t | false ↦ none ] ] ≡ some b → lo ≤ namedEnd s b .1
       go (some y) c f q = omega (arith, r .0, f q)
       go none true f q = rw (← let z : t ≡ b = cc in z) (r .0)
       go none false f q = absurd (let z : _≡_ {A = ℕ} 0 1 = cc in omega arith)
@@ -67,23 +67,23 @@ module _ (s : List ℕ) where
   -- whether the `let` that was found ends behind line i
   abbrev pub endsBehind : ℕ → Option Node → Bool
   endsBehind i none = false
-  endsBehind i (some t) = ltb i (endOf s t .1)
+  endsBehind i (some t) = ltb i (namedEnd s t .1)
 
-  end-name : (t : Node) → endOf s t .0 ≡ nodeName t
-  unfolding endOf nodeName
+  end-name : (t : Node) → namedEnd s t .0 ≡ nodeName t
+  unfolding namedEnd nodeName
   end-name (node i l ps) = refl
 
-  last-later : (x : Name) (i lo hi : ℕ) (ts : List Node) → Rising lo hi ts → among x (later i (map (endOf s) ts)) ≡ endsBehind i (lastNamed nodeName x ts)
+  last-later : (x : Name) (i lo hi : ℕ) (ts : List Node) → Rising lo hi ts → among x (later i (map (namedEnd s) ts)) ≡ endsBehind i (lastNamed nodeName x ts)
   unfolding among later lastNamed
   last-later x i lo hi [] r = refl
   last-later x i lo hi (t ∷ ts) r =
-      go (lastNamed nodeName x ts) (same x (nodeName t)) (ltb i (endOf s t .1)) (ap (same x) (end-name t)) refl (last-later x i (endOf s t .1) hi ts (r .1)) (least x (endOf s t .1) hi ts (r .1))
+      go (lastNamed nodeName x ts) (same x (nodeName t)) (ltb i (namedEnd s t .1)) (ap (same x) (end-name t)) refl (last-later x i (namedEnd s t .1) hi ts (r .1)) (least x (namedEnd s t .1) hi ts (r .1))
     where
-      go : (o : Option Node) (b c : Bool) → same x (endOf s t .0) ≡ b → ltb i (endOf s t .1) ≡ c → among x (later i (map (endOf s) ts)) ≡ endsBehind i o
-          → ((u : Node) → o ≡ some u → endOf s t .1 ≤ endOf s u .1)
-          → among x (elim c as (λ _. List Name) [ true ↦ endOf s t .0 ∷ later i (map (endOf s) ts) | false ↦ later i (map (endOf s) ts) ])
+      go : (o : Option Node) (b c : Bool) → same x (namedEnd s t .0) ≡ b → ltb i (namedEnd s t .1) ≡ c → among x (later i (map (namedEnd s) ts)) ≡ endsBehind i o
+          → ((u : Node) → o ≡ some u → namedEnd s t .1 ≤ namedEnd s u .1)
+          → among x (elim c as (λ _. List Name) [ true ↦ namedEnd s t .0 ∷ later i (map (namedEnd s) ts) | false ↦ later i (map (namedEnd s) ts) ])
           ≡ endsBehind i (elim o as (λ _. Option Node) [ some y ↦ some y | none ↦ elim b as (λ _. Option Node) [ true ↦ some t | false ↦ none ] ])
-      go (some y) true true d e h f = rw (among, d, let z = f y refl in let w = ltb-true i (endOf s t .1) e in lt-ltb i (endOf s y .1) (omega arith)) refl
+      go (some y) true true d e h f = rw (among, d, let z = f y refl in let w = ltb-true i (namedEnd s t .1) e in lt-ltb i (namedEnd s y .1) (omega arith)) refl
       go (some y) false true d e h f = rw (among, d) h
       go none true true d e h f = rw (among, d, e) refl
       go none false true d e h f = rw (among, d) h

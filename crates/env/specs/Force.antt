@@ -10,7 +10,7 @@ use Rattle.sheet.specs.Grammar as grammar
 use Rattle.sheet.specs.Scratch.{entry, kindAt, skip}
 use Rattle.sheet.specs.Tree.{Node, node}
 use Rattle.rules.specs.Text.{Name, is, isOne, get, lastNamed}
-use Rattle.rules.specs.Ast.{next, fieldOf, paramOf, typeName}
+use Rattle.rules.specs.Ast.{lineAfter, fieldOf, paramOf, typeName}
 use Rattle.rules.specs.Asking.{Ty, Address, Unknown, code}
 use Rattle.rules.specs.Kept.{Table}
 use Rattle.rules.specs.Declared.{tyOfDecl}
@@ -31,15 +31,15 @@ unfoldable pub localOf : Table → Node → Name × Ty
 localOf T (node i l ps) = (l .name, tyFrom (getD T (suc i) 0))
 
 -- ... with the first line behind it
-unfoldable pub endOf : List ℕ → Node → Name × ℕ
-endOf s (node i l ps) = (l .name, next (exprAt s (suc i)))
+unfoldable pub namedEnd : List ℕ → Node → Name × ℕ
+namedEnd s (node i l ps) = (l .name, lineAfter (exprAt s (suc i)))
 
 unfoldable pub lets : List ℕ → (count line : ℕ) → List Node
 lets s m i = ofKind 16 (nodesAt s m i)
 
 -- the bound `let`s, each with the first line behind it
 unfoldable pub endsIn : List ℕ → Env → List (Name × ℕ)
-endsIn s env = map (endOf s) (lets s (env .bound) (env .body))
+endsIn s env = map (namedEnd s) (lets s (env .bound) (env .body))
 
 unfoldable pub envOf : List ℕ → Table → Env → typing.Env
 envOf s T env =
@@ -48,7 +48,7 @@ envOf s T env =
       params = paramsIn s env;
       locals = map (localOf T) (lets s (env .bound) (env .body));
       genesis = env .genesis;
-      lets = endsIn s env;
+      ends = endsIn s env;
     }
 
 -- ------------------------------------------------------------ what the code asks
@@ -66,7 +66,7 @@ pub record ExprIn (s S : List ℕ) (env : Env) (i : ℕ) : Type 0 where
   pub here : Here S grammar.Expr i
 
 -- line i is no `let`'s value
-pub record Apart (S : List ℕ) (i : ℕ) : Type 0 where
+pub record NoValue (S : List ℕ) (i : ℕ) : Type 0 where
   pub before : (j : ℕ) → suc j ≡ i → kindAt S j ≢ 16
 
 -- the lines of an `Env` are there, and the table has a byte a line

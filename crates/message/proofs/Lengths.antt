@@ -21,6 +21,7 @@ use Rattle.rules.specs.Ast.{Type', typeName, argOf, argsOf, typeOf, fieldOf, pa
 use Rattle.rules.specs.Declarations.{typeText, argText, argsText}
 use Rattle.rules.specs.Asking.{Ty, Int, Boolean, Address, Asset, Word64, TName, Time, Str, Collection, Unknown}
 use Rattle.rules.specs.Declared.{describe}
+use Rattle.rules.specs.Verdict.{longest}
 use Rattle.rules.specs.Standing.{nodeName, nodeAt, typeAt, paramAt, fieldAt, namedAt, Loaded}
 use Rattle.rules.proofs.Places.{there-or-not, is-there, dot-there, not-dot-at}
 use Rattle.rules.proofs.Records.{named}
@@ -29,7 +30,6 @@ use Rattle.declared.specs.Refusal.{dotAt, refusalOf}
 use Rattle.declared.specs.Codes.{tyFrom}
 use Rattle.declared.specs.declared.refusal.Refusal.{Refusal}
 use Rattle.declared.specs.declared.refusal.Refusal.the-variants.{NameStored, Arity, OnlyTypes, Inner, UnknownType, NoArguments, Digest, Default, Guardian, Predicate, ReachesField, ReachesValues, ReachesEvent, Local, AssetSlot, NameIntoAddress, WrappingIntoNarrow, LiteralIntoNarrow, Slot, Recipient, Receiver, KeyedOp, Amount, Straight, ByName, Holds, Not, Neg, Logical, Arithmetic, Ordering, Names, Compared, EmitField, Dropped, Overflow, KeyKinds}
-use Rattle.pieces.specs.Writing.{longest}
 use Rattle.pieces.proofs.Texts.{Named, lines-named, every-at}
 
 -- ------------------------------------------------------------ pieces

@@ -10,10 +10,6 @@ use lib.ListN.{length}
 abbrev pub MOST : ℕ
 MOST = 18446744073709551615
 
--- no message has more bytes: `short` of message/proofs/Lengths.antt
-abbrev pub longest : ℕ
-longest = 16384
-
 -- a length as it is told: lengths above MOST are told as MOST
 unfoldable pub toldAs : ℕ → ℕ
 toldAs n = cond (leb n MOST) n MOST

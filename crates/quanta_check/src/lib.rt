@@ -6,7 +6,7 @@ pub use load::quanta_load;
 use verdict::Answer;
 ghost use mathlib.Core.Path.{_≡_};
 ghost use Prim.Native.Nat.{_≤_};
-ghost use Rattle.pieces.specs.Writing.{longest};
+ghost use Rattle.rules.specs.Verdict.{longest};
 ghost use Rattle.verdict.specs.Outcome.{outcome};
 
 // The verdict call.

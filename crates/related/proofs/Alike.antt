@@ -1,4 +1,4 @@
--- Two rules that are alike: they ask and refuse alike. Assumes nothing.
+-- Two rules that ask types of related lines in step and come to the same, but for the texts of literals. Assumes nothing.
 use mathlib.Core.Path.{_≡_, refl}
 use mathlib.Core.Logic.{_⊎_}
 use mathlib.Core.List.{List, [], _∷_, Forall₂, Forall₂·nil as nil₂, Forall₂·cons as cons₂}
@@ -13,15 +13,15 @@ use Rattle.rules.specs.Model.{Model}
 
 -- What two sheets may differ in: the model in which names are looked up, the lines, and whether texts of literals are free.
 pub record Setting : Type 1 where
-  pub old : Model
-  pub now : Model
+  pub left : Model
+  pub right : Model
   pub Lines : ℕ → ℕ → Type 0
-  pub same-line : (l : ℕ) → Lines l l
+  pub line-itself : (l : ℕ) → Lines l l
   pub Free : Type 0
 
 -- the setting of two models
 abbrev pub settingOf : (L : ℕ → ℕ → Type 0) → ((l : ℕ) → L l l) → Type 0 → Model → Model → Setting
-settingOf L same X m n = record { old = m; now = n; Lines = L; same-line = same; Free = X }
+settingOf L same X m n = record { left = m; right = n; Lines = L; line-itself = same; Free = X }
 
 -- a refusal with a number of the rules
 abbrev pub FromTwelve : Refusal → Type 0

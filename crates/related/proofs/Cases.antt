@@ -1,4 +1,4 @@
--- Sheets of a few lines that meet the premises of the theorems. Assumes nothing.
+-- Sheets of a few lines that meet the premises of `texts-verdict` and `joined-number`. Assumes nothing.
 use mathlib.Core.Path.{_≡_, refl}
 use mathlib.Core.Logic.{_⊎_}
 use mathlib.Core.List.{List, [], _∷_, _++_, Forall₂·nil as nil₂, Forall₂·cons as cons₂}

@@ -1,4 +1,5 @@
--- Request 14, on models: two that pass and share no names pass together. Assumes nothing.
+-- Request 14, on models: two pass together where each passes and no expression or field of one names a state field of the other, and no
+-- `emit` an event of it. Assumes nothing.
 use mathlib.Core.Path.{_≡_, refl, sym, ap}
 use mathlib.Core.List.{List, [], _∷_, _++_, append-assoc, Forall₂}
 use mathlib.Core.Bool.{Bool, true, false, not, _&&_, _||_, Bool·beq}

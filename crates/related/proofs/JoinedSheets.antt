@@ -1,4 +1,5 @@
--- Request 14: two sheets that are accepted and share no names, and one with a `contract` line and the lines of both behind theirs. Assumes nothing.
+-- Request 14: two sheets that are accepted, no line of one naming a state field or event of the other (`Foreign`), and one with a
+-- `contract` line and the lines of both behind it. Assumes nothing.
 use mathlib.Core.Path.{_≡_, sym, ap, _∙_}
 use mathlib.Core.Logic.{_⊎_, inl, inr}
 use mathlib.Core.List.{List, _∷_, _++_, Forall₂, Forall₂·nil as nil₂, Forall₂·cons as cons₂}
@@ -135,12 +136,12 @@ module _ (s₁ s₂ s : List ℕ) (types₁ scratch₁ message₁ types₂ scrat
     (c₁ c₂ c : Line) (r₁ r₂ : List Line)
     (lines₁ : linesOf s₁ ≡ l₁ ∷ L₁) (lines₂ : linesOf s₂ ≡ l₂ ∷ L₂) (all : linesOf s ≡ l ∷ (L₁ ++ L₂))
     (read₁ : load s₁ types₁ scratch₁ ≡ lines (c₁ ∷ r₁)) (read₂ : load s₂ types₂ scratch₂ ≡ lines (c₂ ∷ r₂))
-    (short : early s types scratch ≡ 0) (first : readLine grammar.Contract 0 l ≡ good c) (count : sorts (c .parts) ≡ sorts (c₁ .parts) ++ sorts (c₂ .parts)) where
+    (not-early : early s types scratch ≡ 0) (first : readLine grammar.Contract 0 l ≡ good c) (count : sorts (c .parts) ≡ sorts (c₁ .parts) ++ sorts (c₂ .parts)) where
   -- where both are accepted, and the names of one are no state or event names of the other, it is accepted
   pub joined-number : All (Foreign (modelOf (c₂ ∷ r₂))) r₁ → All (Foreign (modelOf (c₁ ∷ r₁))) r₂
       → verdict s₁ types₁ scratch₁ message₁ .number ≡ 0 → verdict s₂ types₂ scratch₂ message₂ .number ≡ 0 → verdict s types scratch message .number ≡ 0
   joined-number f g h k =
-      let t = joined-read s₁ s₂ s types₁ scratch₁ types₂ scratch₂ types scratch l₁ l₂ l L₁ L₂ c₁ c₂ c r₁ r₂ lines₁ lines₂ all read₁ read₂ short first count in
+      let t = joined-read s₁ s₂ s types₁ scratch₁ types₂ scratch₂ types scratch l₁ l₂ l L₁ L₂ c₁ c₂ c r₁ r₂ lines₁ lines₂ all read₁ read₂ not-early first count in
       let a = t .0 in
       let b = t .1 in
       let p = half s₁ types₁ scratch₁ c₁ r₁ a 1 (modelOf (c₂ ∷ r₂)) read₁ (t .3) f in

@@ -22,7 +22,7 @@ pub record Head (f g : Field) : Type 0 where
 
 -- both models tell the same of this name
 abbrev pub SameField : Setting → Name → Type 0
-SameField S x = Opt Head (fieldNamed (S .old) x) (fieldNamed (S .now) x)
+SameField S x = Opt Head (fieldNamed (S .left) x) (fieldNamed (S .right) x)
 
 -- the same value, of which P holds, or none
 pub data Both {A : Type 0} (P : A → Type 0) : Option A → Option A → Type 0 where
@@ -170,21 +170,21 @@ last-like {R = R} f g n x (cons₂ {a = a} {b = b} h k) = go (last-like f g n x 
 
 -- two environments that are the same but for the model in which names are looked up, and for what only the `again` of an asking sees
 pub record SameEnv (S : Setting) (Γ Δ : Env) : Type 0 where
-  pub old : Γ .model ≡ S .old
-  pub now : Δ .model ≡ S .now
+  pub left : Γ .model ≡ S .left
+  pub right : Δ .model ≡ S .right
   pub params : Γ .params ≡ Δ .params
   pub locals : Γ .locals ≡ Δ .locals
   pub genesis : Γ .genesis ≡ Δ .genesis
 
 module _ {S : Setting} where
-  pub same-new : {ps qs : List (Name × Ty)} → ps ≡ qs → SameEnv S (new (S .old) ps) (new (S .now) qs)
+  pub same-new : {ps qs : List (Name × Ty)} → ps ≡ qs → SameEnv S (new (S .left) ps) (new (S .right) qs)
   unfolding new
-  same-new e = record { old = refl; now = refl; params = e; locals = refl; genesis = refl }
+  same-new e = record { left = refl; right = refl; params = e; locals = refl; genesis = refl }
 
   pub same-genesis : {Γ Δ : Env} → SameEnv S Γ Δ → SameEnv S (inGenesis Γ) (inGenesis Δ)
   unfolding inGenesis
-  same-genesis h = record { old = h .old; now = h .now; params = h .params; locals = h .locals; genesis = refl }
+  same-genesis h = record { left = h .left; right = h .right; params = h .params; locals = h .locals; genesis = refl }
 
   pub same-bound : {Γ Δ : Env} (x : Name) (t : Ty) (i j : ℕ) → SameEnv S Γ Δ → SameEnv S (bound Γ x t i) (bound Δ x t j)
   unfolding bound
-  same-bound x t i j h = record { old = h .old; now = h .now; params = h .params; locals = ap (λ ls. ls ++ ((x, t) ∷ [])) (h .locals); genesis = h .genesis }
+  same-bound x t i j h = record { left = h .left; right = h .right; params = h .params; locals = ap (λ ls. ls ++ ((x, t) ∷ [])) (h .locals); genesis = h .genesis }

@@ -37,7 +37,7 @@ PartLike S = ModelBy (FieldLike S) (Like S) (StmtLike S) (EntryLike S)
 
 -- the models of the setting themselves
 abbrev pub ModelLike : Setting → Type 0
-ModelLike S = PartLike S (S .old) (S .now)
+ModelLike S = PartLike S (S .left) (S .right)
 
 module _ {S : Setting} where
   -- ------------------------------------------------------------ check_entry
@@ -77,7 +77,7 @@ module _ {S : Setting} where
   unfolding clauseAssets ifSome _>>_ _>>=_
   idle-assets c idle = a-ret tt
 
-  pub a-entry : {a b : Entry} → EntryLike S a b → Alike S (checkEntry (S .old) a) (checkEntry (S .now) b)
+  pub a-entry : {a b : Entry} → EntryLike S a b → Alike S (checkEntry (S .left) a) (checkEntry (S .right) b)
   unfolding checkEntry narrowWrapping
   a-entry h =
       let ps = ap paramTypes (h .params) in
@@ -93,7 +93,7 @@ module _ {S : Setting} where
   a-made-up : {Γ Δ : Env} {f g : Field} → SameEnv S Γ Δ → FieldLike S f g → AskedLike S (madeUp Γ f) (madeUp Δ g)
   unfolding madeUp
   a-made-up {f = f} e h = record {
-    expr = rw (h .nspan, ← h .head .name) (leaf~ (S .same-line 0) (id-like (f .name) (h .same-field)));
+    expr = rw (h .nspan, ← h .head .name) (leaf~ (S .line-itself 0) (id-like (f .name) (h .same-field)));
     ty = rw (← h .head .name, name-like e (f .name) (h .same-field)) (a-ret _);
   }
 
@@ -125,7 +125,7 @@ module _ {S : Setting} where
       go o-none q = cons₂ h q
       go (o-some r) q = q
 
-  a-before : ModelLike S → Alike S (beforeEntries (S .old)) (beforeEntries (S .now))
+  a-before : ModelLike S → Alike S (beforeEntries (S .left)) (beforeEntries (S .right))
   unfolding beforeEntries
   a-before h =
       let e = same-new refl in
@@ -134,7 +134,7 @@ module _ {S : Setting} where
       (a-then (a-each (values-like (h .fields)) (λ f g k. rw (k .head .ty) (a-same (search pure-declared))))
       (a-then (a-each (h .entries) (λ a b k. rw (k .params) (a-same (search pure-declared)))) (a-each (h .invariants) (λ a b k. a-predicate e k)))))
 
-  pub a-check : ModelLike S → Alike S (check (S .old)) (check (S .now))
+  pub a-check : ModelLike S → Alike S (check (S .left)) (check (S .right))
   unfolding check
   a-check h =
       a-then (a-before h)

@@ -316,16 +316,16 @@ module _ {S : Setting} where
   unfolding isNameKey
   name-key names h = rw (isNameKey, ident-same h)
 
-is-keyed : (S : Setting) (x : Name) → SameField S x → isKeyed (S .old) x ≡ isKeyed (S .now) x
+is-keyed : (S : Setting) (x : Name) → SameField S x → isKeyed (S .left) x ≡ isKeyed (S .right) x
 unfolding isKeyed
 is-keyed S x h = of-type false (λ f. isOne (typeName (f .ty)) ("Map" ∷ "Registry" ∷ [])) (λ f g e. rw e) h
 
 module _ (S : Setting) where
-  uses-of : {ks js : List Keyed} (names : List Name) → Forall₂ (KeyedLike S) ks js → usesOf (S .old) names ks ≡ usesOf (S .now) names js
+  uses-of : {ks js : List Keyed} (names : List Name) → Forall₂ (KeyedLike S) ks js → usesOf (S .left) names ks ≡ usesOf (S .right) names js
   unfolding usesOf
   uses-of names nil₂ = refl
   uses-of names (cons₂ {a = i} {b = j} {l₁ = ks} {l₂ = js} h k) =
-      let p : isKeyed (S .old) (i .0) ≡ isKeyed (S .now) (j .0) = rw (h .map) (is-keyed S (j .0) (rw (h .map) at (h .same-field))) in
+      let p : isKeyed (S .left) (i .0) ≡ isKeyed (S .right) (j .0) = rw (h .map) (is-keyed S (j .0) (rw (h .map) at (h .same-field))) in
       go p (rw (h .map, name-key names (h .key), span-like (h .key))) (uses-of names k)
     where
       told : Keyed → Use
@@ -337,12 +337,12 @@ module _ (S : Setting) where
       go : {b c : Bool} {us vs : List Use} → b ≡ c → told i ≡ told j → us ≡ vs → by b (told i) us ≡ by c (told j) vs
       go p q r = rw (p, q, r)
 
-  pub uses-like : {es fs : List Entry} → Forall₂ (EntryLike S) es fs → uses (S .old) es ≡ uses (S .now) fs
+  pub uses-like : {es fs : List Entry} → Forall₂ (EntryLike S) es fs → uses (S .left) es ≡ uses (S .right) fs
   unfolding uses
   uses-like nil₂ = refl
   uses-like (cons₂ {a = a} {b = b} h k) =
-      ap₂ _++_ (ap (λ (ps : List Param). usesOf (S .old) (nameParams ps) (keyedIn (entryExprs a))) (h .params) ∙ uses-of (nameParams (b .params)) (keyed-in (entry-exprs h))) (uses-like k)
+      ap₂ _++_ (ap (λ (ps : List Param). usesOf (S .left) (nameParams ps) (keyedIn (entryExprs a))) (h .params) ∙ uses-of (nameParams (b .params)) (keyed-in (entry-exprs h))) (uses-like k)
 
-  pub a-key-kinds : Forall₂ (EntryLike S) (S .old .entries) (S .now .entries) → Alike S (checkKeyKinds (S .old)) (checkKeyKinds (S .now))
+  pub a-key-kinds : Forall₂ (EntryLike S) (S .left .entries) (S .right .entries) → Alike S (checkKeyKinds (S .left)) (checkKeyKinds (S .right))
   unfolding checkKeyKinds
   a-key-kinds h = rw (uses-like h) (a-same (p-uses _ _))

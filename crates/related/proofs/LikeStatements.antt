@@ -21,7 +21,7 @@ use Rattle.related.proofs.LikeTyping.{TextOnly, t-ret, a-text, t-expect
 
 -- both models have the same event of this name
 abbrev pub SameEvent : Setting → Name → Type 0
-SameEvent S x = eventNamed (S .old) x ≡ eventNamed (S .now) x
+SameEvent S x = eventNamed (S .left) x ≡ eventNamed (S .right) x
 
 pub data StmtLike (S : Setting) : Stmt → Stmt → Type 0 where
   guard~ : {e f : Expr} → Like S e f → StmtLike S (guard e) (guard f)
@@ -88,7 +88,7 @@ module _ {S : Setting} {Γ Δ : Env} (same : SameEnv S Γ Δ) where
 
   pub a-emit : {es fs : List Expr} (x : Name) → SameEvent S x → Forall₂ (Like S) es fs → Alike S (checkEmitFields Γ x es) (checkEmitFields Δ x fs)
   unfolding checkEmitFields
-  a-emit x q h = a-maybe (rw (same .old, same .now) q) (λ d. a-each (zip-like (d .params) h) (λ a b r. rw (r .1) (a-emit-field (b .1) (r .0))))
+  a-emit x q h = a-maybe (rw (same .left, same .right) q) (λ d. a-each (zip-like (d .params) h) (λ a b r. rw (r .1) (a-emit-field (b .1) (r .0))))
 
   -- ------------------------------------------------------------ assignments
 
@@ -228,12 +228,12 @@ module _ {S : Setting} where
   unfolding reaches
   a-reaches xs o ps h = rw (span-like h, wraps-like xs h) (a-same (search pure))
 
-narrow-values : (S : Setting) (x : Name) → SameField S x → narrowValues (S .old) x ≡ narrowValues (S .now) x
+narrow-values : (S : Setting) (x : Name) → SameField S x → narrowValues (S .left) x ≡ narrowValues (S .right) x
 unfolding narrowValues
 narrow-values S x h = of-type none (λ f. narrowArg (getElem? (args (f .ty)) 1)) (λ f g e. rw e) h
 
 module _ (S : Setting) where
-  a-narrow-set : {e f : Expr} (xs : List Name) → Like S e f → Alike S (narrowSet (S .old) xs e) (narrowSet (S .now) xs f)
+  a-narrow-set : {e f : Expr} (xs : List Name) → Like S e f → Alike S (narrowSet (S .left) xs e) (narrowSet (S .right) xs f)
   unfolding narrowSet
   a-narrow-set xs h =
       a-some (call-like h)
@@ -243,7 +243,7 @@ module _ (S : Setting) where
       rw (q .name)
       (a-when _ (a-name (q .base) (λ x n. rw (narrow-values S x n) (a-some (at₂ 1 (list-like (r .args))) (λ v w k. a-reaches xs _ _ k)))))))
 
-  a-narrow : {s u : Stmt} (xs : List Name) → StmtLike S s u → Alike S (narrowStmt (S .old) xs s) (narrowStmt (S .now) xs u)
+  a-narrow : {s u : Stmt} (xs : List Name) → StmtLike S s u → Alike S (narrowStmt (S .left) xs s) (narrowStmt (S .right) xs u)
   unfolding narrowStmt
   a-narrow xs (guard~ h) = a-ret tt
   a-narrow xs (bind~ h) = a-ret tt
@@ -259,7 +259,7 @@ module _ (S : Setting) where
   wrapped-like xs (assign~ h k) = refl
   wrapped-like xs (do~ h) = refl
 
-  pub a-narrow-all : {ss us : List Stmt} (xs : List Name) → Forall₂ (StmtLike S) ss us → Alike S (narrowStmts (S .old) xs ss) (narrowStmts (S .now) xs us)
+  pub a-narrow-all : {ss us : List Stmt} (xs : List Name) → Forall₂ (StmtLike S) ss us → Alike S (narrowStmts (S .left) xs ss) (narrowStmts (S .right) xs us)
   unfolding narrowStmts
   a-narrow-all xs nil₂ = a-ret tt
   a-narrow-all xs (cons₂ h k) = a-then (a-narrow xs h) (rw (wrapped-like xs h) (a-narrow-all _ k))

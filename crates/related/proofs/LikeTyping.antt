@@ -52,7 +52,7 @@ module _ {S : Setting} {Γ Δ : Env} (same : SameEnv S Γ Δ) where
   -- ------------------------------------------------------------ lookups
 
   pub field-in : (x : Name) → SameField S x → Opt Head (fieldNamed (Γ .model) x) (fieldNamed (Δ .model) x)
-  field-in x k = rw (same .old, same .now) k
+  field-in x k = rw (same .left, same .right) k
 
   pub param-like : {e f : Expr} → Like S e f → isNameParam Γ e ≡ isNameParam Δ f
   unfolding isNameParam

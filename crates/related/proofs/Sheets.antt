@@ -47,16 +47,16 @@ one-twin : {L : ℕ → ℕ → Type 0} {R : Line → Line → Type 0} {t : Node
 one-twin (and-twin {u = u} h no-twin) = (u, refl, h)
 
 -- L of the lines' numbers, which holds of the next lines too
-module _ (L : ℕ → ℕ → Type 0) (same-line : (l : ℕ) → L l l) (next : (i j : ℕ) → L i j → L (suc i) (suc j)) (X : Type 0) where
-  roots-like : {t u : Node} → Formed grammar.Contract t → Twin L (SameRecord X) t u → ModelLike (settingOf L same-line X (build (contractOf (more t nil))) (build (contractOf (more u nil))))
+module _ (L : ℕ → ℕ → Type 0) (line-itself : (l : ℕ) → L l l) (next : (i j : ℕ) → L i j → L (suc i) (suc j)) (X : Type 0) where
+  roots-like : {t u : Node} → Formed grammar.Contract t → Twin L (SameRecord X) t u → ModelLike (settingOf L line-itself X (build (contractOf (more t nil))) (build (contractOf (more u nil))))
   unfolding contractOf
-  roots-like (formed a p fs) (twin n h r) = model-like L same-line X (formed {i = 0} a p fs) r
+  roots-like (formed a p fs) (twin n h r) = model-like L line-itself X (formed {i = 0} a p fs) r
 
-  pub lines-like : (s : List ℕ) (types n : ℕ) (ls ks : List Line) → load s types n ≡ lines ls → Forall₂ (SameRecord X) ls ks → ModelLike (settingOf L same-line X (modelOf ls) (modelOf ks))
+  pub lines-like : (s : List ℕ) (types n : ℕ) (ls ks : List Line) → load s types n ≡ lines ls → Forall₂ (SameRecord X) ls ks → ModelLike (settingOf L line-itself X (modelOf ls) (modelOf ks))
   unfolding modelOf
   lines-like s types n ls ks e h =
       let q = tree-of s types n ls e in
-      let r = one-twin (rw (q .1) at (trees-twins next (λ l k p. p .parts) 0 0 (same-line 0) h)) in
+      let r = one-twin (rw (q .1) at (trees-twins next (λ l k p. p .parts) 0 0 (line-itself 0) h)) in
       rw (q .1, r .1) (roots-like (q .2) (r .2))
 
 -- trees with the same records, wherever they stand

@@ -61,7 +61,7 @@ rest (more e es) = es
 
 first-like : {S : Setting} {es fs : Exprs} → Likes S es fs → Like S (first es) (first fs)
 unfolding identLeaf
-first-like {S} nil~ = leaf~ (S .same-line 0) (plain now refl)
+first-like {S} nil~ = leaf~ (S .line-itself 0) (plain now refl)
 first-like (more~ h k) = h
 
 rest-like : {S : Setting} {es fs : Exprs} → Likes S es fs → Likes S (rest es) (rest fs)
@@ -126,7 +126,7 @@ module _ {S : Setting} where
 
   pub at-twin : {ns ms : List Node} (n : ℕ) → Forall₂ (SettingTwin S) ns ms → Like S (exprOf (getD ns n blankNode)) (exprOf (getD ms n blankNode))
   unfolding exprOf identLeaf
-  at-twin n nil₂ = leaf~ (S .same-line 0) (plain (int []) refl)
+  at-twin n nil₂ = leaf~ (S .line-itself 0) (plain (int []) refl)
   at-twin zero (cons₂ h k) = expr-twin h
   at-twin (suc n) (cons₂ h k) = at-twin n k
 
@@ -143,7 +143,7 @@ module _ (S : Setting) (i j : ℕ) (n : S .Lines i j) (l k : Line) (h : SameName
   stmt-made (suc (suc zero)) e f = rw (e, f, ← same-name (h .same) (λ q. omega arith)) (emit~ (h .event (omega arith)) (map₂ exprOf exprOf (λ t u q. expr-twin q) r))
   stmt-made (suc (suc (suc zero))) e f = rw (e, f, h .same .spans, h .same .op) (assign~ (at-twin 0 r) (at-twin 1 r))
   stmt-made (suc (suc (suc (suc zero)))) e f = rw (e, f) (do~ (at-twin 0 r))
-  stmt-made (suc (suc (suc (suc (suc d))))) e f = rw (e, f) (do~ (leaf~ (S .same-line 0) (plain now refl)))
+  stmt-made (suc (suc (suc (suc (suc d))))) e f = rw (e, f) (do~ (leaf~ (S .line-itself 0) (plain now refl)))
 
   clause-made : (d : ℕ) → l .kind - 11 ≡ d → k .kind - 11 ≡ d → ClauseLike S (clauseOf (node i l ps)) (clauseOf (node j k qs))
   unfolding clauseOf

@@ -187,11 +187,11 @@ module _ {L : ℕ → ℕ → Type 0} {R : Line → Line → Type 0} {X : Type 0
   heads-of n f h = build-by (items-by same F Any Any Any field (λ ns ms q. tt) (λ t u q. tt) (λ i j l k ps qs e p fs q r. tt) n f h)
 
 -- where the fields have the same heads and the events are the same, both models tell the same of every name
-pub every-field : (S : Setting) → Forall₂ Head (S .old .fields) (S .now .fields) → (x : Name) → SameField S x
+pub every-field : (S : Setting) → Forall₂ Head (S .left .fields) (S .right .fields) → (x : Name) → SameField S x
 unfolding fieldNamed
 every-field S h x = last-like (λ f. f .name) (λ f. f .name) (λ f g q. q .name) x h
 
-pub every-event : (S : Setting) → S .old .events ≡ S .now .events → (x : Name) → SameEvent S x
+pub every-event : (S : Setting) → S .left .events ≡ S .right .events → (x : Name) → SameEvent S x
 unfolding eventNamed
 every-event S e x = rw e
 
@@ -235,10 +235,10 @@ unfolding sorts
 contract-parts (formed {l = l} a p fs) = let m = parts l 0 p (omega (arith, a)) in (m .0, rw (m .1, append-nil) at fs)
 
 -- the items of two contracts
-pub model-like : (L : ℕ → ℕ → Type 0) (same-line : (l : ℕ) → L l l) (X : Type 0) {i : ℕ} {l : Line} {ps qs : Nodes}
-    → Formed grammar.Contract (node i l ps) → Twins L (SameRecord X) ps qs → ModelLike (settingOf L same-line X (itemsOf ps) (itemsOf qs))
-model-like L same-line X {ps = ps} {qs = qs} f h =
-    let S = settingOf L same-line X (itemsOf ps) (itemsOf qs) in
+pub model-like : (L : ℕ → ℕ → Type 0) (line-itself : (l : ℕ) → L l l) (X : Type 0) {i : ℕ} {l : Line} {ps qs : Nodes}
+    → Formed grammar.Contract (node i l ps) → Twins L (SameRecord X) ps qs → ModelLike (settingOf L line-itself X (itemsOf ps) (itemsOf qs))
+model-like L line-itself X {ps = ps} {qs = qs} f h =
+    let S = settingOf L line-itself X (itemsOf ps) (itemsOf qs) in
     let c = contract-parts f in
     let q = heads-of (λ l k q. q) Head (λ t u f q. head-same f q) (c .0) (c .1) h in
     part-of (c .0) (c .1) (twins-map (all-named S (every-field S (q .fields)) (every-event S (q .events))) h)

@@ -10,7 +10,7 @@ use lib.ListN.{length, getD, set, length-set}
 use lib.Seq.{getD-set-other}
 use Rattle.rules.specs.Asking.{Ty, Res, ok, refused, Refusal, codeR, Rule, ret, refuse, ask, _>>=_, forEach}
 use Rattle.rules.specs.Kept.{Table, tyOfMark, Kept, stored, retyped, kept}
-use Rattle.rules.proofs.Keeps.{Throughout}
+use Rattle.rules.proofs.Keeps.{Throughout, OfLine, Any}
 
 -- one asking, by what the table has for its line
 abbrev asking : {A : Type 0} → Option Ty → Bool → ℕ → Kept Ty → Table → (Ty → Table → Kept A) → Kept A
@@ -185,7 +185,7 @@ kept-holds (ask g l p k) T a i t h e =
 
 -- a line that is asked nowhere keeps what it holds
 abbrev pub Off : ℕ → {A : Type 0} → Rule A → Type 0
-Off i = Throughout (λ g l p. i ≢ l) (λ p t. Unit)
+Off i = Throughout (OfLine (λ l. i ≢ l)) Any
 
 module _ {A : Type 0} (f : Ty → Table → Kept A) (l i c : ℕ) (d : i ≢ l) (h : (t : Ty) (T : Table) → getD T i 0 ≡ c → getD (f t T .table) i 0 ≡ c) where
   asking-off : (m : Option Ty) (b : Bool) (r : Res Ty) (U T : Table) → getD T i 0 ≡ c → getD U i 0 ≡ c → getD (asking m b l (record { res = r; table = U }) T f .table) i 0 ≡ c

@@ -13,7 +13,7 @@ use Rattle.sheet.specs.Line.{Line}
 use Rattle.sheet.specs.Load.{Loaded, lines, refused as unread, load}
 use Rattle.sheet.specs.Tree.{build as trees}
 use Rattle.rules.specs.Text.{Name}
-use Rattle.rules.specs.Ast.{Expr, Field, Entry, Stmt, guard, bind, emit, assign, do', Item, state, event, invariant, genesis, entry, line, next, contractOf}
+use Rattle.rules.specs.Ast.{Expr, Field, Entry, Stmt, guard, bind, emit, assign, do', Item, state, event, invariant, genesis, entry, line, lineAfter, contractOf}
 use Rattle.rules.specs.Asking.{Ty, Int, Rule, ret, Out, fresh, Res, ok, refused, ifSome}
 use Rattle.rules.specs.Kept.{kept, marks}
 use Rattle.rules.specs.Model.{Model, itemModel, joined, build}
@@ -51,7 +51,7 @@ boundR Γ x (refused r) i = Γ
 abbrev bodyPairs : Env → List Stmt → List Pair
 bodyPairs Γ [] = []
 bodyPairs Γ (guard e ∷ ss) = (Γ, e) ∷ bodyPairs Γ ss
-bodyPairs Γ (bind x v ∷ ss) = (Γ, v) ∷ bodyPairs (boundR Γ x (fresh (tyOf Γ v) .res) (next v)) ss
+bodyPairs Γ (bind x v ∷ ss) = (Γ, v) ∷ bodyPairs (boundR Γ x (fresh (tyOf Γ v) .res) (lineAfter v)) ss
 bodyPairs Γ (emit x es ∷ ss) = withEnv Γ es ++ bodyPairs Γ ss
 bodyPairs Γ (assign s o t v ∷ ss) = (Γ, t) ∷ (Γ, v) ∷ bodyPairs Γ ss
 bodyPairs Γ (do' e ∷ ss) = (Γ, e) ∷ bodyPairs Γ ss
@@ -104,47 +104,47 @@ exprs-all M (i ∷ is') = exprs-append (itemPairs M i) _ ∙ rw (exprs-item M i,
 -- ------------------------------------------------------------ no bound `let` ends behind what is asked
 
 abbrev Plain : Pair → Type 0
-Plain p = Past (p .0 .lets) (line (p .1))
+Plain p = Past (p .0 .ends) (line (p .1))
 
 -- what is plain of the expressions es, and where those behind them start
 abbrev Passed : List Pair → (i j : ℕ) → List Expr → Type 0
 Passed ps i j fs = All Plain ps × (k : ℕ) × (i ≤ k) × Ordered k j fs
 
 -- expressions from a line on, behind which no bound `let` ends
-plain-with : (Γ : Env) (es fs : List Expr) (i j : ℕ) → Past (Γ .lets) i → Ordered i j (es ++ fs) → Passed (withEnv Γ es) i j fs
+plain-with : (Γ : Env) (es fs : List Expr) (i j : ℕ) → Past (Γ .ends) i → Ordered i j (es ++ fs) → Passed (withEnv Γ es) i j fs
 plain-with Γ [] fs i j p o = (tt, i, omega arith, o)
 plain-with Γ (e ∷ es) fs i j p o =
     let a = o .0 in
     let b = ends e (o .1) in
-    let r = plain-with Γ es fs (next e) j (past-on (Γ .lets) i (next e) p (omega arith)) (o .2) in
+    let r = plain-with Γ es fs (lineAfter e) j (past-on (Γ .ends) i (lineAfter e) p (omega arith)) (o .2) in
     let c = r .2 in
-    ((past-on (Γ .lets) i (line e) p a, r .0), r .1, omega arith, r .3)
+    ((past-on (Γ .ends) i (line e) p a, r .0), r .1, omega arith, r .3)
 
-past-bound : (Γ : Env) (x : Name) (r : Res Ty) (i j : ℕ) → Past (Γ .lets) i → i ≤ j → Past (boundR Γ x r j .lets) j
+past-bound : (Γ : Env) (x : Name) (r : Res Ty) (i j : ℕ) → Past (Γ .ends) i → i ≤ j → Past (boundR Γ x r j .ends) j
 unfolding bound
-past-bound Γ x (ok t) i j p h = all-append (λ b. b .1 ≤ j) (Γ .lets) ((x, j) ∷ []) (past-on (Γ .lets) i j p h) (omega arith, tt)
-past-bound Γ x (refused r) i j p h = past-on (Γ .lets) i j p h
+past-bound Γ x (ok t) i j p h = all-append (λ b. b .1 ≤ j) (Γ .ends) ((x, j) ∷ []) (past-on (Γ .ends) i j p h) (omega arith, tt)
+past-bound Γ x (refused r) i j p h = past-on (Γ .ends) i j p h
 
 -- ... and what comes behind them
-plain-then : (Γ : Env) (es : List Expr) (ps : List Pair) (gs fs : List Expr) (i j : ℕ) → Past (Γ .lets) i → Ordered i j (es ++ gs)
-    → ((k : ℕ) → Past (Γ .lets) k → Ordered k j gs → Passed ps k j fs) → Passed (withEnv Γ es ++ ps) i j fs
+plain-then : (Γ : Env) (es : List Expr) (ps : List Pair) (gs fs : List Expr) (i j : ℕ) → Past (Γ .ends) i → Ordered i j (es ++ gs)
+    → ((k : ℕ) → Past (Γ .ends) k → Ordered k j gs → Passed ps k j fs) → Passed (withEnv Γ es ++ ps) i j fs
 plain-then Γ es ps gs fs i j p o f =
     let r = plain-with Γ es gs i j p o in
-    let q = f (r .1) (past-on (Γ .lets) i (r .1) p (r .2)) (r .3) in
+    let q = f (r .1) (past-on (Γ .ends) i (r .1) p (r .2)) (r .3) in
     let a = r .2 in
     let b = q .2 in
     (all-append Plain (withEnv Γ es) ps (r .0) (q .0), q .1, omega arith, q .3)
 
-plain-body : (Γ : Env) (ss : List Stmt) (fs : List Expr) (i j : ℕ) → Past (Γ .lets) i → Ordered i j (bodyExprs ss ++ fs) → Passed (bodyPairs Γ ss) i j fs
+plain-body : (Γ : Env) (ss : List Stmt) (fs : List Expr) (i j : ℕ) → Past (Γ .ends) i → Ordered i j (bodyExprs ss ++ fs) → Passed (bodyPairs Γ ss) i j fs
 unfolding bodyExprs
 plain-body Γ [] fs i j p o = (tt, i, omega arith, o)
 plain-body Γ (guard e ∷ ss) fs i j p o = plain-then Γ (e ∷ []) (bodyPairs Γ ss) (bodyExprs ss ++ fs) fs i j p o (λ k. plain-body Γ ss fs k j)
 plain-body Γ (bind x v ∷ ss) fs i j p o =
     let a = o .0 in
     let b = ends v (o .1) in
-    let r = plain-body _ ss fs (next v) j (past-bound Γ x (fresh (tyOf Γ v) .res) i (next v) p (omega arith)) (o .2) in
+    let r = plain-body _ ss fs (lineAfter v) j (past-bound Γ x (fresh (tyOf Γ v) .res) i (lineAfter v) p (omega arith)) (o .2) in
     let c = r .2 in
-    ((past-on (Γ .lets) i (line v) p a, r .0), r .1, omega arith, r .3)
+    ((past-on (Γ .ends) i (line v) p a, r .0), r .1, omega arith, r .3)
 plain-body Γ (emit x es ∷ ss) fs i j p o = plain-then Γ es (bodyPairs Γ ss) (bodyExprs ss ++ fs) fs i j p (rw append-assoc at o) (λ k. plain-body Γ ss fs k j)
 plain-body Γ (assign s op t v ∷ ss) fs i j p o = plain-then Γ (t ∷ v ∷ []) (bodyPairs Γ ss) (bodyExprs ss ++ fs) fs i j p o (λ k. plain-body Γ ss fs k j)
 plain-body Γ (do' e ∷ ss) fs i j p o = plain-then Γ (e ∷ []) (bodyPairs Γ ss) (bodyExprs ss ++ fs) fs i j p o (λ k. plain-body Γ ss fs k j)
@@ -167,11 +167,11 @@ plain-all M (x ∷ xs) i j o =
 
 abbrev outOf : List Pair → ℕ → Out Ty
 outOf [] x = fresh (ret Int)
-outOf (p ∷ ps) x = cond (ltb x (next (p .1))) (outAt (p .0) (p .1) x) (outOf ps x)
+outOf (p ∷ ps) x = cond (ltb x (lineAfter (p .1))) (outAt (p .0) (p .1) x) (outOf ps x)
 
 ordered-most : (i j : ℕ) (es : List Expr) → Ordered i j es → i ≤ j
 ordered-most i j [] h = h
-ordered-most i j (e ∷ es) h = let a = ends e (h .1) in let b = ordered-most (next e) j es (h .2) in let c = h .0 in omega arith
+ordered-most i j (e ∷ es) h = let a = ends e (h .1) in let b = ordered-most (lineAfter e) j es (h .2) in let c = h .0 in omega arith
 
 module _ (m : ℕ → Out Ty) (n : ℕ) where
   abbrev Q : Bool → ℕ → Rule Ty → Type 0
@@ -185,11 +185,11 @@ module _ (m : ℕ → Out Ty) (n : ℕ) where
   fits-pairs (p ∷ ps) i j o b q f =
       let e = p .1 in
       let a = ends e (o .1) in
-      let c = ordered-most (next e) j (exprs ps) (o .2) in
+      let c = ordered-most (lineAfter e) j (exprs ps) (o .2) in
       let d = o .0 in (
         fits m n (p .0) (line e) (q .0) e (omega arith) (o .1) (omega arith)
-            (λ x u v. f x (omega arith) (omega arith) ∙ rw (lt-ltb x (next e) v)),
-        fits-pairs ps (next e) j (o .2) b (q .1) (λ x u v. f x (omega arith) v ∙ rw (le-ltb x (next e) u)),
+            (λ x u v. f x (omega arith) (omega arith) ∙ rw (lt-ltb x (lineAfter e) v)),
+        fits-pairs ps (lineAfter e) j (o .2) b (q .1) (λ x u v. f x (omega arith) v ∙ rw (le-ltb x (lineAfter e) u)),
       )
 
   each-with : (Γ : Env) (es : List Expr) → All FitsIn (withEnv Γ es) → FitsEach Q Γ es
@@ -199,7 +199,7 @@ module _ (m : ℕ → Out Ty) (n : ℕ) where
   each-body : (Γ : Env) (ss : List Stmt) → All FitsIn (bodyPairs Γ ss) → FitsBody Q Γ ss
   each-body Γ [] h = tt
   each-body Γ (guard e ∷ ss) h = (h .0, each-body Γ ss (h .1))
-  each-body Γ (bind x v ∷ ss) h = (h .0, λ t q. each-body (bound Γ x t (next v)) ss (rw q at (h .1)))
+  each-body Γ (bind x v ∷ ss) h = (h .0, λ t q. each-body (bound Γ x t (lineAfter v)) ss (rw q at (h .1)))
   each-body Γ (emit x es ∷ ss) h = let r = all-split FitsIn (withEnv Γ es) _ h in (each-with Γ es (r .0), each-body Γ ss (r .1))
   each-body Γ (assign s o t v ∷ ss) h = (h .0, h .1 .0, each-body Γ ss (h .1 .1))
   each-body Γ (do' e ∷ ss) h = (h .0, each-body Γ ss (h .1))

@@ -157,6 +157,19 @@ Throughout Q R (ret a) = Unit
 Throughout Q R (refuse r) = Unit
 Throughout Q R (ask g l p k) = Q g l p × Throughout Q R p × ((t : Ty) → R p t → Throughout Q R (k t))
 
+-- P holds of the asking's line
+abbrev pub OfLine : (ℕ → Type 0) → Bool → ℕ → Rule Ty → Type 0
+OfLine P g l p = P l
+
+-- any answer
+abbrev pub Any : Rule Ty → Ty → Type 0
+Any p t = Unit
+
+pub throughout-map : (P Q : ℕ → Type 0) → ((l : ℕ) → P l → Q l) → {A : Type 0} (p : Rule A) → Throughout (OfLine P) Any p → Throughout (OfLine Q) Any p
+throughout-map P Q f (ret a) h = tt
+throughout-map P Q f (refuse r) h = tt
+throughout-map P Q f (ask g l p k) h = (f l (h .0), throughout-map P Q f p (h .1), λ t u. throughout-map P Q f (k t) (h .2 t u))
+
 -- the asking is of a line below n, types it as m says, and is no exception
 abbrev pub Mapped : (ℕ → Out Ty) → ℕ → Bool → ℕ → Rule Ty → Type 0
 Mapped m n g l p = (fresh p ≡ m l) × (l < n) × (g ≡ false)

@@ -49,6 +49,6 @@ mutual
   has-none-of nil = refl
   has-none-of (more e es) = rw (has-none e) (has-none-of es)
 
-pub not-stale : (Γ : Env) (e : Expr) → Past (Γ .lets) (line e) → stale Γ e ≡ false
+pub not-stale : (Γ : Env) (e : Expr) → Past (Γ .ends) (line e) → stale Γ e ≡ false
 unfolding stale
-not-stale Γ e p = rw (none-later (Γ .lets) (line e) p) (has-none e)
+not-stale Γ e p = rw (none-later (Γ .ends) (line e) p) (has-none e)

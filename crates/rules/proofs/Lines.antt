@@ -1,18 +1,16 @@
 -- Expressions whose lines are numbered as a sheet numbers them: a record's parts follow it directly.
--- Then a map m as `Coherence` wants it is there, and the typing of an expression with kept types is what the rules say.
+-- Then a map m as `Coherence` wants it is there. Assumes nothing.
 use mathlib.Core.Path.{_≡_, refl, sym, _∙_}
 use mathlib.Core.Bool.{Bool, false, cond}
 use Prim.Native.Nat.{ℕ, _<_, _≤_, suc}
 use native.Mathlib.Omega.{arith}
 use lib.Dec.{eqb, ltb}
-use lib.ListN.{length}
 use borrow.Author.Tests.{eq-eqb, ne-eqb, lt-ltb, le-ltb}
-use Rattle.rules.specs.Ast.{Expr, leaf, unary, binary, field, call, wrap, Exprs, nil, more, line, next, nexts}
+use Rattle.rules.specs.Ast.{Expr, leaf, unary, binary, field, call, wrap, Exprs, nil, more, line, lineAfter, linesAfter}
 use Rattle.rules.specs.Asking.{Ty, Int, Rule, ret, Out, fresh}
-use Rattle.rules.specs.Typing.{Env, stale, typing, tyOf}
-use Rattle.rules.specs.Kept.{Table}
-use Rattle.rules.proofs.Keeps.{Mapped, Afresh, Consistent, Keeps, keeps}
-use Rattle.rules.proofs.Coherence.{Fits, FitsAll, c-tyOf}
+use Rattle.rules.specs.Typing.{Env, stale, typing}
+use Rattle.rules.proofs.Keeps.{OfLine, Mapped, Afresh}
+use Rattle.rules.proofs.Coherence.{Fits, FitsAll}
 use Rattle.rules.proofs.Lets.{Past, past-on, not-stale}
 
 -- each part stands directly behind what is before it
@@ -20,35 +18,32 @@ abbrev mutual
   pub Numbered : Expr → Type 0
   Numbered (leaf l s k) = Unit
   Numbered (unary l s o e) = (line e ≡ suc l) × Numbered e
-  Numbered (binary l s o a b) = (line a ≡ suc l) × (line b ≡ next a) × Numbered a × Numbered b
+  Numbered (binary l s o a b) = (line a ≡ suc l) × (line b ≡ lineAfter a) × Numbered a × Numbered b
   Numbered (field l s e x k) = (line e ≡ suc l) × Numbered e
-  Numbered (call l s c es) = (line c ≡ suc l) × Numbered c × NumberedFrom (next c) es
+  Numbered (call l s c es) = (line c ≡ suc l) × Numbered c × NumberedFrom (lineAfter c) es
   Numbered (wrap l s w e) = (line e ≡ suc l) × Numbered e
 
   pub NumberedFrom : ℕ → Exprs → Type 0
   NumberedFrom i nil = Unit
-  NumberedFrom i (more e es) = (line e ≡ i) × Numbered e × NumberedFrom (next e) es
+  NumberedFrom i (more e es) = (line e ≡ i) × Numbered e × NumberedFrom (lineAfter e) es
 
 mutual
   unfolding line
 
-  pub ends : (e : Expr) → Numbered e → line e < next e
+  pub ends : (e : Expr) → Numbered e → line e < lineAfter e
   ends (leaf l s k) h = omega arith
   ends (unary l s o e) h = omega (arith, ends e (h .1))
   ends (binary l s o a b) h = omega (arith, ends a (h .2), ends b (h .3))
   ends (field l s e x k) h = omega (arith, ends e (h .1))
-  ends (call l s c es) h = omega (arith, ends c (h .1), ends-all (next c) es (h .2))
+  ends (call l s c es) h = omega (arith, ends c (h .1), ends-all (lineAfter c) es (h .2))
   ends (wrap l s w e) h = omega (arith, ends e (h .1))
 
-  pub ends-all : (i : ℕ) (es : Exprs) → NumberedFrom i es → i ≤ nexts i es
+  pub ends-all : (i : ℕ) (es : Exprs) → NumberedFrom i es → i ≤ linesAfter i es
   ends-all i nil h = omega arith
-  ends-all i (more e es) h = omega (arith, ends e (h .1), ends-all (next e) es (h .2))
+  ends-all i (more e es) h = omega (arith, ends e (h .1), ends-all (lineAfter e) es (h .2))
 
 -- what holds of each line of an expression holds of the askings that type it
 module _ (P : ℕ → Type 0) (R : Rule Ty → Ty → Type 0) (Γ : Env) where
-  abbrev OfLine : Bool → ℕ → Rule Ty → Type 0
-  OfLine g l p = P l
-
   -- of each line from i up to j
   abbrev Between : ℕ → ℕ → Type 0
   Between i j = (l : ℕ) → i ≤ l → l < j → P l
@@ -56,7 +51,7 @@ module _ (P : ℕ → Type 0) (R : Rule Ty → Ty → Type 0) (Γ : Env) where
   mutual
     unfolding line
 
-    pub fits-lines : (e : Expr) → Numbered e → Between (line e) (next e) → Fits OfLine R Γ e
+    pub fits-lines : (e : Expr) → Numbered e → Between (line e) (lineAfter e) → Fits (OfLine P) R Γ e
     fits-lines (leaf l s k) h f = f l (omega arith) (omega arith)
     fits-lines (unary l s o e) h f =
         let z = ends e (h .1) in
@@ -68,33 +63,33 @@ module _ (P : ℕ → Type 0) (R : Rule Ty → Ty → Type 0) (Γ : Env) where
     fits-lines (field l s e n m) h f = let z = ends e (h .1) in f l (omega arith) (omega arith)
     fits-lines (call l s c es) h f =
         let y = ends c (h .1) in
-        let z = ends-all (next c) es (h .2) in
-        (f l (omega arith) (omega arith), fits-lines-all (next c) es (h .2) (λ x u v. f x (omega arith) v))
+        let z = ends-all (lineAfter c) es (h .2) in
+        (f l (omega arith) (omega arith), fits-lines-all (lineAfter c) es (h .2) (λ x u v. f x (omega arith) v))
     fits-lines (wrap l s w e) h f =
         let z = ends e (h .1) in
         (f l (omega arith) (omega arith), fits-lines e (h .1) (λ x u v. f x (omega arith) v))
 
-    fits-lines-all : (i : ℕ) (es : Exprs) → NumberedFrom i es → Between i (nexts i es) → FitsAll OfLine R Γ es
+    fits-lines-all : (i : ℕ) (es : Exprs) → NumberedFrom i es → Between i (linesAfter i es) → FitsAll (OfLine P) R Γ es
     fits-lines-all i nil h f = tt
     fits-lines-all i (more e es) h f =
         let y = ends e (h .1) in
-        let z = ends-all (next e) es (h .2) in
+        let z = ends-all (lineAfter e) es (h .2) in
         let w = h .0 in
-        (fits-lines e (h .1) (λ x u v. f x (omega arith) (omega arith)), fits-lines-all (next e) es (h .2) (λ x u v. f x (omega arith) v))
+        (fits-lines e (h .1) (λ x u v. f x (omega arith) (omega arith)), fits-lines-all (lineAfter e) es (h .2) (λ x u v. f x (omega arith) v))
 
 -- what typing line i of the expression comes to
 abbrev mutual
   pub outAt : Env → Expr → ℕ → Out Ty
   outAt Γ (leaf l s k) i = fresh (typing Γ (leaf l s k))
   outAt Γ (unary l s o e) i = cond (eqb i l) (fresh (typing Γ (unary l s o e))) (outAt Γ e i)
-  outAt Γ (binary l s o a b) i = cond (eqb i l) (fresh (typing Γ (binary l s o a b))) (cond (ltb i (next a)) (outAt Γ a i) (outAt Γ b i))
+  outAt Γ (binary l s o a b) i = cond (eqb i l) (fresh (typing Γ (binary l s o a b))) (cond (ltb i (lineAfter a)) (outAt Γ a i) (outAt Γ b i))
   outAt Γ (field l s e x k) i = fresh (typing Γ (field l s e x k))
   outAt Γ (call l s c es) i = cond (eqb i l) (fresh (typing Γ (call l s c es))) (outsAt Γ es i)
   outAt Γ (wrap l s w e) i = cond (eqb i l) (fresh (typing Γ (wrap l s w e))) (outAt Γ e i)
 
   pub outsAt : Env → Exprs → ℕ → Out Ty
   outsAt Γ nil i = fresh (ret Int)
-  outsAt Γ (more e es) i = cond (ltb i (next e)) (outAt Γ e i) (outsAt Γ es i)
+  outsAt Γ (more e es) i = cond (ltb i (lineAfter e)) (outAt Γ e i) (outsAt Γ es i)
 
 at-line : {A : Type 0} (l : ℕ) (x y : A) → cond (eqb l l) x y ≡ x
 at-line l x y = rw (eq-eqb l l refl)
@@ -126,56 +121,50 @@ module _ (m : ℕ → Out Ty) where
   rest k a b c g h p q f i u v = f i (omega arith) v ∙ behind i k (g i) (h i) (omega arith)
 
 -- no bound `let` ends behind line k, from which on the expressions stand
-module _ (m : ℕ → Out Ty) (n : ℕ) (Γ : Env) (k : ℕ) (past : Past (Γ .lets) k) where
+module _ (m : ℕ → Out Ty) (n : ℕ) (Γ : Env) (k : ℕ) (past : Past (Γ .ends) k) where
   now : (e : Expr) → k ≤ line e → stale Γ e ≡ false
-  now e h = not-stale Γ e (past-on (Γ .lets) k (line e) past h)
+  now e h = not-stale Γ e (past-on (Γ .ends) k (line e) past h)
 
   mutual
     unfolding line
 
-    pub fits : (e : Expr) → k ≤ line e → Numbered e → next e ≤ n → Says m (outAt Γ e) (line e) (next e) → Fits (Mapped m n) Afresh Γ e
+    pub fits : (e : Expr) → k ≤ line e → Numbered e → lineAfter e ≤ n → Says m (outAt Γ e) (line e) (lineAfter e) → Fits (Mapped m n) Afresh Γ e
     fits (leaf l s v) g h b f = (sym (f l (omega arith) (omega arith)), omega arith, now _ g)
     fits (unary l s o e) g h b f =
         let z = ends e (h .1) in
-        let j : l < next e = omega arith in
-        ((here m l (next e) _ (outAt Γ e) j f, omega arith, now _ g), fits e (omega arith) (h .1) b (within m l (next e) (line e) (next e) _ _ (omega arith) (omega arith) f))
+        let j : l < lineAfter e = omega arith in
+        ((here m l (lineAfter e) _ (outAt Γ e) j f, omega arith, now _ g), fits e (omega arith) (h .1) b (within m l (lineAfter e) (line e) (lineAfter e) _ _ (omega arith) (omega arith) f))
     fits (binary l s o a c) g h b f =
         let z = ends a (h .2) in
         let y = ends c (h .3) in
-        let j : l < next c = omega arith in
-        let says : Says m (λ i. cond (ltb i (next a)) (outAt Γ a i) (outAt Γ c i)) (line a) (next c) =
-        within m l (next c) (line a) (next c) _ _ (omega arith) (omega arith) f
+        let j : l < lineAfter c = omega arith in
+        let says : Says m (λ i. cond (ltb i (lineAfter a)) (outAt Γ a i) (outAt Γ c i)) (line a) (lineAfter c) =
+        within m l (lineAfter c) (line a) (lineAfter c) _ _ (omega arith) (omega arith) f
         in (
-          (here m l (next c) _ _ j f, omega arith, now _ g),
-          fits a (omega arith) (h .2) (omega arith) (first m (next a) (line a) (next c) (outAt Γ a) (outAt Γ c) (omega arith) says),
-          fits c (omega arith) (h .3) b (rest m (next a) (line a) (next c) (line c) (outAt Γ a) (outAt Γ c) (omega arith) (omega arith) says),
+          (here m l (lineAfter c) _ _ j f, omega arith, now _ g),
+          fits a (omega arith) (h .2) (omega arith) (first m (lineAfter a) (line a) (lineAfter c) (outAt Γ a) (outAt Γ c) (omega arith) says),
+          fits c (omega arith) (h .3) b (rest m (lineAfter a) (line a) (lineAfter c) (line c) (outAt Γ a) (outAt Γ c) (omega arith) (omega arith) says),
         )
     fits (field l s e x v) g h b f = let z = ends e (h .1) in (sym (f l (omega arith) (omega arith)), omega arith, now _ g)
     fits (call l s c es) g h b f =
         let z = ends c (h .1) in
-        let y = ends-all (next c) es (h .2) in
-        let j : l < nexts (next c) es = omega arith in (
-          (here m l (nexts (next c) es) _ (outsAt Γ es) j f, omega arith, now _ g),
-          fits-all (next c) es (omega arith) (h .2) b (within m l (nexts (next c) es) (next c) (nexts (next c) es) _ _ (omega arith) (omega arith) f),
+        let y = ends-all (lineAfter c) es (h .2) in
+        let j : l < linesAfter (lineAfter c) es = omega arith in (
+          (here m l (linesAfter (lineAfter c) es) _ (outsAt Γ es) j f, omega arith, now _ g),
+          fits-all (lineAfter c) es (omega arith) (h .2) b (within m l (linesAfter (lineAfter c) es) (lineAfter c) (linesAfter (lineAfter c) es) _ _ (omega arith) (omega arith) f),
         )
     fits (wrap l s w e) g h b f =
         let z = ends e (h .1) in
-        let j : l < next e = omega arith in
-        ((here m l (next e) _ (outAt Γ e) j f, omega arith, now _ g), fits e (omega arith) (h .1) b (within m l (next e) (line e) (next e) _ _ (omega arith) (omega arith) f))
+        let j : l < lineAfter e = omega arith in
+        ((here m l (lineAfter e) _ (outAt Γ e) j f, omega arith, now _ g), fits e (omega arith) (h .1) b (within m l (lineAfter e) (line e) (lineAfter e) _ _ (omega arith) (omega arith) f))
 
-    pub fits-all : (i : ℕ) (es : Exprs) → k ≤ i → NumberedFrom i es → nexts i es ≤ n → Says m (outsAt Γ es) i (nexts i es) → FitsAll (Mapped m n) Afresh Γ es
+    pub fits-all : (i : ℕ) (es : Exprs) → k ≤ i → NumberedFrom i es → linesAfter i es ≤ n → Says m (outsAt Γ es) i (linesAfter i es) → FitsAll (Mapped m n) Afresh Γ es
     fits-all i nil g h b f = tt
     fits-all i (more e es) g h b f =
         let z = ends e (h .1) in
-        let y = ends-all (next e) es (h .2) in
-        let says : Says m (λ x. cond (ltb x (next e)) (outAt Γ e x) (outsAt Γ es x)) (line e) (nexts (next e) es) = λ x u v. f x (omega arith) v in (
-          fits e (omega arith) (h .1) (omega arith) (first m (next e) (line e) (nexts (next e) es) (outAt Γ e) (outsAt Γ es) (omega arith) says),
-          fits-all (next e) es (omega arith) (h .2) b
-              (rest m (next e) (line e) (nexts (next e) es) (next e) (outAt Γ e) (outsAt Γ es) (omega arith) (omega arith) says),
+        let y = ends-all (lineAfter e) es (h .2) in
+        let says : Says m (λ x. cond (ltb x (lineAfter e)) (outAt Γ e x) (outsAt Γ es x)) (line e) (linesAfter (lineAfter e) es) = λ x u v. f x (omega arith) v in (
+          fits e (omega arith) (h .1) (omega arith) (first m (lineAfter e) (line e) (linesAfter (lineAfter e) es) (outAt Γ e) (outsAt Γ es) (omega arith) says),
+          fits-all (lineAfter e) es (omega arith) (h .2) b
+              (rest m (lineAfter e) (line e) (linesAfter (lineAfter e) es) (lineAfter e) (outAt Γ e) (outsAt Γ es) (omega arith) (omega arith) says),
         )
-
--- Demand 3, for one expression: typed with kept types on a consistent table, it comes to what the rules say, and the table
--- has the marks of the rules' askings.
-pub typed-kept : (Γ : Env) (e : Expr) (T : Table) → Past (Γ .lets) (line e) → Numbered e → next e ≤ length T → Consistent (outAt Γ e) T → Keeps (outAt Γ e) (tyOf Γ e) T
-typed-kept Γ e T past h b w =
-    keeps (outAt Γ e) (length T) (tyOf Γ e) T (c-tyOf (Mapped (outAt Γ e) (length T)) Afresh Γ e (fits (outAt Γ e) (length T) Γ (line e) past e (omega arith) h b (λ x u v. refl))) refl w

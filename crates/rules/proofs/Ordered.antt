@@ -14,7 +14,7 @@ use Rattle.sheet.specs.Scratch.{endAt}
 use Rattle.sheet.specs.Held.{Formed, formed, FormedAll, none-due, one-due, Held, held, HeldAll, no-tree, tree}
 use Rattle.sheet.proofs.Due.{length-times}
 use Rattle.sheet.proofs.Loaded.{loaded}
-use Rattle.rules.specs.Ast.{Expr, Field, Item, state, event, invariant, genesis, entry, line, next, exprOf, fieldOf, clauseOf, stmtOf, itemOf, contractOf, nodes}
+use Rattle.rules.specs.Ast.{Expr, Field, Item, state, event, invariant, genesis, entry, line, lineAfter, exprOf, fieldOf, clauseOf, stmtOf, itemOf, contractOf, nodes}
 use Rattle.rules.specs.KeyKinds.{present, clauseExprs, bodyExprs, entryExprs}
 use Rattle.rules.proofs.Lines.{Numbered}
 use Rattle.rules.proofs.Parts.{Each, stop, _also_, pick, parts}
@@ -23,7 +23,7 @@ use Rattle.rules.proofs.Placed.{Placed, expr}
 -- the expressions stand in this order between line i and line j
 abbrev pub Ordered : ℕ → ℕ → List Expr → Type 0
 Ordered i j [] = i ≤ j
-Ordered i j (e ∷ es) = (i ≤ line e) × Numbered e × Ordered (next e) j es
+Ordered i j (e ∷ es) = (i ≤ line e) × Numbered e × Ordered (lineAfter e) j es
 
 -- an item's expressions, in sheet order
 abbrev pub defaults : List Field → List Expr
@@ -49,7 +49,7 @@ from j (e ∷ es) h o = (omega (arith, h, o .0), o .1, o .2)
 
 pub join : (i k j : ℕ) (es fs : List Expr) → Ordered i k es → Ordered k j fs → Ordered i j (es ++ fs)
 join i k j [] fs h o = from j fs h o
-join i k j (e ∷ es) fs h o = (h .0, h .1, join (next e) k j es fs (h .2) o)
+join i k j (e ∷ es) fs h o = (h .0, h .1, join (lineAfter e) k j es fs (h .2) o)
 
 -- an expression before others
 lead : {i k : ℕ} (j : ℕ) (e : Expr) (es : List Expr) → Placed i k e → Ordered k j es → Ordered i j (e ∷ es)

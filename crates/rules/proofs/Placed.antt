@@ -9,13 +9,13 @@ use Rattle.sheet.specs.Load.{times, sorts}
 use Rattle.sheet.specs.Tree.{Node, node, Nodes}
 use Rattle.sheet.specs.Scratch.{endAt}
 use Rattle.sheet.specs.Held.{Among, Parted, Formed, formed, FormedAll, none-due, one-due, Held, held, HeldAll, no-tree, tree}
-use Rattle.rules.specs.Ast.{Checked, Expr, wrap, Exprs, nil, more, line, next, nexts, exprOf, exprsOf}
+use Rattle.rules.specs.Ast.{Checked, Expr, wrap, Exprs, nil, more, line, lineAfter, linesAfter, exprOf, exprsOf}
 use Rattle.rules.proofs.Lines.{Numbered, NumberedFrom}
 use Rattle.rules.proofs.Parts.{Each, stop, _also_, pick, parts}
 
 -- an expression that stands from line i up to line j
 abbrev pub Placed : ℕ → ℕ → Expr → Type 0
-Placed i j e = (line e ≡ i) × Numbered e × (next e ≡ j)
+Placed i j e = (line e ≡ i) × Numbered e × (lineAfter e ≡ j)
 
 -- n expressions, one behind another, from line i up to line j
 pub data Chain : ℕ → ℕ → ℕ → Exprs → Type 0 where
@@ -31,7 +31,7 @@ one-part (link {e = e} p end) = (e, refl, p)
 first-part : {n i k : ℕ} {es : Exprs} → Chain (suc n) i k es → (e : Expr) × (r : Exprs) × (j : ℕ) × (es ≡ more e r) × Placed i j e × Chain n j k r
 first-part (link {j = j} {e = e} {es = es} p c) = (e, es, j, refl, p, c)
 
-chained : {n i j : ℕ} {es : Exprs} → Chain n i j es → NumberedFrom i es × (nexts i es ≡ j)
+chained : {n i j : ℕ} {es : Exprs} → Chain n i j es → NumberedFrom i es × (linesAfter i es ≡ j)
 chained end = (tt, refl)
 chained (link p c) = let q = chained c in ((p .0, p .1, rw (p .2) (q .0)), rw (p .2) (q .1))
 

@@ -7,7 +7,7 @@ use Prim.Native.Nat.{ℕ, zero, suc}
 use native.Mathlib.Omega.{arith}
 use lib.ListN.{getElem?}
 use Rattle.rules.specs.Text.{Name}
-use Rattle.rules.specs.Ast.{AssignOp, Expr, leaf, unary, binary, field, call, wrap, Exprs, nil, more, Param, Field, Clause, limits, denies, mints, after, Entry, Stmt, guard, bind, emit, assign, do', list, next}
+use Rattle.rules.specs.Ast.{AssignOp, Expr, leaf, unary, binary, field, call, wrap, Exprs, nil, more, Param, Field, Clause, limits, denies, mints, after, Entry, Stmt, guard, bind, emit, assign, do', list, lineAfter}
 use Rattle.rules.specs.Asking.{Ty, Rule, ret, _>>_, fresh, ok, forEach, ifSome}
 use Rattle.rules.specs.Model.{Model}
 use Rattle.rules.specs.Typing.{Env, new, bound, Asked, Call, callOf, typings, askOf, tyOf}
@@ -99,7 +99,7 @@ module _ (Q : Bool → ℕ → Rule Ty → Type 0) where
   abbrev pub FitsBody : Env → List Stmt → Type 0
   FitsBody Γ [] = Unit
   FitsBody Γ (guard e ∷ ss) = Fits Q Afresh Γ e × FitsBody Γ ss
-  FitsBody Γ (bind x v ∷ ss) = Fits Q Afresh Γ v × ((t : Ty) → fresh (tyOf Γ v) .res ≡ ok t → FitsBody (bound Γ x t (next v)) ss)
+  FitsBody Γ (bind x v ∷ ss) = Fits Q Afresh Γ v × ((t : Ty) → fresh (tyOf Γ v) .res ≡ ok t → FitsBody (bound Γ x t (lineAfter v)) ss)
   FitsBody Γ (emit x es ∷ ss) = FitsEach Γ es × FitsBody Γ ss
   FitsBody Γ (assign s o t v ∷ ss) = Fits Q Afresh Γ t × Fits Q Afresh Γ v × FitsBody Γ ss
   FitsBody Γ (do' e ∷ ss) = Fits Q Afresh Γ e × FitsBody Γ ss
@@ -109,7 +109,7 @@ module _ (Q : Bool → ℕ → Rule Ty → Type 0) where
   w-body Γ [] h = tt
   w-body Γ (guard e ∷ ss) h = c-then Q Afresh _ _ (w-predicate Γ e (h .0)) (w-body Γ ss (h .1))
   w-body Γ (bind x v ∷ ss) h =
-      c-bind-at Q (tyOf Γ v) _ (c-tyOf Q Afresh Γ v (h .0)) (λ t q. c-then Q Afresh _ _ (s-local Q Afresh v t) (w-body (bound Γ x t (next v)) ss (h .1 t q)))
+      c-bind-at Q (tyOf Γ v) _ (c-tyOf Q Afresh Γ v (h .0)) (λ t q. c-then Q Afresh _ _ (s-local Q Afresh v t) (w-body (bound Γ x t (lineAfter v)) ss (h .1 t q)))
   w-body Γ (emit x es ∷ ss) h = c-then Q Afresh _ _ (w-args Γ es (h .0)) (c-then Q Afresh _ _ (w-emit Γ x es (h .0)) (w-body Γ ss (h .1)))
   w-body Γ (assign s o t v ∷ ss) h = c-then Q Afresh _ _ (w-stmt Γ o s t v (h .0) (h .1)) (w-body Γ ss (h .2))
   w-body Γ (do' e ∷ ss) h = c-then Q Afresh _ _ (w-do Γ e (h .0)) (c-then Q Afresh _ _ (w-recipient Γ e (h .0)) (w-body Γ ss (h .1)))

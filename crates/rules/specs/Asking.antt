@@ -32,7 +32,7 @@ pub data Res (A : Type 0) : Type 0 where
   refused : Refusal → Res A
 
 -- `ask again l p k`: the type of line l is asked, which is typed by p; then k of the answer. `again`: a bound `let`,
--- from the line's own statement on, has a name that the line mentions, so a kept type is not the answer.
+-- from the line's own statement or clause on, has a name that the line mentions, so a kept type is not the answer.
 pub data Rule : Type 0 → Type 1 where
   ret : {A : Type 0} → A → Rule A
   refuse : {A : Type 0} → Refusal → Rule A

@@ -112,18 +112,18 @@ line (wrap l s w e) = l
 
 -- the first line behind the expression
 abbrev mutual
-  pub next : Expr → ℕ
-  next (leaf l s k) = suc l
-  next (unary l s o e) = next e
-  next (binary l s o a b) = next b
-  next (field l s e n m) = next e
-  next (call l s c es) = nexts (next c) es
-  next (wrap l s w e) = next e
+  pub lineAfter : Expr → ℕ
+  lineAfter (leaf l s k) = suc l
+  lineAfter (unary l s o e) = lineAfter e
+  lineAfter (binary l s o a b) = lineAfter b
+  lineAfter (field l s e n m) = lineAfter e
+  lineAfter (call l s c es) = linesAfter (lineAfter c) es
+  lineAfter (wrap l s w e) = lineAfter e
 
   -- ... behind expressions that stand behind line i
-  pub nexts : ℕ → Exprs → ℕ
-  nexts i nil = i
-  nexts i (more e es) = nexts (next e) es
+  pub linesAfter : ℕ → Exprs → ℕ
+  linesAfter i nil = i
+  linesAfter i (more e es) = linesAfter (lineAfter e) es
 
 -- the leaf of an expression with no parts
 unfoldable pub leafOf : Expr → Option Leaf

@@ -3,7 +3,7 @@ use Prim.Native.Nat.{ℕ}
 use mathlib.Core.List.{List, [], _∷_, map}
 use mathlib.Core.Bool.{true, false, not}
 use Rattle.rules.specs.Text.{Name, isOne, Piece, lit, raw}
-use Rattle.rules.specs.Ast.{Type', Set, id, Expr, leaf, Field, Param, Clause, limits, denies, mints, after, Entry, Stmt, guard, bind, emit, assign, do', span, next, typeName, typeSpan}
+use Rattle.rules.specs.Ast.{Type', Set, id, Expr, leaf, Field, Param, Clause, limits, denies, mints, after, Entry, Stmt, guard, bind, emit, assign, do', span, lineAfter, typeName, typeSpan}
 use Rattle.rules.specs.Asking.{Ty, Collection, Rule, ret, _>>=_, _>>_, expect, ifSome, forEach}
 use Rattle.rules.specs.Declared.{tyOfDecl, eqTy}
 use Rattle.rules.specs.Declarations.{guardianFits, guardianBound, storable, eventFieldType, refuseWord64AsDigest}
@@ -37,7 +37,7 @@ checkBody Γ (guard e ∷ ss) = do
 checkBody Γ (bind x value ∷ ss) = do
   ty ← tyOf Γ value
   checkLocal value ty
-  checkBody (bound Γ x ty (next value)) ss
+  checkBody (bound Γ x ty (lineAfter value)) ss
 checkBody Γ (emit x es ∷ ss) = do
   forEach es λ arg. tyOf Γ arg >> ret tt
   checkEmitFields Γ x es

@@ -18,18 +18,18 @@ pub record Env : Type 0 where
   pub locals : List (Name × Ty)
   pub genesis : Bool
   -- the same `let`s, each with the first line behind it: what document 01's exception goes by
-  pub lets : List (Name × ℕ)
+  pub ends : List (Name × ℕ)
 
 unfoldable pub new : Model → List (Name × Ty) → Env
-new m params = record { model = m; params = params; locals = []; genesis = false; lets = [] }
+new m params = record { model = m; params = params; locals = []; genesis = false; ends = [] }
 
 unfoldable pub inGenesis : Env → Env
-inGenesis Γ = record { model = Γ .model; params = Γ .params; locals = Γ .locals; genesis = true; lets = Γ .lets }
+inGenesis Γ = record { model = Γ .model; params = Γ .params; locals = Γ .locals; genesis = true; ends = Γ .ends }
 
--- `env.locals.borrow_mut().insert(name, ty)`, of the `let` before line i
+-- `env.locals.borrow_mut().insert(name, ty)`, of a `let` behind which line i is the first
 unfoldable pub bound : Env → Name → Ty → ℕ → Env
 bound Γ x t i =
-    record { model = Γ .model; params = Γ .params; locals = Γ .locals ++ ((x, t) ∷ []); genesis = Γ .genesis; lets = Γ .lets ++ ((x, i) ∷ []) }
+    record { model = Γ .model; params = Γ .params; locals = Γ .locals ++ ((x, t) ∷ []); genesis = Γ .genesis; ends = Γ .ends ++ ((x, i) ∷ []) }
 
 -- ------------------------------------------------------------ views of an expression
 
@@ -362,14 +362,14 @@ unfoldable mutual
   hasAny xs nil = false
   hasAny xs (more e es) = has xs e || hasAny xs es
 
--- the names of those `let`s that end behind line i: they stand from the line's own statement or clause on
+-- the names of those behind which the first line is behind line i: they stand from the line's own statement or clause on
 unfoldable pub later : ℕ → List (Name × ℕ) → List Name
 later i [] = []
 later i (b ∷ bs) = elim (ltb i (b .1)) [ true ↦ b .0 ∷ later i bs | false ↦ later i bs ]
 
 -- document 01's exception for `let`s
 unfoldable pub stale : Env → Expr → Bool
-stale Γ e = has (later (line e) (Γ .lets)) e
+stale Γ e = has (later (line e) (Γ .ends)) e
 
 -- one asking of an expression's type, which is typed by p
 unfoldable pub asked : Env → Expr → Rule Ty → Asked

@@ -28,6 +28,10 @@ pub record Answer : Type 0 where
 unfoldable pub written : List ℕ → List ℕ → List ℕ
 written new old = new ++ drop (length new) old
 
+-- how many bytes a message has at most
+abbrev pub longest : ℕ
+longest = 16384
+
 -- a message that doesn't fit is not written at all
 unfoldable pub fitting : (most : ℕ) → List ℕ → List ℕ
 fitting most text = cond (leb (length text) most) text []

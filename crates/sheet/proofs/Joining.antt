@@ -32,7 +32,7 @@ rest-read s types n l L c r e h =
 module _ (s₁ s₂ s : List ℕ) (types₁ scratch₁ types₂ scratch₂ types scratch : ℕ) (l₁ l₂ l : List ℕ) (L₁ L₂ : List (List ℕ)) (c₁ c₂ c : Line) (r₁ r₂ : List Line)
     (lines₁ : linesOf s₁ ≡ l₁ ∷ L₁) (lines₂ : linesOf s₂ ≡ l₂ ∷ L₂) (all : linesOf s ≡ l ∷ (L₁ ++ L₂))
     (read₁ : load s₁ types₁ scratch₁ ≡ lines (c₁ ∷ r₁)) (read₂ : load s₂ types₂ scratch₂ ≡ lines (c₂ ∷ r₂))
-    (short : early s types scratch ≡ 0) (first : readLine Contract 0 l ≡ good c) (count : sorts (c .parts) ≡ sorts (c₁ .parts) ++ sorts (c₂ .parts)) where
+    (not-early : early s types scratch ≡ 0) (first : readLine Contract 0 l ≡ good c) (count : sorts (c .parts) ≡ sorts (c₁ .parts) ++ sorts (c₂ .parts)) where
   reread : Reread (r₁ ++ r₂) (scan 2 (0 + length l + 1) (due 1 (sorts (c .parts)) ++ []) (L₁ ++ L₂))
   reread =
       let p = rest-read s₁ types₁ scratch₁ l₁ L₁ c₁ r₁ lines₁ read₁ in
@@ -49,4 +49,4 @@ module _ (s₁ s₂ s : List ℕ) (types₁ scratch₁ types₂ scratch₂ types
       let q = split₂ r₁ r₂ (t .same) in
       let u : scan 1 0 ((0, Contract) ∷ []) (l ∷ (L₁ ++ L₂)) ≡ lines (c ∷ (q .0 ++ q .1)) =
       turned 1 _ (readLine Contract 0 l) (λ x. scan 2 (0 + length l + 1) (due 1 (sorts (x .parts)) ++ []) (L₁ ++ L₂)) c _ refl first (t .read ∙ ap lines (q .2))
-      in (q .0, q .1, rw (short, all) u, q .3, q .4)
+      in (q .0, q .1, rw (not-early, all) u, q .3, q .4)

@@ -6,17 +6,18 @@ use mathlib.Core.Logic.{_⊎_, inl, inr}
 use mathlib.Core.Option.{none, some}
 use Prim.Native.Nat.{ℕ, _<_}
 use native.Mathlib.Omega.{arith}
-use lib.ListN.{length, getD, set}
+use lib.ListN.{length, getD}
 use lib.Seq.{getD-set-same}
 use borrow.Author.Tests.{lt-leb}
 use Rattle.text.specs.Text.{bytes}
+use Rattle.sheet.specs.Tree.{before}
 use Rattle.rules.specs.Ast.{line}
 use Rattle.rules.specs.Computed.{computed}
-use Rattle.rules.specs.Asking.{Ty, Int, code, codeR, Res, ok, refused}
+use Rattle.rules.specs.Asking.{Ty, Int, code, Res, ok, refused}
 use Rattle.rules.specs.Kept.{Table, tyOfMark, Kept, retyped, kept}
 use Rattle.rules.specs.Typing as rules
 use Rattle.rules.specs.Typing.{has, later, stale, typing, tyOf}
-use Rattle.rules.specs.Standing.{readLines, linesIn, modelIn, before, without, treesFrom, nodeAt, nodesAt, exprAt}
+use Rattle.rules.specs.Standing.{readLines, linesIn, modelIn, without, treesFrom, nodeAt, nodesAt, exprAt}
 use Rattle.rules.proofs.AnyTable.{from-table, again, first-time}
 use Rattle.rules.proofs.Binding.{kept-length, kept-holds}
 use Rattle.rules.proofs.Exprs.{line-at}
@@ -25,7 +26,7 @@ use Rattle.declared.specs.Found.{nodeKind, ofKind}
 use Rattle.declared.specs.Refusal.{refusalOf}
 use Rattle.declared.proofs.Codes.{code-of, untold}
 use Rattle.env.specs.Answers.{typedOf, Valid}
-use Rattle.env.specs.Force.{localOf, endOf, lets, endsIn, paramsIn, envOf}
+use Rattle.env.specs.Force.{localOf, namedEnd, lets, endsIn, paramsIn, envOf}
 use Rattle.env.specs.declared.env.Env.{Env}
 use Rattle.env.specs.declared.judge.Typed.{Typed}
 use Rattle.env.specs.declared.judge.Typed.the-variants.{Is, Refused}
@@ -111,5 +112,5 @@ abbrev marked : Table
 marked = 0 ∷ 0 ∷ 0 ∷ 10 ∷ 0 ∷ 1 ∷ []
 
 pub guard-again : kept (tyOf (envOf guarded marked both-bound) (exprAt guarded 3)) marked ≡ record { res = ok Int; table = marked }
-unfolding computed envOf localOf endOf lets endsIn paramsIn ofKind nodeKind readLines linesIn modelIn without before treesFrom nodeAt nodesAt exprAt tyFrom
+unfolding computed envOf localOf namedEnd lets endsIn paramsIn ofKind nodeKind readLines linesIn modelIn without before treesFrom nodeAt nodesAt exprAt tyFrom
 guard-again = refl

@@ -9,18 +9,17 @@ use native.Mathlib.Omega.{arith}
 use borrow.Author.Needs.{needs}
 use lib.Dec.{leb}
 use lib.ListN.{length, getD, set}
-use lib.Seq.{getD-set-same}
 use Rattle.sheet.specs.Scratch.{kindAt, nameAt}
 use Rattle.rules.specs.Ast.{Wrap, line}
-use Rattle.rules.specs.Asking.{Ty, code, codeR, ok, Rule}
+use Rattle.rules.specs.Asking.{Ty, code, ok, Rule}
 use Rattle.rules.specs.Kept.{Table, kept, retyped}
 use Rattle.rules.specs.Typing.{stale, asked, typing, askOf, tyOf, tyOfDot}
 use Rattle.rules.specs.Standing.{exprAt}
 use Rattle.rules.proofs.AnyTable.{from-table, again, first-time}
-use Rattle.rules.proofs.Binding.{kept-length, kept-holds}
+use Rattle.rules.proofs.Binding.{kept-length}
 use Rattle.rules.proofs.Exprs.{line-at, dot-at, Wrapped, wrap-at}
 use Rattle.rules.proofs.Standing.{row-first}
-use Rattle.declared.specs.Codes.{tyFrom, IsCode}
+use Rattle.declared.specs.Codes.{tyFrom}
 use Rattle.declared.specs.declared.refusal.Refusal.{Refusal}
 use Rattle.declared.proofs.Codes.{code-of, code-is, from-code, told, untold}
 use Rattle.env.specs.Answers.{typedOf}

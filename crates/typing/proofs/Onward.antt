@@ -13,7 +13,7 @@ use Rattle.sheet.specs.Grammar as grammar
 use Rattle.sheet.specs.Scratch.{kindAt, endAt}
 use Rattle.sheet.specs.Tree.{Node, node, takeNodes}
 use Rattle.rules.specs.Ast.{exprsOf}
-use Rattle.rules.specs.Asking.{Ty, codeR, ok, Rule, ret, refuse, ask, _>>=_, expect}
+use Rattle.rules.specs.Asking.{Ty, codeR, ok, Rule, _>>=_, expect}
 use Rattle.rules.specs.Kept.{Table, kept}
 use Rattle.rules.specs.Text.{Name, Piece}
 use Rattle.rules.specs.Typing as rules
@@ -23,13 +23,13 @@ use Rattle.rules.proofs.All.{All}
 use Rattle.rules.proofs.Binding.{kept-length, Off, kept-off}
 use Rattle.rules.proofs.Coherence.{Fits, FitsAll, c-bind, c-expect, c-tyOf, c-typings, c-each, c-when, c-amount}
 use Rattle.rules.proofs.Forest.{here-inside, placed-at}
-use Rattle.rules.proofs.Keeps.{Throughout}
+use Rattle.rules.proofs.Keeps.{Throughout, OfLine, Any, throughout-map}
 use Rattle.rules.proofs.Lines.{fits-lines}
 use Rattle.rules.proofs.Standing.{stands, exprs-next}
 use Rattle.declared.proofs.Codes.{code-of}
 use Rattle.env.proofs.Lets.{lets-all}
 use Rattle.env.specs.Answers.{typedOf, Valid}
-use Rattle.env.specs.Force.{envOf, localOf, lets, Apart, Ready}
+use Rattle.env.specs.Force.{envOf, localOf, lets, NoValue, Ready}
 use Rattle.env.specs.declared.env.Env.{Env}
 use Rattle.env.specs.declared.judge.Typed.{Typed}
 use Rattle.env.specs.declared.judge.Typed.the-variants.{Is, Refused}
@@ -44,20 +44,20 @@ mark-code s (Refused r) h = refl
 -- ------------------------------------------------------------ lines that are no `let`'s value
 
 -- the first part of what is no `let`
-pub apart-below : (S : List ℕ) (i : ℕ) → kindAt S i ≢ 16 → Apart S (suc i)
-apart-below S i n = record { before = λ j e k. n (ap (kindAt S) (let q : i ≡ j = omega arith in q) ∙ k) }
+pub no-value-below : (S : List ℕ) (i : ℕ) → kindAt S i ≢ 16 → NoValue S (suc i)
+no-value-below S i n = record { before = λ j e k. n (ap (kindAt S) (let q : i ≡ j = omega arith in q) ∙ k) }
 
 module _ {s S : List ℕ} (d : Loaded s S) {i : ℕ} (h : Here S grammar.Expr i) where
   -- the lines behind that of an expression, up to the one behind its parts
-  behind : (l : ℕ) → i < l → l ≤ endAt S i → Apart S l
+  behind : (l : ℕ) → i < l → l ≤ endAt S i → NoValue S l
   behind l a b = record { before = λ j e k. let q = here-inside d j h (omega arith) (omega arith) in omega (arith, q .kind .0, k) }
 
-  pub apart-next : Apart S (endAt S i)
-  apart-next = behind (endAt S i) (h .after) (omega arith)
+  pub no-value-next : NoValue S (endAt S i)
+  no-value-next = behind (endAt S i) (h .after) (omega arith)
 
   -- each of its lines, where it is no `let`'s value itself
-  apart-lines : Apart S i → (l : ℕ) → i ≤ l → l < endAt S i → Apart S l
-  apart-lines a l u v = record { before = λ j e k. by-first j e k (leb l i) refl }
+  no-value-lines : NoValue S i → (l : ℕ) → i ≤ l → l < endAt S i → NoValue S l
+  no-value-lines a l u v = record { before = λ j e k. by-first j e k (leb l i) refl }
     where
       by-first : (j : ℕ) → suc j ≡ l → kindAt S j ≡ 16 → (b : Bool) → leb l i ≡ b → ⊥
       by-first j e k true q = a .before j (let w = leb-true l i q in omega arith) k
@@ -65,68 +65,62 @@ module _ {s S : List ℕ} (d : Loaded s S) {i : ℕ} (h : Here S grammar.Expr i)
 
 -- ------------------------------------------------------------ rules that ask no `let`'s value
 
-abbrev OfLine : List ℕ → Bool → ℕ → Rule Ty → Type 0
-OfLine S g l p = Apart S l
-
-abbrev Any : Rule Ty → Ty → Type 0
-Any p t = Unit
-
 abbrev pub Clear : List ℕ → {A : Type 0} → Rule A → Type 0
-Clear S = Throughout (OfLine S) Any
+Clear S = Throughout (OfLine (NoValue S)) Any
 
 module _ {s S : List ℕ} (d : Loaded s S) (Γ : rules.Env) where
-  fits-at : {i : ℕ} → Here S grammar.Expr i → Apart S i → Fits (OfLine S) Any Γ (exprAt s i)
+  fits-at : {i : ℕ} → Here S grammar.Expr i → NoValue S i → Fits (OfLine (NoValue S)) Any Γ (exprAt s i)
   fits-at {i} h a =
       let p = placed-at d h in
-      fits-lines (Apart S) Any Γ (exprAt s i) (p .1) (λ l u v. apart-lines d h a l (omega (arith, p .0, u)) (omega (arith, p .2, v)))
+      fits-lines (NoValue S) Any Γ (exprAt s i) (p .1) (λ l u v. no-value-lines d h a l (omega (arith, p .0, u)) (omega (arith, p .2, v)))
 
-  fits-row : {m i : ℕ} → Row S grammar.Expr m i → Apart S i → FitsAll (OfLine S) Any Γ (exprsAt s m i)
+  fits-row : {m i : ℕ} → Row S grammar.Expr m i → NoValue S i → FitsAll (OfLine (NoValue S)) Any Γ (exprsAt s m i)
   unfolding exprsAt takeNodes exprsOf
   fits-row stop a = tt
-  fits-row {m = suc m} {i = i} (next h r) a = rw (exprs-next d m i (h .within)) (fits-at h a, fits-row r (apart-next d h))
+  fits-row {m = suc m} {i = i} (next h r) a = rw (exprs-next d m i (h .within)) (fits-at h a, fits-row r (no-value-next d h))
 
-  pub clear-type : {i : ℕ} → Here S grammar.Expr i → Apart S i → Clear S (tyOf Γ (exprAt s i))
-  clear-type h a = c-tyOf (OfLine S) Any Γ _ (fits-at h a)
+  pub clear-type : {i : ℕ} → Here S grammar.Expr i → NoValue S i → Clear S (tyOf Γ (exprAt s i))
+  clear-type h a = c-tyOf (OfLine (NoValue S)) Any Γ _ (fits-at h a)
 
   -- ... and a judgement of it that asks nothing
-  pub clear-judged : {i : ℕ} → Here S grammar.Expr i → Apart S i → (b : Ty → Bool) (n at : ℕ) (ps : Ty → List Piece) → Clear S (tyOf Γ (exprAt s i) >>= λ t. expect (b t) n at (ps t))
-  clear-judged h a b n at ps = c-bind (OfLine S) Any _ _ (clear-type h a) (λ t. c-expect (OfLine S) Any (b t) n at (ps t))
+  pub clear-judged : {i : ℕ} → Here S grammar.Expr i → NoValue S i → (b : Ty → Bool) (n at : ℕ) (ps : Ty → List Piece) → Clear S (tyOf Γ (exprAt s i) >>= λ t. expect (b t) n at (ps t))
+  clear-judged h a b n at ps = c-bind (OfLine (NoValue S)) Any _ _ (clear-type h a) (λ t. c-expect (OfLine (NoValue S)) Any (b t) n at (ps t))
 
-  pub clear-each : {m i : ℕ} → Row S grammar.Expr m i → Apart S i → Clear S (askEach (typings Γ (exprsAt s m i)))
-  clear-each r a = c-each (OfLine S) Any _ (c-typings (OfLine S) Any Γ _ (fits-row r a))
+  pub clear-each : {m i : ℕ} → Row S grammar.Expr m i → NoValue S i → Clear S (askEach (typings Γ (exprsAt s m i)))
+  clear-each r a = c-each (OfLine (NoValue S)) Any _ (c-typings (OfLine (NoValue S)) Any Γ _ (fits-row r a))
 
-  pub clear-amount : (x : Name) {m i : ℕ} → Row S grammar.Expr m i → Apart S i → Clear S (amountRule Γ x (exprsAt s m i))
+  pub clear-amount : (x : Name) {m i : ℕ} → Row S grammar.Expr m i → NoValue S i → Clear S (amountRule Γ x (exprsAt s m i))
   unfolding amountRule
-  clear-amount x r a = c-when (OfLine S) Any _ _ (c-amount (OfLine S) Any x _ (c-typings (OfLine S) Any Γ _ (fits-row r a)))
+  clear-amount x r a = c-when (OfLine (NoValue S)) Any _ _ (c-amount (OfLine (NoValue S)) Any x _ (c-typings (OfLine (NoValue S)) Any Γ _ (fits-row r a)))
 
 clear-off : (S : List ℕ) {A : Type 0} (j : ℕ) (p : Rule A) → kindAt S j ≡ 16 → Clear S p → Off (suc j) p
-clear-off S j (ret a) k c = tt
-clear-off S j (refuse r) k c = tt
-clear-off S j (ask g l p q) k c = ((λ e. c .0 .before j e k), clear-off S j p k (c .1), λ t u. clear-off S j (q t) k (c .2 t u))
+clear-off S j p k c = throughout-map (NoValue S) (λ l. suc j ≢ l) (λ l v e. v .before j e k) p c
 
 -- ------------------------------------------------------------ locals
 
--- each of these is a `let`
-abbrev IsLet : List ℕ → Node → Type 0
-IsLet S (node j l ps) = kindAt S j ≡ 16
+-- both tables have the same for the `let`'s value
+abbrev pub SameValue : Table → Table → Node → Type 0
+SameValue T U (node j l ps) = getD U (suc j) 0 ≡ getD T (suc j) 0
 
-module _ (S : List ℕ) (T U : Table) (h : (j : ℕ) → kindAt S j ≡ 16 → getD U (suc j) 0 ≡ getD T (suc j) 0) where
-  same-locals : (ts : List Node) → All (IsLet S) ts → map (localOf U) ts ≡ map (localOf T) ts
-  unfolding localOf
-  same-locals [] a = refl
-  same-locals (node j l ps ∷ ts) a = rw (h j (a .0), same-locals ts (a .1)) refl
+same-locals : (T U : Table) (ts : List Node) → All (SameValue T U) ts → map (localOf U) ts ≡ map (localOf T) ts
+unfolding localOf
+same-locals T U [] a = refl
+same-locals T U (node j l ps ∷ ts) a = rw (a .0, same-locals T U ts (a .1)) refl
 
 -- what is in force on T is so on U
 pub record Onward (s S : List ℕ) (env : Env) (T U : Table) : Type 0 where
   pub ready : Ready s S env U
   pub same : envOf s U env ≡ envOf s T env
 
-pub onward : {A : Type 0} (s S : List ℕ) (env : Env) (T U : Table) (p : Rule A) (a : A) → Ready s S env T → Clear S p → kept p T ≡ record { res = ok a; table = U } → Onward s S env T U
+pub onward-with : {A : Type 0} (s S : List ℕ) (env : Env) (T U : Table) (p : Rule A) (a : A) → Ready s S env T → kept p T ≡ record { res = ok a; table = U }
+    → All (SameValue T U) (lets s (env .bound) (env .body)) → Onward s S env T U
 unfolding envOf
-onward s S env T U p a r c e =
+onward-with s S env T U p a r e v =
     let l : length U ≡ length T = sym (ap (λ o. length (o .table)) e) ∙ kept-length p T in
-    let h : (j : ℕ) → kindAt S j ≡ 16 → getD U (suc j) 0 ≡ getD T (suc j) 0 =
-    λ j k. sym (ap (λ o. getD (o .table) (suc j) 0) e) ∙ kept-off p T (suc j) (clear-off S j p k c) in
+    record { ready = record { force = r .force; room = omega (arith, l, r .room) }; same = rw (same-locals T U _ v) refl }
+
+pub onward : {A : Type 0} (s S : List ℕ) (env : Env) (T U : Table) (p : Rule A) (a : A) → Ready s S env T → Clear S p → kept p T ≡ record { res = ok a; table = U } → Onward s S env T U
+onward s S env T U p a r c e =
     let d = r .force .loaded in
-    let q = same-locals S T U h (lets s (env .bound) (env .body)) (lets-all d (IsLet S) (λ j w k. let t = stands d j w in rw (t .here) k) (r .force .locals)) in
-    record { ready = record { force = r .force; room = omega (arith, l, r .room) }; same = rw q refl }
+    onward-with s S env T U p a r e
+    (lets-all d (SameValue T U) (λ j w k. rw (stands d j w .here) (sym (ap (λ o. getD (o .table) (suc j) 0) e) ∙ kept-off p T (suc j) (clear-off S j p k c))) (r .force .locals))

@@ -20,7 +20,7 @@ use Rattle.declared.specs.declared.refusal.Done.{Done}
 use Rattle.declared.specs.Codes.{IsCode}
 use Rattle.env.specs.Answers.{typedOf, Valid}
 use Rattle.env.specs.Calls.{KeyedOf}
-use Rattle.env.specs.Force.{envOf, Apart, Ready}
+use Rattle.env.specs.Force.{envOf, NoValue, Ready}
 use Rattle.env.specs.declared.env.Env.{Env as CodeEnv}
 use Rattle.env.specs.declared.judge.Typed.{Typed}
 use Rattle.env.specs.declared.judge.Typed.the-variants.{Is, Refused}
@@ -80,7 +80,7 @@ pub record AsksLeaf (s S : List ℕ) (env : CodeEnv) (T : Table) (i : ℕ) : Typ
 pub record AsksAll (s S : List ℕ) (env : CodeEnv) (T : Table) (m i : ℕ) : Type 0 where
   pub ready : Ready s S env T
   pub row : Row S grammar.Expr m i
-  pub apart : Apart S i
+  pub no-value : NoValue S i
 
 -- a call at line i whose callee uses `keyed`
 pub record AsksCall (s S : List ℕ) (env : CodeEnv) (T : Table) (i : ℕ) (keyed : Found) : Type 0 where
@@ -96,7 +96,7 @@ pub record AsksMethod (s S : List ℕ) (env : CodeEnv) (T : Table) (i : ℕ) : T
 pub record AsksKeys (s S : List ℕ) (env : CodeEnv) (T : Table) (field wants m i : ℕ) : Type 0 where
   pub ready : Ready s S env T
   pub row : Row S grammar.Expr m i
-  pub apart : Apart S i
+  pub no-value : NoValue S i
   pub within : field < length S / 8
   pub kind : kindAt S field ≡ 6
   pub few : wants ≤ 2

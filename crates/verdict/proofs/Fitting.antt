@@ -10,8 +10,7 @@ use borrow.Author.Tests.{le-leb}
 use Rattle.sheet.specs.Load.{Loaded, lines, refused as unread, load}
 use Rattle.rules.specs.Asking.{Res, ok, refused}
 use Rattle.rules.specs.Kept.{Table}
-use Rattle.rules.specs.Verdict.{written, fitting, told, ruled, refusedSheet, judge, verdict}
-use Rattle.pieces.specs.Writing.{longest}
+use Rattle.rules.specs.Verdict.{longest, written, fitting, told, ruled, refusedSheet, judge, verdict}
 use Rattle.verdict.specs.Outcome.{answerOf, Outcome, outcome}
 
 told-whole : (most : ℕ) (r : Res Unit) (T : Table) → told most r T .length ≤ most → length (told most r T .message) ≡ told most r T .length

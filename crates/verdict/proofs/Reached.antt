@@ -1,11 +1,11 @@
 -- The type table and the count that a call leaves and answers, told by the rules' askings. Assumes nothing.
-use mathlib.Core.Path.{_≡_, refl, ap, _∙_}
+use mathlib.Core.Path.{_≡_, refl, _∙_}
 use mathlib.Core.List.{List}
 use Prim.Native.Nat.{ℕ, _<_}
 use lib.ListN.{length, getD, drop, replicate, length-replicate, List·getD-append}
 use Rattle.sheet.specs.Line.{Line}
 use Rattle.sheet.specs.Load.{lines, load}
-use Rattle.rules.specs.Asking.{Asking, Res, ok, refused, Out, fresh, reachedFrom, codeOf}
+use Rattle.rules.specs.Asking.{Asking, Res, ok, refused, fresh, reachedFrom, codeOf}
 use Rattle.rules.specs.Kept.{Table, marks, count}
 use Rattle.rules.specs.Check.{check}
 use Rattle.rules.specs.Verdict.{written, told, modelOf, ruled, judge, verdict}

@@ -13,13 +13,13 @@ use Rattle.rules.specs.Text.{render}
 use Rattle.rules.specs.Kept.{Table, count}
 use Rattle.rules.specs.Check.{check}
 use Rattle.rules.specs.Standing.{modelIn}
-use Rattle.rules.specs.Verdict.{written, fitting, told}
+use Rattle.rules.specs.Verdict.{longest, written, fitting, told}
 use Rattle.rules.proofs.Binding.{kept-length}
 use Rattle.declared.specs.Refusal.{refusalOf, doneOf}
 use Rattle.declared.specs.declared.refusal.Refusal.{Refusal}
 use Rattle.declared.specs.declared.refusal.Done.{Done}
 use Rattle.declared.specs.declared.refusal.Done.the-variants.{Fine, Refused}
-use Rattle.pieces.specs.Writing.{longest, Adds}
+use Rattle.pieces.specs.Writing.{Adds}
 use Rattle.pieces.proofs.Adding.{told-all, all-written}
 use Rattle.message.proofs.Lengths.{short}
 use Rattle.refusals.specs.Numbers.{Numbers}

@@ -9,10 +9,9 @@ use Rattle.rules.specs.Kept.{Table, kept}
 use Rattle.rules.specs.Check.{check}
 use Rattle.rules.specs.Standing.{Loaded, modelIn}
 use Rattle.rules.specs.Verdict as ruled
-use Rattle.rules.specs.Verdict.{written, told, verdict}
+use Rattle.rules.specs.Verdict.{longest, written, told, verdict}
 use Rattle.declared.specs.Refusal.{refusalOf}
 use Rattle.declared.specs.declared.refusal.Refusal.{Refusal}
-use Rattle.pieces.specs.Writing.{longest}
 use Rattle.verdict.specs.declared.Answer.{Answer}
 
 unfoldable pub answerOf : ruled.Answer → Answer

@@ -13,8 +13,7 @@ ghost use mathlib.Core.Path.{_≡_};
 ghost use Prim.Native.Nat.{_≤_};
 ghost use lib.ListN.{length};
 ghost use Rattle.sheet.specs.Load.{times};
-ghost use Rattle.rules.specs.Verdict.{fitting, written};
-ghost use Rattle.pieces.specs.Writing.{longest};
+ghost use Rattle.rules.specs.Verdict.{fitting, longest, written};
 ghost use Rattle.verdict.specs.Outcome.{Exact, Few, Judges, outcome, textOf};
 
 // Number is 0 for acceptance. Place is a line from 1 for 6 to 11 and a span from 12 on. Count is how many lines are marked, length
