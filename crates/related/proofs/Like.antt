@@ -9,7 +9,7 @@ use Prim.Native.String.{String}
 use Rattle.text.specs.Text.{same}
 use Rattle.sheet.proofs.Paired.{Opt, o-none, o-some}
 use Rattle.rules.specs.Text.{Name, lastNamed}
-use Rattle.rules.specs.Ast.{UnaryOp, BinOp, Leaf, int, id, now, Wrap, Expr, leaf, unary, binary, field, call, wrap, Exprs, nil, more, Field, span, line, leafOf, list}
+use Rattle.rules.specs.Ast.{UnaryOp, BinOp, Leaf, int, id, Wrap, Expr, leaf, unary, binary, field, call, wrap, Exprs, nil, more, Field, span, line, leafOf, list}
 use Rattle.rules.specs.Asking.{Ty}
 use Rattle.rules.specs.Model.{fieldNamed}
 use Rattle.rules.specs.Typing.{Env, new, inGenesis, bound, identLeaf, identOf, Dot, dotOf, Call, callOf, identIs, leafHas}

@@ -1,7 +1,7 @@
 -- Expressions whose lines are numbered as a sheet numbers them: a record's parts follow it directly.
 -- Then a map m as `Coherence` wants it is there. Assumes nothing.
 use mathlib.Core.Path.{_≡_, refl, sym, _∙_}
-use mathlib.Core.Bool.{Bool, false, cond}
+use mathlib.Core.Bool.{false, cond}
 use Prim.Native.Nat.{ℕ, _<_, _≤_, suc}
 use native.Mathlib.Omega.{arith}
 use lib.Dec.{eqb, ltb}

@@ -1,6 +1,6 @@
 -- The trees of lines one behind another, and those of a sheet that is read. Assumes nothing.
 use mathlib.Core.Path.{_≡_, refl, sym, ap}
-use mathlib.Core.List.{List, [], _∷_, _++_, Forall₂, Forall₂·nil as nil₂, Forall₂·cons as cons₂}
+use mathlib.Core.List.{List, _∷_, _++_, Forall₂, Forall₂·nil as nil₂, Forall₂·cons as cons₂}
 use Prim.Native.Nat.{ℕ, zero, suc, _+_}
 use native.Mathlib.Omega.{arith}
 use lib.ListN.{length}
