@@ -6,10 +6,14 @@ use mathlib.Core.Logic.{_⊎_, inl, inr}
 use mathlib.Core.Option.{none, some}
 use Prim.Native.Nat.{ℕ, _<_}
 use native.Mathlib.Omega.{arith}
-use lib.ListN.{length, getD}
+use lib.ListN.{length, getD, take}
 use lib.Seq.{getD-set-same}
 use borrow.Author.Tests.{lt-leb}
 use Rattle.text.specs.Text.{bytes}
+use Rattle.sheet.specs.Grammar as grammar
+use Rattle.sheet.specs.Load.{times, load}
+use Rattle.sheet.specs.Promise.{laid, scratchFrom, scratchAfter}
+use Rattle.sheet.specs.Scratch.{entry, put, putLine, written, kindAt, skip, closed}
 use Rattle.sheet.specs.Tree.{before}
 use Rattle.rules.specs.Ast.{line}
 use Rattle.rules.specs.Computed.{computed}
@@ -17,10 +21,11 @@ use Rattle.rules.specs.Asking.{Ty, Int, code, Res, ok, refused}
 use Rattle.rules.specs.Kept.{Table, tyOfMark, Kept, retyped, kept}
 use Rattle.rules.specs.Typing as rules
 use Rattle.rules.specs.Typing.{has, later, stale, typing, tyOf}
-use Rattle.rules.specs.Standing.{readLines, linesIn, modelIn, without, treesFrom, nodeAt, nodesAt, exprAt}
+use Rattle.rules.specs.Standing.{readLines, linesIn, modelIn, without, treesFrom, nodeAt, nodesAt, exprAt, Loaded, Here, stop, next}
 use Rattle.rules.proofs.AnyTable.{from-table, again, first-time}
 use Rattle.rules.proofs.Binding.{kept-length, kept-holds}
 use Rattle.rules.proofs.Exprs.{line-at}
+use Rattle.rules.proofs.Standing.{by-load}
 use Rattle.declared.specs.Codes.{tyFrom, IsCode}
 use Rattle.declared.specs.Found.{nodeKind, ofKind}
 use Rattle.declared.specs.Refusal.{refusalOf}
@@ -100,10 +105,13 @@ module _ (s S : List ℕ) (env : Env) (T : Table) (i : ℕ) (h : Asks s S env T 
 
 -- ------------------------------------------------------------ a sheet where the exception holds
 
--- `guard x` stands before `let x = 1`, and both statements are bound. Line 3, the `id`, holds 10, and the `let`'s value holds 1: the `id` is
--- typed again, as Int, and keeps its 10.
+-- `guard x` stands before `let x = 1`, and both statements are bound. Line 3, the `id`, holds 10, and the `let`'s value holds 1.
 abbrev guarded : List ℕ
 guarded = bytes "contract,1" ++ (10 ∷ bytes "entry,0,0,2") ++ (10 ∷ bytes "guard") ++ (10 ∷ bytes "id,1,x") ++ (10 ∷ bytes "let,x") ++ (10 ∷ bytes "int,2,1") ++ (10 ∷ [])
+
+-- the sheet's lines, as the reader leaves them in a scratch of zeros
+abbrev guarded-lines : List ℕ
+guarded-lines = take 48 (scratchAfter guarded 6 (times 48 0))
 
 abbrev both-bound : Env
 both-bound = record { params = 0; count = 0; body = 2; bound = 2; next = 6; genesis = false }
@@ -111,6 +119,22 @@ both-bound = record { params = 0; count = 0; body = 2; bound = 2; next = 6; gene
 abbrev marked : Table
 marked = 0 ∷ 0 ∷ 0 ∷ 10 ∷ 0 ∷ 1 ∷ []
 
-pub guard-again : kept (tyOf (envOf guarded marked both-bound) (exprAt guarded 3)) marked ≡ record { res = ok Int; table = marked }
+-- `ty_of` may be asked of the `id` ..
+pub guard-asks : Asks guarded guarded-lines both-bound marked 3
+unfolding computed readLines scratchAfter scratchFrom laid closed written put putLine entry kindAt skip
+guard-asks =
+    let d : Loaded guarded guarded-lines = by-load guarded 6 (times 48 0) (readLines (load guarded 6 48)) refl in
+    let one : Here guarded-lines grammar.Stmt 2 = record { within = omega arith; kind = (omega arith, omega arith); after = omega arith } in
+    let other : Here guarded-lines grammar.Stmt 4 = record { within = omega arith; kind = (omega arith, omega arith); after = omega arith } in
+    record {
+      ready = record { force = record { loaded = d; params = stop; locals = next {i = 2} one (next {i = 4} other stop); next = refl }; room = omega arith };
+      here = record { within = omega arith; kind = (omega arith, omega arith); after = omega arith };
+    }
+
+again-int : kept (tyOf (envOf guarded marked both-bound) (exprAt guarded 3)) marked ≡ record { res = ok Int; table = marked }
 unfolding computed envOf localOf namedEnd lets endsIn paramsIn ofKind nodeKind readLines linesIn modelIn without before treesFrom nodeAt nodesAt exprAt tyFrom
-guard-again = refl
+again-int = refl
+
+-- .. and answers Int: it is typed again, and keeps its 10
+pub guard-again : (r : Typed) (U : Table) → Types guarded (tyOf (envOf guarded marked both-bound) (exprAt guarded 3)) marked r U → (typedOf guarded r ≡ ok Int) × (U ≡ marked)
+guard-again r U k = let e = sym (k .gives) ∙ again-int in (ap (λ o. o .res) e, ap (λ o. o .table) e)
