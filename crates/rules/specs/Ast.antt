@@ -120,7 +120,7 @@ abbrev mutual
   lineAfter (call l s c es) = linesAfter (lineAfter c) es
   lineAfter (wrap l s w e) = lineAfter e
 
-  -- ... behind expressions that stand behind line i
+  -- ... behind these expressions, or i where there are none
   pub linesAfter : ℕ → Exprs → ℕ
   linesAfter i nil = i
   linesAfter i (more e es) = linesAfter (lineAfter e) es
