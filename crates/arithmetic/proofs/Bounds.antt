@@ -12,7 +12,7 @@ use mir.Val.{Fits}
 use lib.ListN.{length}
 use borrow.Author.Tests.{eq-eqb, ne-eqb, not-true, not-false}
 use Rattle.text.specs.Text.{bytes, same}
-use Rattle.sheet.specs.Grammar as grammar
+use Rattle.grammar.specs.Grammar as grammar
 use Rattle.sheet.specs.Scratch.{kindAt, nameAt, entry}
 use Rattle.rules.specs.Text.{Name, is, among, lastNamed, get}
 use Rattle.rules.specs.Ast.{Entry, Param, paramOf, typeName}

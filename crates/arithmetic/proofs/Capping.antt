@@ -11,7 +11,7 @@ use mir.Val.{Fits}
 use lib.Dec.{eqb}
 use lib.ListN.{length, getD}
 use borrow.Author.Tests.{not-true, not-false}
-use Rattle.sheet.specs.Grammar as grammar
+use Rattle.grammar.specs.Grammar as grammar
 use Rattle.sheet.specs.Scratch.{kindAt, opAt, endAt}
 use Rattle.sheet.specs.Say.{spanAt}
 use Rattle.rules.specs.Text.{Name}

@@ -11,7 +11,7 @@ use mir.Syntax.{w64}
 use mir.Val.{Fits}
 use lib.ListN.{length, getD}
 use borrow.Author.Tests.{eq-eqb, ne-eqb, not-true, not-false}
-use Rattle.sheet.specs.Grammar as grammar
+use Rattle.grammar.specs.Grammar as grammar
 use Rattle.sheet.specs.Scratch.{kindAt, opAt, nameAt, endAt, entry, skip}
 use Rattle.rules.specs.Text.{Name, among, get}
 use Rattle.rules.specs.Ast.{AssignOp, Set, assignOps, Expr, Entry, Stmt, assign}

@@ -10,7 +10,7 @@ use sheet::kind;
 use sheet::name;
 use sheet::op;
 use sheet::third;
-ghost use Rattle.sheet.specs.Grammar.{Stmt};
+ghost use Rattle.grammar.specs.Grammar.{Stmt};
 ghost use Rattle.rules.specs.Arithmetic.{checkArithmetic, checkSum};
 ghost use Rattle.rules.specs.Check.{paramTypes};
 ghost use Rattle.rules.specs.Standing.{entryAt, stmtAt};

@@ -12,7 +12,7 @@ ghost use mathlib.Core.Path.{_≡_};
 ghost use lib.Dec.{eqb};
 ghost use Rattle.text.specs.Text.{same};
 ghost use Rattle.sheet.specs.Scratch.{kindAt, nameAt};
-ghost use Rattle.sheet.specs.Grammar.{Clause};
+ghost use Rattle.grammar.specs.Grammar.{Clause};
 ghost use Rattle.rules.specs.Arithmetic.{capsFromAbove, limitsBound, limitsCap, upperBounds};
 ghost use Rattle.rules.specs.Arithmetic.{mentions as mentionsOf, subtracts as subtractsOf};
 ghost use Rattle.rules.specs.Standing.{clauseAt, entryAt, exprAt};

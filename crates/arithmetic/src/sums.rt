@@ -13,7 +13,7 @@ ghost use mathlib.Core.Bool.{_&&_, not};
 ghost use mathlib.Core.Path.{_≡_};
 ghost use lib.ListN.{getD};
 ghost use Rattle.text.specs.Text.{same};
-ghost use Rattle.sheet.specs.Grammar.{Param};
+ghost use Rattle.grammar.specs.Grammar.{Param};
 ghost use Rattle.rules.specs.Ast.{assignOps, Set};
 ghost use Rattle.rules.specs.Arithmetic.{any, assetParams, isMints, sameTarget, sumTerms, without};
 ghost use Rattle.rules.specs.Arithmetic.{bounded as boundedOf};

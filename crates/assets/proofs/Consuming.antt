@@ -10,7 +10,7 @@ use lib.ListN.{length, getElem?}
 use borrow.Author.Tests.{ne-eqb}
 use mir.Val.{Fits}
 use mir.Syntax.{w64}
-use Rattle.sheet.specs.Grammar as grammar
+use Rattle.grammar.specs.Grammar as grammar
 use Rattle.sheet.specs.Scratch.{entry, kindAt, endAt, skip}
 use Rattle.sheet.specs.Tree.{Node, Nodes, nil as done, more as then, takeNodes}
 use Rattle.rules.proofs.Binding.{kept-behind, kept-unit}

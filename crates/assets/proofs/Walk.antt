@@ -9,7 +9,7 @@ use native.Mathlib.Omega.{arith}
 use lib.Dec.{eqb}
 use borrow.Author.Tests.{ne-eqb, eqb-true}
 use Rattle.text.specs.Text.{bytes, same}
-use Rattle.sheet.specs.Grammar as grammar
+use Rattle.grammar.specs.Grammar as grammar
 use Rattle.sheet.specs.Scratch.{kindAt, endAt, nameAt}
 use Rattle.sheet.specs.Say.{spanAt}
 use Rattle.rules.proofs.Binding.{kept-assoc, kept-behind, kept-unit}

@@ -6,7 +6,7 @@ use sheet::end;
 use sheet::first;
 use sheet::kind;
 use sheet::second;
-ghost use Rattle.sheet.specs.Grammar.{Clause, Expr, Stmt};
+ghost use Rattle.grammar.specs.Grammar.{Clause, Expr, Stmt};
 ghost use Rattle.rules.specs.Asking.{forEach};
 ghost use Rattle.rules.specs.Assets.{assetCallsConsumed, consumedAssetCall};
 ghost use Rattle.rules.specs.Ast.{do', list};

@@ -6,7 +6,7 @@ use sheet::kind;
 use sheet::name;
 use text::is_word;
 ghost use mathlib.Core.Path.{_≡_};
-ghost use Rattle.sheet.specs.Grammar.{Expr};
+ghost use Rattle.grammar.specs.Grammar.{Expr};
 ghost use Rattle.rules.specs.Asking.{forEach};
 ghost use Rattle.rules.specs.Assets.{makesAsset, noAssetCall};
 ghost use Rattle.rules.specs.Ast.{list};

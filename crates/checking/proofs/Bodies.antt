@@ -10,7 +10,7 @@ use lib.Dec.{eqb, leb}
 use lib.ListN.{length, getD}
 use lib.Seq.{getD-set-same}
 use borrow.Author.Tests.{eq-eqb, ne-eqb, eqb-true, eqb-false}
-use Rattle.sheet.specs.Grammar as grammar
+use Rattle.grammar.specs.Grammar as grammar
 use Rattle.sheet.specs.Scratch.{kindAt, nameAt, entry, endAt, skip}
 use Rattle.sheet.specs.Tree.{Node, node}
 use Rattle.rules.specs.Ast.{Expr, Stmt, guard, bind, emit, assign, do', line, lineAfter, list}

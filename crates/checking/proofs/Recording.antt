@@ -10,7 +10,7 @@ use native.Mathlib.Omega.{arith}
 use lib.Dec.{eqb, ltb}
 use lib.ListN.{length}
 use borrow.Author.Tests.{eq-eqb, ne-eqb, lt-ltb, le-ltb}
-use Rattle.sheet.specs.Grammar as grammar
+use Rattle.grammar.specs.Grammar as grammar
 use Rattle.sheet.specs.Tree.{Node}
 use Rattle.sheet.specs.Scratch.{kindAt, nameAt, entry, endAt}
 use Rattle.rules.specs.Ast.{Field, Param, paramOf, fieldOf, clauseOf, stmtOf}

@@ -18,7 +18,7 @@ ghost use Rattle.rules.specs.Asking.{forEach, ifSome};
 ghost use Rattle.rules.specs.Check.{checkDefault, checkField, checkGenesis, clausePredicate};
 ghost use Rattle.rules.specs.Declarations.{eventFieldType, guardianBound};
 ghost use Rattle.rules.specs.Standing.{clauseAt, fieldAt, nodeAt, nodesAt, paramAt, paramsAt, stmtAt, typeAt};
-ghost use Rattle.sheet.specs.Grammar.{Param};
+ghost use Rattle.grammar.specs.Grammar.{Param};
 ghost use Rattle.declarations.specs.Lines.{Named};
 ghost use Rattle.declared.specs.Answers.{Answers};
 ghost use Rattle.declared.specs.Lines.{RecordAt, RecordsAt, Typed};

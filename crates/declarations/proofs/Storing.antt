@@ -10,7 +10,7 @@ use native.Mathlib.Omega.{arith}
 use lib.Dec.{eqb}
 use borrow.Author.Tests.{eq-eqb, ne-eqb}
 use Rattle.text.specs.Text.{bytes, same}
-use Rattle.sheet.specs.Grammar as grammar
+use Rattle.grammar.specs.Grammar as grammar
 use Rattle.sheet.specs.Scratch.{nameAt, kindAt, endAt, entry}
 use Rattle.rules.specs.Text.{Name, is, pick}
 use Rattle.rules.specs.Ast.{args, typeName}

@@ -2,7 +2,7 @@
 use Prim.Native.Nat.{ℕ, suc, _/_, _<_}
 use mathlib.Core.List.{List}
 use lib.ListN.{length}
-use Rattle.sheet.specs.Grammar as grammar
+use Rattle.grammar.specs.Grammar as grammar
 use Rattle.rules.specs.Standing.{Loaded, Here}
 
 -- a field or parameter stands at line i, its type at the next

@@ -11,7 +11,7 @@ use sheet::name;
 use text::is_word;
 ghost use mathlib.Core.Bool.{true};
 ghost use mathlib.Core.Path.{_≡_};
-ghost use Rattle.sheet.specs.Grammar.{Arg};
+ghost use Rattle.grammar.specs.Grammar.{Arg};
 ghost use Rattle.rules.specs.Ast.{args, typeName};
 ghost use Rattle.rules.specs.Declarations.{eventFieldType, innerFits, storableArg, storableArgs, storableKeyed};
 ghost use Rattle.rules.specs.Declarations.{known as knownOf, storable as storableOf};

@@ -7,7 +7,7 @@ use native.Mathlib.Omega.{arith}
 use mir.Syntax.{w64}
 use mir.Val.{Fits}
 use lib.ListN.{length}
-use Rattle.sheet.specs.Grammar as grammar
+use Rattle.grammar.specs.Grammar as grammar
 use Rattle.sheet.specs.Load.{sorts, times}
 use Rattle.sheet.specs.Scratch.{kindAt, endAt}
 use Rattle.rules.specs.Ast.{nodes, paramOf, fieldOf}

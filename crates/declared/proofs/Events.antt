@@ -8,7 +8,7 @@ use native.Mathlib.Omega.{arith}
 use lib.Dec.{eqb}
 use borrow.Author.Tests.{eqb-true}
 use Rattle.text.specs.Text.{same}
-use Rattle.sheet.specs.Grammar as grammar
+use Rattle.grammar.specs.Grammar as grammar
 use Rattle.sheet.specs.Scratch.{kindAt, endAt, entry, nameAt}
 use Rattle.sheet.specs.Tree.{Node, node, takeNodes}
 use Rattle.rules.specs.Text.{Name, firstNamed}

@@ -10,7 +10,7 @@ use lib.ListN.{length, getD}
 use borrow.Author.Tests.{lt-ltb}
 use Rattle.text.specs.Text.{bytes, same}
 use Rattle.text.specs.Word.{place}
-use Rattle.sheet.specs.Grammar.{words}
+use Rattle.grammar.specs.Grammar.{words}
 use Rattle.rules.specs.Text.{Name, is, isOne, pick}
 
 -- neither of two tests holds

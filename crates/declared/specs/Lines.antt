@@ -3,7 +3,7 @@ use Prim.Native.Nat.{ℕ, _/_, _<_, _≤_}
 use mathlib.Core.List.{List}
 use mathlib.Core.Path.{_≡_}
 use lib.ListN.{length}
-use Rattle.sheet.specs.Grammar as grammar
+use Rattle.grammar.specs.Grammar as grammar
 use Rattle.sheet.specs.Scratch.{kindAt}
 use Rattle.rules.specs.Standing.{Loaded, Here, Row}
 

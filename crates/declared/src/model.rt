@@ -8,7 +8,7 @@ ghost use mathlib.Core.Bool.{_&&_};
 ghost use mathlib.Core.Path.{_≡_};
 ghost use lib.Dec.{eqb};
 ghost use Rattle.text.specs.Text.{same};
-ghost use Rattle.sheet.specs.Grammar.{Item};
+ghost use Rattle.grammar.specs.Grammar.{Item};
 ghost use Rattle.sheet.specs.Scratch.{kindAt, nameAt};
 ghost use Rattle.declared.specs.Found.{FieldNamed, FieldsNamed, foundAt, ItemAt, Last, Newest, Stretch};
 ghost use Rattle.declared.specs.Lines.{RecordsAt};

@@ -11,7 +11,7 @@ use mir.Val.{Fits}
 use borrow.Author.Tests.{eq-eqb, ne-eqb, eqb-true, eqb-false}
 use lib.Dec.{eqb}
 use lib.ListN.{length}
-use Rattle.sheet.specs.Grammar as grammar
+use Rattle.grammar.specs.Grammar as grammar
 use Rattle.sheet.specs.Scratch.{entry, kindAt, endAt, nameAt}
 use Rattle.sheet.specs.Tree.{takeNodes}
 use Rattle.rules.specs.Text.{Name}

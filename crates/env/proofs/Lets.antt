@@ -9,7 +9,7 @@ use lib.Dec.{eqb, ltb}
 use lib.ListN.{length}
 use borrow.Author.Tests.{eqb-true, lt-ltb, ltb-true}
 use Rattle.text.specs.Text.{same}
-use Rattle.sheet.specs.Grammar as grammar
+use Rattle.grammar.specs.Grammar as grammar
 use Rattle.sheet.specs.Load.{sorts, times}
 use Rattle.sheet.specs.Scratch.{kindAt, endAt, skip}
 use Rattle.sheet.specs.Tree.{Node, node, takeNodes}

@@ -14,7 +14,7 @@ use lib.Dec.{eqb}
 use lib.ListN.{length, getD}
 use borrow.Author.Tests.{eq-eqb, ne-eqb, eqb-false}
 use Rattle.text.specs.Text.{bytes, same}
-use Rattle.sheet.specs.Grammar as grammar
+use Rattle.grammar.specs.Grammar as grammar
 use Rattle.sheet.specs.Load.{sorts, times}
 use Rattle.sheet.specs.Scratch.{kindAt, nameAt}
 use Rattle.sheet.specs.Tree.{Node, node}

@@ -13,8 +13,8 @@ use lib.ListN.{getD}
 use borrow.Author.Tests.{eq-eqb, ne-eqb, lt-ltb, le-ltb, not-true, not-false}
 use Rattle.text.specs.Text.{bytes, same, ended}
 use Rattle.text.specs.Word.{place, split}
-use Rattle.sheet.specs.Grammar as grammar
-use Rattle.sheet.specs.Grammar.{words}
+use Rattle.grammar.specs.Grammar as grammar
+use Rattle.grammar.specs.Grammar.{words}
 use Rattle.sheet.specs.Scratch.{kindAt, nameAt}
 use Rattle.sheet.specs.Say.{nspanAt}
 use Rattle.rules.specs.Text.{Name, is, isOne}

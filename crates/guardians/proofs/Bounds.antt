@@ -10,7 +10,7 @@ use native.Mathlib.Omega.{arith}
 use mir.Syntax.{w64}
 use mir.Val.{Fits}
 use lib.ListN.{length}
-use Rattle.sheet.specs.Grammar as grammar
+use Rattle.grammar.specs.Grammar as grammar
 use Rattle.sheet.specs.Scratch.{kindAt, nameAt, endAt, entry}
 use Rattle.rules.specs.Text.{Name, Piece, lastNamed}
 use Rattle.rules.specs.Ast.{Field, fieldOf, itemOf}

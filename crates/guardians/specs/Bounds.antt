@@ -2,7 +2,7 @@
 use Prim.Native.Nat.{ℕ}
 use mathlib.Core.List.{List, [], _∷_, _++_, map}
 use mathlib.Core.Bool.{not}
-use Rattle.sheet.specs.Grammar as grammar
+use Rattle.grammar.specs.Grammar as grammar
 use Rattle.rules.specs.Text.{lastNamed}
 use Rattle.rules.specs.Ast.{Field, fieldOf}
 use Rattle.rules.specs.Asking.{Rule, ret, _>>_, when}

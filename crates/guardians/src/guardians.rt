@@ -11,7 +11,7 @@ use sheet::name;
 ghost use mathlib.Core.List.{map};
 ghost use mathlib.Core.Path.{_≡_};
 ghost use Prim.Native.Nat.{suc};
-ghost use Rattle.sheet.specs.Grammar.{Item};
+ghost use Rattle.grammar.specs.Grammar.{Item};
 ghost use Rattle.sheet.specs.Scratch.{endAt};
 ghost use Rattle.rules.specs.Asking.{forEach};
 ghost use Rattle.rules.specs.Ast.{fieldOf};

@@ -9,7 +9,7 @@ use native.Mathlib.Omega.{arith}
 use lib.Dec.{eqb}
 use lib.ListN.{length, getElem?}
 use borrow.Author.Tests.{ne-eqb}
-use Rattle.sheet.specs.Grammar as grammar
+use Rattle.grammar.specs.Grammar as grammar
 use Rattle.sheet.specs.Held.{Held, held, HeldAll, no-tree, tree, Formed, formed, FormedAll, none-due, one-due, Parted}
 use Rattle.sheet.specs.Line.{Line}
 use Rattle.sheet.specs.Load.{sorts, times}

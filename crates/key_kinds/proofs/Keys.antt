@@ -13,7 +13,7 @@ use mir.Val.{Fits}
 use mir.Syntax.{w64}
 use Rattle.text.specs.Text.{bytes, same, ended}
 use Rattle.text.specs.Word.{place, split}
-use Rattle.sheet.specs.Grammar as grammar
+use Rattle.grammar.specs.Grammar as grammar
 use Rattle.sheet.specs.Scratch.{entry, kindAt, endAt, nameAt}
 use Rattle.rules.specs.Text.{Name, is, isOne, among}
 use Rattle.rules.specs.Ast.{Param, typeName}

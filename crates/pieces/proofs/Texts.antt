@@ -12,7 +12,7 @@ use Rattle.text.specs.Text.{all}
 use Rattle.text.specs.Field.{plain, isPlain, isName, isText}
 use Rattle.text.specs.declared.field.Number.{Number}
 use Rattle.text.specs.declared.field.Number.the-variants.{Is, Bad}
-use Rattle.sheet.specs.Grammar.{Sort, Rule, span, name, text, assignOp, unOp, binOp, count, flag, rowOf, kindFor}
+use Rattle.grammar.specs.Grammar.{Sort, Rule, span, name, text, assignOp, unOp, binOp, count, flag, rowOf, kindFor}
 use Rattle.sheet.specs.Line.{Line, withName, begun, when, onNumber, readField, readFields, andThen, good, readPieces, readLine, fieldsOf}
 use Rattle.sheet.specs.Load.{Loaded as Load, lines, refused, linesOf, scan}
 use Rattle.sheet.specs.Held.{Each, none as no-line, one, Every, every, EveryOf, no-more, and-more}

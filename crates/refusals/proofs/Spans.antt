@@ -8,7 +8,7 @@ use native.Mathlib.Omega.{arith}
 use lib.Dec.{eqb, leb, ltb}
 use lib.ListN.{length, List·getD-eq-default}
 use borrow.Author.Tests.{ne-eqb, ltb-true, ltb-false}
-use Rattle.sheet.specs.Grammar.{Rule, span, records, rowOf}
+use Rattle.grammar.specs.Grammar.{Rule, span, records, rowOf}
 use Rattle.sheet.specs.Held.{spanless}
 use Rattle.sheet.specs.Say.{spanAt, nspanAt}
 use Rattle.sheet.specs.Scratch.{kindAt}

@@ -9,7 +9,7 @@ use Prim.Native.Nat.{ℕ, _+_}
 use native.Mathlib.Omega.{arith}
 use lib.ListN.{length}
 use Rattle.text.specs.Text.{same}
-use Rattle.sheet.specs.Grammar as grammar
+use Rattle.grammar.specs.Grammar as grammar
 use Rattle.sheet.specs.Line.{Line, good, readLine}
 use Rattle.sheet.specs.Load.{lines, load, linesOf, sorts, early}
 use Rattle.sheet.specs.Tree.{Node, build as trees}

@@ -5,7 +5,7 @@ use mathlib.Mathlib.Data.List.Forall2.{Forall₂·imp}
 use Prim.Native.Nat.{ℕ, _+_, _-_}
 use native.Mathlib.Omega.{arith}
 use lib.ListN.{length, length-map}
-use Rattle.sheet.specs.Grammar as grammar
+use Rattle.grammar.specs.Grammar as grammar
 use Rattle.sheet.specs.Line.{Line}
 use Rattle.sheet.specs.Load.{times}
 use Rattle.sheet.specs.Tree.{node, Nodes, build as trees, before}

@@ -2,7 +2,7 @@
 use mathlib.Core.Path.{_≡_, refl, sym, ap}
 use mathlib.Core.List.{List, [], _∷_, _++_, map, map-append, append-assoc, Forall₂}
 use Prim.Native.Nat.{ℕ, suc}
-use Rattle.sheet.specs.Grammar as grammar
+use Rattle.grammar.specs.Grammar as grammar
 use Rattle.sheet.specs.Line.{Line}
 use Rattle.sheet.specs.Load.{lines, load, times}
 use Rattle.sheet.specs.Tree.{Node, Nodes, nil, more, build as trees, before}

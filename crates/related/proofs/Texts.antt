@@ -3,7 +3,7 @@ use mathlib.Core.Path.{_≡_, refl, ap}
 use mathlib.Core.Logic.{_⊎_, inl, inr}
 use mathlib.Core.List.{List, [], _∷_, Forall₂}
 use Prim.Native.Nat.{ℕ, suc}
-use Rattle.sheet.specs.Grammar.{Contract}
+use Rattle.grammar.specs.Grammar.{Contract}
 use Rattle.sheet.specs.Line.{Line}
 use Rattle.sheet.specs.Load.{lines, linesOf, load}
 use Rattle.sheet.specs.Same.{TextApart, LineApart}

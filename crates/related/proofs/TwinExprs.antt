@@ -9,7 +9,7 @@ use package.native.Mathlib.Omega.{arith}
 use lib.Dec.{ltb}
 use borrow.Author.Tests.{ltb-true, ltb-false}
 use lib.ListN.{getD, getElem?, List·getD-eq-default}
-use Rattle.sheet.specs.Grammar as grammar
+use Rattle.grammar.specs.Grammar as grammar
 use Rattle.sheet.specs.Line.{Line}
 use Rattle.sheet.specs.Tree.{Node, node, Nodes}
 use Rattle.sheet.specs.Same.{SameRecord}

@@ -8,7 +8,7 @@ use package.native.Mathlib.Omega.{arith}
 use lib.Dec.{eqb, ltb}
 use lib.ListN.{getD}
 use borrow.Author.Tests.{ltb-true, ltb-false, ne-eqb}
-use Rattle.sheet.specs.Grammar as grammar
+use Rattle.grammar.specs.Grammar as grammar
 use Rattle.sheet.specs.Load.{times, sorts}
 use Rattle.sheet.specs.Scratch.{entry, kindAt, opAt, endAt, nameAt}
 use Rattle.sheet.specs.Say.{spanAt, nspanAt}

@@ -4,7 +4,7 @@ use mathlib.Core.List.{List, [], append-nil}
 use Prim.Native.Nat.{ℕ, zero, suc, _+_, _-_, _<_, _≤_}
 use native.Mathlib.Omega.{arith}
 use lib.ListN.{length}
-use Rattle.sheet.specs.Grammar as grammar
+use Rattle.grammar.specs.Grammar as grammar
 use Rattle.sheet.specs.Held.{held, HeldAll, no-tree, tree, formed, FormedAll, none-due, one-due}
 use Rattle.sheet.specs.Load.{times, sorts}
 use Rattle.sheet.specs.Scratch.{entry, kindAt, endAt, skip}

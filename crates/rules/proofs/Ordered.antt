@@ -6,7 +6,7 @@ use Prim.Native.Nat.{ℕ, zero, suc, _+_, _<_, _≤_}
 use native.Mathlib.Omega.{arith}
 use lib.ListN.{length, take, drop, getElem?}
 use lib.Seq.{drop-drop}
-use Rattle.sheet.specs.Grammar as grammar
+use Rattle.grammar.specs.Grammar as grammar
 use Rattle.sheet.specs.Line.{Line}
 use Rattle.sheet.specs.Load.{lines, load, times, sorts}
 use Rattle.sheet.specs.Tree.{Node, node, Nodes, nil, more, build}

@@ -3,9 +3,9 @@ use mathlib.Core.Path.{_≡_, refl}
 use mathlib.Core.List.{List, [], _∷_, _++_}
 use Prim.Native.Nat.{ℕ, zero, suc, _+_, _-_, _<_, _≤_}
 use native.Mathlib.Omega.{arith}
-use Rattle.sheet.specs.Grammar.{Sort, rowOf}
+use Rattle.grammar.specs.Grammar.{Sort, rowOf}
 use Rattle.sheet.specs.Line.{Line}
-use Rattle.sheet.specs.Table.{sortsIn, toldSorts, groupSorts}
+use Rattle.grammar.specs.Table.{sortsIn, toldSorts, groupSorts}
 use Rattle.sheet.specs.Held.{Parted, Flagged}
 
 infixr 5 _also_

@@ -9,7 +9,7 @@ use native.Mathlib.Omega.{arith}
 use lib.Dec.{ltb}
 use lib.ListN.{length}
 use borrow.Author.Tests.{ltb-true, ltb-false, le-ltb}
-use Rattle.sheet.specs.Grammar as grammar
+use Rattle.grammar.specs.Grammar as grammar
 use Rattle.sheet.specs.Held.{Among, spanless}
 use Rattle.sheet.specs.Line.{Line}
 use Rattle.sheet.specs.Scratch.{entry, kindAt, nameAt}

@@ -5,7 +5,7 @@ use Prim.Native.Nat.{ℕ, zero, suc, _+_, _-_, _*_, _/_, _<_, _≤_}
 use native.Mathlib.Omega.{arith}
 use mathlib.Core.Option.{some}
 use lib.ListN.{length, getElem?, take, length-take}
-use Rattle.sheet.specs.Grammar.{Sort}
+use Rattle.grammar.specs.Grammar.{Sort}
 use Rattle.sheet.specs.Line.{Line}
 use Rattle.sheet.specs.Load.{lines, load, sorts, times}
 use Rattle.sheet.specs.Tree.{Node, node, Nodes, nil, more, takeNodes, build as trees, before}

@@ -3,7 +3,7 @@ use Prim.Native.Nat.{ℕ, suc, _+_, _-_}
 use mathlib.Core.List.{List, [], _∷_, map}
 use mathlib.Core.Option.{Option, none, some, Option·map}
 use lib.ListN.{getD, take, drop, getElem?}
-use Rattle.sheet.specs.Grammar.{Contract}
+use Rattle.grammar.specs.Grammar.{Contract}
 use Rattle.sheet.specs.Line.{Line}
 use Rattle.sheet.specs.Tree.{Node, node, Nodes, nil as done, more as then}
 use Rattle.rules.specs.Text.{Name}

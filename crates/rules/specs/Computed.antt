@@ -4,7 +4,7 @@ use mathlib.Core.List.{List, zip}
 use Rattle.text.specs.Text.{same, all, upto, ended}
 use Rattle.text.specs.Word.{place}
 use Rattle.text.specs.Field.{isName, isDecimal, valueFrom, numberOf}
-use Rattle.sheet.specs.Grammar.{kindFor}
+use Rattle.grammar.specs.Grammar.{kindFor}
 use Rattle.sheet.specs.Line.{when, onNumber, andThen, orTen, readField, readFields, readAs, fieldsOf, readPieces, readLine}
 use Rattle.sheet.specs.Load.{times, sorts, due, judged, scan, firstTrue, early, loadFrom, load}
 use Rattle.sheet.specs.Tree.{total, takeNodes, dropNodes, grow, build as trees}

@@ -3,7 +3,7 @@ use Prim.Native.Nat.{ℕ, zero, suc, _*_, _/_, _<_, _≤_}
 use mathlib.Core.List.{List, [], map}
 use mathlib.Core.Path.{_≡_}
 use lib.ListN.{length, take}
-use Rattle.sheet.specs.Grammar.{Sort}
+use Rattle.grammar.specs.Grammar.{Sort}
 use Rattle.sheet.specs.Held.{Among, Holding}
 use Rattle.sheet.specs.Line.{Line}
 use Rattle.sheet.specs.Load.{Loaded as Read, lines, refused}

@@ -12,13 +12,13 @@ use lib.ListN.{length, length-append}
 use Rattle.text.specs.Text.{bytes, either, same, ended}
 use Rattle.text.specs.Word.{place}
 use Rattle.text.proofs.Words.{same-is}
-use Rattle.sheet.specs.Grammar.{Sort, Contract, Item, Field, Param, Ty, Arg, Clause, Stmt, Expr, Rule, span, name, text, assignOp, unOp, binOp, count, flag, Row, rows, none, first, wordsOf, kindFor}
+use Rattle.grammar.specs.Grammar.{Sort, Contract, Item, Field, Param, Ty, Arg, Clause, Stmt, Expr, Rule, span, name, text, assignOp, unOp, binOp, count, flag, Row, rows, none, first, wordsOf, kindFor}
 use Rattle.sheet.specs.Line.{Line, readField, readFields, good, readPieces, readLine, fieldsOf}
 use Rattle.sheet.specs.Load.{lines, linesOf, scan}
 use Rattle.sheet.specs.Held.{Each, none as no-line, one}
 use Rattle.sheet.proofs.Holds.{judged-lines}
 use Rattle.sheet.proofs.ReadAs.{on-number, on-test, read-as}
-use Rattle.sheet.proofs.TableLaws.{every}
+use Rattle.grammar.proofs.TableLaws.{every}
 
 -- the bytes of the first k pieces, each with the byte that ends it
 abbrev pub bytesUpto : ℕ → List (List ℕ) → ℕ

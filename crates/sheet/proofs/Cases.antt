@@ -7,7 +7,7 @@ use lib.ListN.{length}
 use Rattle.text.specs.Text.{bytes, same, all, upto, ended}
 use Rattle.text.specs.Word.{place}
 use Rattle.text.specs.Field.{isName, isDecimal, valueFrom, numberOf}
-use Rattle.sheet.specs.Grammar.{kindFor}
+use Rattle.grammar.specs.Grammar.{kindFor}
 use Rattle.sheet.specs.Line.{when, onNumber, andThen, orTen, readField, readFields, readAs, fieldsOf, readPieces, readLine}
 use Rattle.sheet.specs.Load.{Loaded, lines, refused, times, sorts, due, judged, scan, firstTrue, tests, early, loadFrom, load}
 

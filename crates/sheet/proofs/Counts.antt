@@ -9,7 +9,7 @@ use lib.ListN.{getD}
 use borrow.Author.Tests.{eq-eqb, ne-eqb, lt-ltb, le-ltb}
 use Rattle.sheet.specs.Open.{settled, groupAt, nextSort}
 use Rattle.sheet.specs.Scratch.{entry, kindAt}
-use Rattle.sheet.specs.Table.{sortTable}
+use Rattle.grammar.specs.Table.{sortTable}
 
 -- the deepest of the depths, with the others
 settled-top : (ds : List ℕ) (n : ℕ) → 0 < n → settled ds n ≡ cond (eqb (getD ds (n - 1) 0) 0) (settled ds (n - 1)) n

@@ -8,8 +8,8 @@ use lib.Dec.{ltb}
 use lib.ListN.{length}
 use borrow.Author.Tests.{ltb-true}
 use Rattle.text.specs.Word.{place}
-use Rattle.sheet.specs.Grammar.{Sort, rows, first, wordsOf, kindFor}
-use Rattle.sheet.specs.Grammar as grammar
+use Rattle.grammar.specs.Grammar.{Sort, rows, first, wordsOf, kindFor}
+use Rattle.grammar.specs.Grammar as grammar
 use Rattle.sheet.specs.Line.{Line, readLine, fieldsOf}
 use Rattle.sheet.specs.Load.{lines, sorts, due, scan}
 use Rattle.sheet.specs.Tree.{Node, Nodes, more, takeNodes, dropNodes, grow, build}

@@ -5,12 +5,12 @@ use mathlib.Core.List.{List, [], _∷_}
 use Prim.Native.Nat.{ℕ, zero, suc, _+_, _*_, _/_, _<_, _≤_}
 use native.Mathlib.Omega.{arith}
 use lib.ListN.{length, getD, length-append}
-use Rattle.sheet.specs.Grammar.{Sort}
+use Rattle.grammar.specs.Grammar.{Sort}
 use Rattle.sheet.specs.Line.{Line, Read, good, bad}
 use Rattle.sheet.specs.Load.{Loaded, lines, refused, after, judged, scan}
 use Rattle.sheet.specs.Tree.{Node, node, Nodes, nil, more, total, takeNodes, dropNodes, grow, build}
 use Rattle.sheet.specs.Step.{told}
-use Rattle.sheet.specs.Table.{numbersIn}
+use Rattle.grammar.specs.Table.{numbersIn}
 use Rattle.sheet.specs.Scratch.{entry, put, putLine, kindAt, opAt, endAt, partsAt, written, skip, closed}
 use Rattle.sheet.specs.Held.{Says, Held, held, HeldAll, no-tree, tree, Due, done, next, Sound, Each, none, one}
 use Rattle.sheet.proofs.Due.{length-sorts, length-due}

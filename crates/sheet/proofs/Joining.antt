@@ -3,7 +3,7 @@ use mathlib.Core.Path.{_≡_, refl, ap, _∙_}
 use mathlib.Core.List.{List, [], _∷_, _++_, append-assoc, append-nil, Forall₂}
 use Prim.Native.Nat.{ℕ, _+_}
 use lib.ListN.{length}
-use Rattle.sheet.specs.Grammar.{Sort, Contract}
+use Rattle.grammar.specs.Grammar.{Sort, Contract}
 use Rattle.sheet.specs.Line.{Line, good, readLine}
 use Rattle.sheet.specs.Load.{Loaded, lines, linesOf, sorts, due, scan, early, loadFrom, load}
 use Rattle.sheet.specs.Same.{SameLine}

@@ -1,6 +1,4 @@
 pub mod Cases
-pub mod KindLaws
-pub mod TableLaws
 pub mod Reading
 pub mod Steps
 pub mod Turns

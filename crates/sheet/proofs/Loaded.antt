@@ -10,7 +10,7 @@ use borrow.Author.Tests.{lt-ltb}
 use Rattle.text.specs.Text.{either, upto}
 use Rattle.text.proofs.Pieces.{piece-first}
 use Rattle.sheet.specs.Field.{fieldAt}
-use Rattle.sheet.specs.Grammar.{Sort}
+use Rattle.grammar.specs.Grammar.{Sort}
 use Rattle.sheet.specs.Line.{Line, readLine, fieldsOf}
 use Rattle.sheet.specs.Load.{Loaded as Read, lines, refused, linesOf, scan, unended, early, load}
 use Rattle.sheet.specs.Tree.{Node, node, Nodes, nil, more, takeNodes, dropNodes, grow, build}

@@ -9,7 +9,7 @@ use lib.ListN.{length, getD, take, drop, set}
 use lib.Seq.{length-take-le, take-all, take-suc-set}
 use borrow.Author.Tests.{ltb-false}
 use lib.Dec.{ltb}
-use Rattle.sheet.specs.Grammar.{Sort}
+use Rattle.grammar.specs.Grammar.{Sort}
 use Rattle.sheet.specs.Line.{Line, Read as ReadLine, good, bad}
 use Rattle.sheet.specs.Load.{Loaded, lines, refused, linesOf, after, times, judged, scan, unended, firstTrue, tests, early, loadFrom, load}
 use Rattle.sheet.specs.Scratch.{closed}

@@ -10,9 +10,9 @@ use lib.Dec.{eqb, ltb}
 use lib.ListN.{length, getD, set, drop-of-length-le, length-set, length-append}
 use lib.Seq.{drop-cons, getD-set-same, getD-set-other}
 use borrow.Author.Tests.{lt-leb, eqb-true, eqb-false, ltb-true, ltb-false}
-use Rattle.sheet.specs.Grammar.{Expr}
+use Rattle.grammar.specs.Grammar.{Expr}
 use Rattle.sheet.specs.Load.{times, due}
-use Rattle.sheet.specs.Table.{sortOf}
+use Rattle.grammar.specs.Table.{sortOf}
 use Rattle.sheet.specs.Scratch.{entry, kindAt, partsAt}
 use Rattle.sheet.specs.Open.{groupSort, groupAt, nextSort, sortsAt, leftAt, opened, settled, spent, Owned, Open}
 use Rattle.sheet.specs.Scan.{sortDue}

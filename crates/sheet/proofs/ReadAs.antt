@@ -19,16 +19,16 @@ use Rattle.text.specs.declared.field.Number.the-variants.{Is, Bad}
 use Rattle.text.proofs.Fields.{number-most}
 use Rattle.text.proofs.Pieces.{upto-front, piece-first}
 use Rattle.sheet.specs.Field.{fieldAt}
-use Rattle.sheet.specs.Grammar.{Sort, Rule, span, name, text, assignOp, unOp, binOp, count, flag, assignOps, unOps, binOps, none, rowOf, kindFor}
+use Rattle.grammar.specs.Grammar.{Sort, Rule, span, name, text, assignOp, unOp, binOp, count, flag, assignOps, unOps, binOps, none, rowOf, kindFor}
 use Rattle.sheet.specs.Held.{spanless, Flagged, Parted}
 use Rattle.sheet.specs.Line.{Line, begun, when, onNumber, readField, andThen, readFields, good, bad, orTen, readAs, readPieces}
 use Rattle.sheet.specs.Say.{pieceAt}
 use Rattle.sheet.specs.Scratch.{Small}
 use Rattle.sheet.specs.Step.{told}
-use Rattle.sheet.specs.Table.{toldSorts, sortsIn, groupSorts, numbersIn}
+use Rattle.grammar.specs.Table.{toldSorts, sortsIn, groupSorts, numbersIn}
 use Rattle.sheet.specs.Tree.{total}
-use Rattle.sheet.proofs.KindLaws.{kind-known}
-use Rattle.sheet.proofs.TableLaws.{at-most, few-parts}
+use Rattle.grammar.proofs.KindLaws.{kind-known}
+use Rattle.grammar.proofs.TableLaws.{at-most, few-parts}
 
 -- what comes behind a piece's end does not change it
 upto-append : (p : ℕ → Bool) (l q : List ℕ) → length (upto p l) < length l → upto p (l ++ q) ≡ upto p l

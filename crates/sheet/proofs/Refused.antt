@@ -6,7 +6,7 @@ use Prim.Native.Nat.{ℕ, zero, suc, _+_, _≤_}
 use native.Mathlib.Omega.{arith}
 use lib.Dec.{eqb, ltb}
 use lib.ListN.{length}
-use Rattle.sheet.specs.Grammar.{Sort, Contract, rowOf, none, kindFor}
+use Rattle.grammar.specs.Grammar.{Sort, Contract, rowOf, none, kindFor}
 use Rattle.sheet.specs.Line.{Line, Read, good, bad, orTen, readAs, fieldsOf, readPieces, readLine}
 use Rattle.sheet.specs.Load.{Loaded, lines, refused, linesOf, after, sorts, due, judged, scan, early, loadFrom, load}
 

@@ -13,7 +13,7 @@ use Rattle.text.specs.Word.{place}
 use Rattle.text.specs.Field.{isText, numberOf}
 use Rattle.text.specs.declared.field.Number.{Number}
 use Rattle.text.specs.declared.field.Number.the-variants.{Is, Bad}
-use Rattle.sheet.specs.Grammar.{Sort, Contract, Item, Field, Param, Ty, Arg, Clause, Stmt, Expr, Rule, span, name, text, assignOp, unOp, binOp, count, flag, rowOf, none, kindFor}
+use Rattle.grammar.specs.Grammar.{Sort, Contract, Item, Field, Param, Ty, Arg, Clause, Stmt, Expr, Rule, span, name, text, assignOp, unOp, binOp, count, flag, rowOf, none, kindFor}
 use Rattle.sheet.specs.Line.{Line, begun, withSpan, withOp, withName, withParts, when, onNumber, readField, andThen, readFields, Read, good, bad, orTen, readAs, fieldsOf, readPieces, readLine}
 use Rattle.sheet.specs.Load.{Loaded, lines, sorts, due, judged, scan}
 use Rattle.sheet.specs.Same.{SameRecord, SameLine, TextApart, LineApart, same-bytes, int-texts}

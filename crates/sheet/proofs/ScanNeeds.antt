@@ -10,7 +10,7 @@ use mir.Syntax.{w64}
 use Rattle.text.specs.Text.{either, upto, ended}
 use Rattle.sheet.specs.Line.{good, readPieces, readLine}
 use Rattle.sheet.specs.Line as spec
-use Rattle.sheet.specs.Table.{sortOf}
+use Rattle.grammar.specs.Table.{sortOf}
 use Rattle.sheet.specs.Step.{told, toldRead}
 use Rattle.sheet.specs.Scan.{sortDue, Deepest, Accepts, Accepted, Whole, Going, Scans, tooDeep}
 use Rattle.sheet.specs.declared.line.Line.{Line}

@@ -12,10 +12,10 @@ use lib.Seq.{take-suc, getD-drop}
 use borrow.Author.Tests.{eqb-true, eqb-false, ne-eqb, le-ltb, lt-ltb, ltb-true, ltb-false}
 use Rattle.text.specs.Text.{either, upto, ended}
 use Rattle.text.proofs.Pieces.{upto-front, upto-most, upto-stop, piece-next}
-use Rattle.sheet.specs.Grammar.{Sort, Contract, Item, Field, Param, Ty, Arg, Clause, Stmt, Expr, rowOf}
+use Rattle.grammar.specs.Grammar.{Sort, Contract, Item, Field, Param, Ty, Arg, Clause, Stmt, Expr, rowOf}
 use Rattle.sheet.specs.Line.{Line, Read, good, bad, readPieces, readLine, fieldsOf}
 use Rattle.sheet.specs.Load.{Loaded, lines, refused, after, linesOf, times, sorts, due, judged, scan, unended}
-use Rattle.sheet.specs.Table.{sortOf, sortNumber, sortNumbers, sortsIn, groupSorts, numbersIn, three}
+use Rattle.grammar.specs.Table.{sortOf, sortNumber, sortNumbers, sortsIn, groupSorts, numbersIn, three}
 use Rattle.sheet.specs.Step.{told, toldRead}
 use Rattle.sheet.specs.Scratch.{entry, partsAt, putLine, written, Small}
 use Rattle.sheet.specs.Held.{Says}
@@ -27,7 +27,7 @@ use Rattle.sheet.specs.declared.line.LineRead.the-variants.{Good, Bad as
 use Rattle.sheet.specs.declared.scan.Scanned.{Scanned}
 use Rattle.sheet.specs.declared.scan.Scanned.the-variants.{Read as AllRead, Fault}
 use Rattle.sheet.proofs.ReadAs.{ReadAs, read-sound, sound-small}
-use Rattle.sheet.proofs.TableLaws.{sort-at}
+use Rattle.grammar.proofs.TableLaws.{sort-at}
 use Rattle.sheet.proofs.Holds.{line-says, line-below, length-line}
 use Rattle.sheet.proofs.Opening.{sorts-length, settled-most, opened-head, after-none, after-some, open-none, open-some}
 

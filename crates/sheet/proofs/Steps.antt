@@ -6,12 +6,9 @@ use Prim.Native.Nat.{ℕ, zero, suc, _+_, _≤_, _<_}
 use native.Mathlib.Omega.{arith}
 use lib.Dec.{ltb}
 use borrow.Author.Tests.{lt-ltb, le-ltb}
-use Rattle.text.specs.Text.{bytes, ended}
-use Rattle.text.specs.Word.{split}
 use Rattle.text.specs.declared.field.Number.{Number}
 use Rattle.text.specs.declared.field.Number.the-variants.{Is, Bad}
 use Rattle.sheet.specs.Field.{valueThen, nameThen}
-use Rattle.sheet.specs.Grammar.{assignOps, unOps, binOps}
 use Rattle.sheet.specs.Step.{taken, onNumber, when, withName, withOp, plainStep}
 use Rattle.sheet.specs.declared.cursor.Cursor.{Cursor}
 use Rattle.sheet.specs.declared.cursor.NumberRead.{NumberRead}
@@ -55,19 +52,6 @@ op-taken p q n c d l e f h = rw (← e, f, lt-ltb p n h)
 pub op-wrong : (p q n : ℕ) (c : Cursor) (l : Line) → p ≡ q → n ≤ p → Wrong ≡ taken (when (ltb q n) l) c
 unfolding when taken
 op-wrong p q n c l e h = rw (← e, le-ltb p n h)
-
--- the tables of operators, as the code has them
-pub assign-words : split (bytes "set add sub ") ≡ assignOps
-unfolding split ended
-assign-words = refl
-
-pub un-words : split (bytes "not neg ") ≡ unOps
-unfolding split ended
-un-words = refl
-
-pub bin-words : split (bytes "or and eq ne lt gt le ge add sub mul div rem shr ") ≡ binOps
-unfolding split ended
-bin-words = refl
 
 -- the numbers that have no arm of their own
 pub other-rule : (n a : ℕ) (f : List ℕ) (l : Line) (c : Cursor) → (n ≡ 1 → ⊥) → (n ≡ 2 → ⊥) → (n ≡ 3 → ⊥) → (n ≡ 4 → ⊥) → (n ≡ 5 → ⊥) → (n ≡ 6 → ⊥)

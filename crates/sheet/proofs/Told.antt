@@ -15,18 +15,18 @@ use Rattle.text.proofs.Pieces.{upto-front, ended-none, piece-next}
 use Rattle.text.specs.declared.field.Number.{Number}
 use Rattle.text.specs.declared.field.Number.the-variants.{Is, Bad}
 use Rattle.text.specs.Field.{numberOf}
-use Rattle.sheet.specs.Grammar.{Sort, Rule, span, name, text, assignOp, unOp, binOp, count, flag, none, rowOf, kindFor}
+use Rattle.grammar.specs.Grammar.{Sort, Rule, span, name, text, assignOp, unOp, binOp, count, flag, none, rowOf, kindFor}
 use Rattle.sheet.specs.Line as line
 use Rattle.sheet.specs.Line.{begun, withParts, readField, readFields, readAs, readPieces}
-use Rattle.sheet.specs.Table.{ruleNumbers, toldSorts, lengthTable, numbersIn, alwaysTable, numbersOf}
+use Rattle.grammar.specs.Table.{ruleNumbers, toldSorts, lengthTable, numbersIn, alwaysTable, numbersOf}
 use Rattle.sheet.specs.Step as step
 use Rattle.sheet.specs.Step.{told, toldRead, partsStep, stepOf, stepAll}
 use Rattle.sheet.specs.Field.{fieldAt, endAt}
 use Rattle.sheet.specs.declared.line.Line.{Line}
 use Rattle.sheet.specs.declared.line.LineRead.{LineRead}
 use Rattle.sheet.specs.declared.line.LineRead.the-variants.{Bad as BadLine}
-use Rattle.sheet.proofs.KindLaws.{kind-known}
-use Rattle.sheet.proofs.TableLaws.{number-at, fields-at, few-always, few-parts}
+use Rattle.grammar.proofs.KindLaws.{kind-known}
+use Rattle.grammar.proofs.TableLaws.{number-at, fields-at, few-always, few-parts}
 
 unfoldable pub mapTold : Option line.Line → Option Line
 mapTold (some l) = some (told l)

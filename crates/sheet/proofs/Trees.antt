@@ -4,7 +4,7 @@ use mathlib.Core.List.{List, _∷_, _++_, Forall₂, Forall₂·nil as nil₂, F
 use Prim.Native.Nat.{ℕ, zero, suc, _+_}
 use native.Mathlib.Omega.{arith}
 use lib.ListN.{length}
-use Rattle.sheet.specs.Grammar.{Sort, Contract}
+use Rattle.grammar.specs.Grammar.{Sort, Contract}
 use Rattle.sheet.specs.Line.{Line}
 use Rattle.sheet.specs.Load.{lines, linesOf, times, load}
 use Rattle.sheet.specs.Tree.{Node, node, Nodes, nil, more, total, takeNodes, dropNodes, grow, build, before}

@@ -4,11 +4,11 @@ use mathlib.Core.List.{List, [], _∷_, _++_}
 use mathlib.Core.Bool.{Bool, true, false}
 use mathlib.Core.Path.{_≡_}
 use lib.ListN.{length, getD}
-use Rattle.sheet.specs.Grammar as grammar
+use Rattle.grammar.specs.Grammar as grammar
 use Rattle.sheet.specs.Line as line
 use Rattle.sheet.specs.Tree.{Node, node, Nodes, nil, more, total}
 use Rattle.sheet.specs.Load.{sorts}
-use Rattle.sheet.specs.Table.{numbersIn, sortsIn, groupSorts}
+use Rattle.grammar.specs.Table.{numbersIn, sortsIn, groupSorts}
 use Rattle.sheet.specs.Step.{told}
 use Rattle.sheet.specs.Scratch.{entry, kindAt, opAt, startAt, endAt, nameAt, Small}
 use Rattle.sheet.specs.Say.{spanAt, nspanAt}

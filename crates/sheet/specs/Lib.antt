@@ -1,9 +1,7 @@
-pub mod Grammar
 pub mod Line
 pub mod Load
 pub mod Tree
 pub mod Same
-pub mod Table
 pub mod Field
 pub mod Step
 pub mod Scratch

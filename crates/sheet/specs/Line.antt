@@ -10,7 +10,7 @@ use Rattle.text.specs.Word.{place}
 use Rattle.text.specs.Field.{isName, isText, numberOf}
 use Rattle.text.specs.declared.field.Number.{Number}
 use Rattle.text.specs.declared.field.Number.the-variants.{Is, Bad}
-use Rattle.sheet.specs.Grammar.{Sort, Rule, span, name, text, assignOp, unOp, binOp, count, flag, assignOps, unOps, binOps, rowOf, none, kindFor}
+use Rattle.grammar.specs.Grammar.{Sort, Rule, span, name, text, assignOp, unOp, binOp, count, flag, assignOps, unOps, binOps, rowOf, none, kindFor}
 
 -- A line: its record's kind, where it starts in the sheet, its operator's place among those of its record, its SPAN and
 -- NSPAN in their order, its NAME or TEXT and where that starts in the sheet, and how many parts of which sort it has.

@@ -5,7 +5,7 @@ use mathlib.Core.List.{List, [], _∷_, _++_}
 use lib.Dec.{eqb, ltb}
 use lib.ListN.{length, getD}
 use Rattle.text.specs.Text.{either, ended}
-use Rattle.sheet.specs.Grammar.{Sort, Contract}
+use Rattle.grammar.specs.Grammar.{Sort, Contract}
 use Rattle.sheet.specs.Line.{Line, Read, good, bad, readLine}
 
 -- the lines of a sheet, each ended by LF

@@ -6,9 +6,9 @@ use mathlib.Core.Bool.{cond, _||_}
 use mathlib.Core.List.{List, [], _++_}
 use lib.Dec.{eqb, ltb}
 use lib.ListN.{length, getD, set, drop}
-use Rattle.sheet.specs.Grammar.{Sort, Contract}
+use Rattle.grammar.specs.Grammar.{Sort, Contract}
 use Rattle.sheet.specs.Load.{times, due}
-use Rattle.sheet.specs.Table.{sortOf, sortTable}
+use Rattle.grammar.specs.Table.{sortOf, sortTable}
 use Rattle.sheet.specs.Scratch.{entry, kindAt, partsAt}
 
 -- the number of the sort of the parts in group g of line i

@@ -6,7 +6,7 @@ use mathlib.Core.List.{List, [], _∷_}
 use lib.Dec.{leb}
 use lib.ListN.{length, getD, drop}
 use Rattle.text.specs.Text.{ended}
-use Rattle.sheet.specs.Grammar.{Contract}
+use Rattle.grammar.specs.Grammar.{Contract}
 use Rattle.sheet.specs.Line.{Line}
 use Rattle.sheet.specs.Load.{Loaded, lines, refused, after, linesOf, scan, unended}
 use Rattle.sheet.specs.Scratch.{putLine, written, Small}

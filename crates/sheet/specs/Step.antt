@@ -11,10 +11,10 @@ use Rattle.text.specs.Word.{place}
 use Rattle.text.specs.Field.{numberOf}
 use Rattle.text.specs.declared.field.Number.{Number}
 use Rattle.text.specs.declared.field.Number.the-variants.{Is, Bad}
-use Rattle.sheet.specs.Grammar.{assignOps, unOps, binOps, rowOf}
+use Rattle.grammar.specs.Grammar.{assignOps, unOps, binOps, rowOf}
 use Rattle.sheet.specs.Line.{Read, good, bad}
 use Rattle.sheet.specs.Line as line
-use Rattle.sheet.specs.Table.{numbersIn}
+use Rattle.grammar.specs.Table.{numbersIn}
 use Rattle.sheet.specs.Field.{isWritten}
 use Rattle.sheet.specs.declared.cursor.Cursor.{Cursor}
 use Rattle.sheet.specs.declared.line.Line.{Line}

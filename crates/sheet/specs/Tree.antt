@@ -1,7 +1,7 @@
 -- The tree of a sheet: a record's parts follow it directly, each with its own parts.
 use Prim.Native.Nat.{ℕ, zero, suc, _+_}
 use mathlib.Core.List.{List, [], _∷_}
-use Rattle.sheet.specs.Grammar.{Sort}
+use Rattle.grammar.specs.Grammar.{Sort}
 use Rattle.sheet.specs.Line.{Line}
 
 mutual

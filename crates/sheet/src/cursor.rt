@@ -1,5 +1,5 @@
 // A reading place in a line, taken with its LF; each method gives the field read and the place after it.
-use crate::words::place_bin;
+use grammar::place_bin;
 use text::Number;
 use text::find;
 use text::is_name;
@@ -10,7 +10,7 @@ ghost use mathlib.Core.Path.{_≡_};
 ghost use lib.ListN.{length};
 ghost use Rattle.text.specs.Field.{numberOf};
 ghost use Rattle.text.specs.Word.{place, split};
-ghost use Rattle.sheet.specs.Grammar.{binOps};
+ghost use Rattle.grammar.specs.Grammar.{binOps};
 ghost use Rattle.sheet.specs.Field.{Ends, fieldAt, isWritten, nameThen, nextAt, valueThen};
 
 pub struct Cursor {

@@ -1,14 +1,11 @@
 // The sheet reader: from the bytes of a sheet to loaded lines, or a refusal from 1 to 11.
 mod cursor;
-mod grammar;
 mod line;
 mod lines;
 mod loader;
 mod open;
 mod scan;
 mod scratch;
-mod tables;
-mod words;
 
 pub use lines::end;
 pub use lines::first;

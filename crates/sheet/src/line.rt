@@ -3,10 +3,10 @@ use crate::cursor::Cursor;
 use crate::cursor::NameRead;
 use crate::cursor::NumberRead;
 use crate::cursor::PlaceRead;
-use crate::grammar::kind_for;
-use crate::tables::always;
-use crate::tables::fields;
-use crate::tables::rule;
+use grammar::always;
+use grammar::fields;
+use grammar::kind_for;
+use grammar::rule;
 use text::count;
 use text::find;
 ghost use mathlib.Core.List.{[]};
@@ -19,7 +19,7 @@ ghost use Rattle.sheet.specs.Field.{Ends, fieldAt, nextAt};
 ghost use Rattle.sheet.specs.Line.{readPieces};
 ghost use Rattle.sheet.specs.Scratch.{Small};
 ghost use Rattle.sheet.specs.Step.{Fields, nameStep, orTen, partsStep, plainStep, spanStep, stepAll, stepOf, taken, toldRead, when, withOp, withParts};
-ghost use Rattle.sheet.specs.Table.{numbersOf, sortOf};
+ghost use Rattle.grammar.specs.Table.{numbersOf, sortOf};
 
 // A line without its spans: where it and its name start in the sheet, and how many parts of each of its record's sorts it has.
 pub struct Line {

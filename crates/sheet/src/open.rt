@@ -1,6 +1,6 @@
 // The records still due at each depth while lines are read.
 use crate::scratch::entry;
-use crate::tables::part_sort;
+use grammar::part_sort;
 ghost use mathlib.Core.Path.{_≡_};
 ghost use Prim.Native.Nat.{_+_, _-_, _<_, _≤_};
 ghost use Rattle.sheet.specs.Open.{Next, nextSort, settled, Took, Top};

@@ -10,7 +10,7 @@ use native.Mathlib.Omega.{arith}
 use lib.Dec.{eqb, ltb}
 use Rattle.text.specs.Text.{bytes, ended}
 use Rattle.text.specs.Word.{place, split}
-use Rattle.sheet.specs.Grammar as grammar
+use Rattle.grammar.specs.Grammar as grammar
 use Rattle.sheet.specs.Scratch.{kindAt, opAt, endAt, nameAt}
 use Rattle.rules.specs.Text.{Name, isOne}
 use Rattle.rules.specs.Ast.{Set, id, leaf, Field, span, leafOf, assign, do', typeName}

@@ -8,7 +8,7 @@ use Prim.Native.Nat.{ℕ}
 use native.Mathlib.Omega.{arith}
 use lib.Dec.{eqb, leb}
 use borrow.Author.Tests.{eqb-true, eqb-false, ne-eqb, not-true, not-false}
-use Rattle.sheet.specs.Grammar as grammar
+use Rattle.grammar.specs.Grammar as grammar
 use Rattle.sheet.specs.Scratch.{kindAt, nameAt}
 use Rattle.rules.specs.Text.{Name}
 use Rattle.sheet.specs.Tree.{node}

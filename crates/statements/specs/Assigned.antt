@@ -6,7 +6,7 @@ use mathlib.Core.Option.{Option, none, some}
 use mathlib.Core.Path.{_≡_}
 use lib.Dec.{eqb}
 use lib.ListN.{length, getD}
-use Rattle.sheet.specs.Grammar as grammar
+use Rattle.grammar.specs.Grammar as grammar
 use Rattle.sheet.specs.Scratch.{kindAt, nameAt}
 use Rattle.rules.specs.Ast.{AssignOp, Set, assignOps, Expr, span}
 use Rattle.rules.specs.Asking.{Ty, code}

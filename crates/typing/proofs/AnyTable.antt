@@ -10,7 +10,7 @@ use lib.ListN.{length, getD, take}
 use lib.Seq.{getD-set-same}
 use borrow.Author.Tests.{lt-leb}
 use Rattle.text.specs.Text.{bytes}
-use Rattle.sheet.specs.Grammar as grammar
+use Rattle.grammar.specs.Grammar as grammar
 use Rattle.sheet.specs.Load.{times, load}
 use Rattle.sheet.specs.Promise.{laid, scratchFrom, scratchAfter}
 use Rattle.sheet.specs.Scratch.{entry, put, putLine, written, kindAt, skip, closed}

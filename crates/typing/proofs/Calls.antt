@@ -7,7 +7,7 @@ use native.Mathlib.Numerals.{add-one}
 use native.Mathlib.Omega.{arith}
 use borrow.Author.Needs.{needs}
 use lib.ListN.{length}
-use Rattle.sheet.specs.Grammar as grammar
+use Rattle.grammar.specs.Grammar as grammar
 use Rattle.sheet.specs.Scratch.{entry, endAt}
 use Rattle.sheet.specs.Say.{spanAt}
 use Rattle.sheet.specs.Tree.{takeNodes}

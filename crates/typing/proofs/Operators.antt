@@ -6,7 +6,7 @@ use native.Mathlib.Numerals.{add-one}
 use native.Mathlib.Omega.{arith}
 use borrow.Author.Needs.{needs}
 use lib.ListN.{length, getD}
-use Rattle.sheet.specs.Grammar as grammar
+use Rattle.grammar.specs.Grammar as grammar
 use Rattle.sheet.specs.Scratch.{opAt, endAt}
 use Rattle.sheet.specs.Say.{spanAt}
 use Rattle.rules.specs.Ast.{Neg, Shr, unaryOps, binOps, unary, binary}

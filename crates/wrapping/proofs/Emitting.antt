@@ -10,7 +10,7 @@ use mir.Syntax.{w64}
 use mir.Val.{Fits}
 use lib.Dec.{eqb}
 use lib.ListN.{length}
-use Rattle.sheet.specs.Grammar as grammar
+use Rattle.grammar.specs.Grammar as grammar
 use Rattle.sheet.specs.Scratch.{endAt, nameAt, entry}
 use Rattle.sheet.specs.Tree.{takeNodes}
 use Rattle.rules.specs.Text.{Name}

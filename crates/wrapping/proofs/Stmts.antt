@@ -10,7 +10,7 @@ use lib.Dec.{eqb}
 use lib.ListN.{length, getD, set, length-set}
 use lib.Seq.{getD-set-same, getD-set-other}
 use borrow.Author.Tests.{ne-eqb}
-use Rattle.sheet.specs.Grammar as grammar
+use Rattle.grammar.specs.Grammar as grammar
 use Rattle.sheet.specs.Scratch.{kindAt, endAt, nameAt, entry, skip}
 use Rattle.rules.specs.Text.{Name}
 use Rattle.rules.specs.Ast.{Stmt, list}

@@ -2,7 +2,7 @@
 use Prim.Native.Nat.{ℕ, _/_, _≤_}
 use mathlib.Core.List.{List}
 use lib.ListN.{length}
-use Rattle.sheet.specs.Grammar as grammar
+use Rattle.grammar.specs.Grammar as grammar
 use Rattle.rules.specs.Standing.{Loaded, Here, Row}
 use Rattle.declared.specs.Lines.{EntryAt}
 

@@ -8,7 +8,7 @@ ghost use mathlib.Core.Path.{_≡_};
 ghost use Prim.Native.Nat.{_/_, _<_};
 ghost use lib.ListN.{length};
 ghost use Rattle.text.specs.Text.{same};
-ghost use Rattle.sheet.specs.Grammar.{Expr, Stmt};
+ghost use Rattle.grammar.specs.Grammar.{Expr, Stmt};
 ghost use Rattle.sheet.specs.Scratch.{nameAt};
 ghost use Rattle.rules.specs.Assets.{wraps as wrapsOf};
 ghost use Rattle.rules.specs.Standing.{exprAt};

@@ -18,7 +18,7 @@ ghost use mathlib.Core.Path.{_≡_};
 ghost use Prim.Native.Nat.{_/_, _<_, suc};
 ghost use lib.Dec.{eqb};
 ghost use lib.ListN.{length};
-ghost use Rattle.sheet.specs.Grammar.{Expr, Stmt};
+ghost use Rattle.grammar.specs.Grammar.{Expr, Stmt};
 ghost use Rattle.sheet.specs.Scratch.{entry, kindAt, nameAt};
 ghost use Rattle.rules.specs.Assets.{narrowSet, narrowStmt, wraps as wrapsOf};
 ghost use Rattle.rules.specs.Ast.{list};

@@ -1,5 +1,5 @@
 use borrow.Author.Needs.{needs}
-use Rattle.sheet.specs.Grammar.{Stmt}
+use Rattle.grammar.specs.Grammar.{Stmt}
 use Rattle.rules.specs.Arithmetic.{checkArithmetic, checkSum}
 use Rattle.rules.specs.Check.{paramTypes}
 use Rattle.rules.specs.Standing.{entryAt, stmtsAt}

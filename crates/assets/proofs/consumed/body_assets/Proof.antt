@@ -1,5 +1,5 @@
 use borrow.Author.Needs.{needs}
-use Rattle.sheet.specs.Grammar.{Stmt}
+use Rattle.grammar.specs.Grammar.{Stmt}
 use Rattle.rules.specs.Asking.{forEach}
 use Rattle.rules.specs.Assets.{assetCallsConsumed}
 use Rattle.rules.specs.Standing.{stmtsAt}

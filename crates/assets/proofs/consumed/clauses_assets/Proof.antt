@@ -1,5 +1,5 @@
 use borrow.Author.Needs.{needs}
-use Rattle.sheet.specs.Grammar.{Clause}
+use Rattle.grammar.specs.Grammar.{Clause}
 use Rattle.rules.specs.Asking.{forEach}
 use Rattle.rules.specs.Check.{clauseAssets}
 use Rattle.rules.specs.Standing.{clausesAt}

@@ -1,5 +1,5 @@
 use borrow.Author.Needs.{needs}
-use Rattle.sheet.specs.Grammar.{Expr}
+use Rattle.grammar.specs.Grammar.{Expr}
 use Rattle.rules.specs.Asking.{forEach}
 use Rattle.rules.specs.Assets.{consumedAssetCall}
 use Rattle.declared.proofs.Rows.{exprs, exprsIn, Turn, turn-start, turn-here, turn-refused, turn-next, turn-over}

@@ -1,5 +1,5 @@
 use borrow.Author.Needs.{needs}
-use Rattle.sheet.specs.Grammar.{Param}
+use Rattle.grammar.specs.Grammar.{Param}
 use Rattle.rules.specs.Asking.{forEach}
 use Rattle.rules.specs.Standing.{paramsAt}
 use Rattle.declared.proofs.Rows.{params, Turn, turn-start, turn-here, turn-refused, turn-next, turn-over}

@@ -8,8 +8,8 @@ use native.Mathlib.Omega.{arith}
 use lib.ListN.{length, getD, drop}
 use Rattle.text.specs.Text.{either, ended}
 use Rattle.sheet.specs.Step.{orTen, stepAll}
-use Rattle.sheet.specs.Table.{numbersOf}
-use Rattle.sheet.proofs.TableLaws.{rule-at, numbers-count, fields-at}
+use Rattle.grammar.specs.Table.{numbersOf}
+use Rattle.grammar.proofs.TableLaws.{rule-at, numbers-count, fields-at}
 use Rattle.sheet.proofs.Turns.{Turn, turn-over, turn-ends, turn-wrong, turn-taken}
 use Rattle.sheet.proofs.line.read_fields.Statement.{statement}
 use Rattle.sheet.proofs.line.read_fields.Tie as tie

@@ -3,8 +3,8 @@ use mathlib.Core.Path.{sym}
 use borrow.Author.Needs.{needs}
 use native.Mathlib.Omega.{arith}
 use lib.Seq.{length-take-le}
-use Rattle.sheet.proofs.KindLaws.{kind-known}
-use Rattle.sheet.proofs.TableLaws.{fields-at}
+use Rattle.grammar.proofs.KindLaws.{kind-known}
+use Rattle.grammar.proofs.TableLaws.{fields-at}
 use Rattle.sheet.proofs.Told.{line-empty, line-unknown, line-fields, line-left, line-read}
 use Rattle.sheet.proofs.line.read_line.Statement.{statement}
 use Rattle.sheet.proofs.line.read_line.Tie as tie

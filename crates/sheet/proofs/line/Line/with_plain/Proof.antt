@@ -1,6 +1,7 @@
 -- `sheet::line::Line::with_plain` meets its contract: each arm is the step of its number. Assumes nothing.
 use borrow.Author.Needs.{needs}
-use Rattle.sheet.proofs.Steps.{assign-words, un-words, other-rule}
+use Rattle.grammar.proofs.KindLaws.{assign-words, un-words}
+use Rattle.sheet.proofs.Steps.{other-rule}
 use Rattle.sheet.proofs.line.Line.with_plain.Statement.{statement}
 use Rattle.sheet.proofs.line.Line.with_plain.Tie as tie
 

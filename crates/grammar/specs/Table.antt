@@ -3,7 +3,7 @@
 use Prim.Native.Nat.{ℕ, suc, _+_}
 use mathlib.Core.List.{List, [], _∷_, _++_}
 use lib.ListN.{length, getD}
-use Rattle.sheet.specs.Grammar.{Sort, Contract, Item, Field, Param, Ty, Arg, Clause, Stmt, Expr, Rule, span, name, text, assignOp, unOp, binOp, count, flag, Row, records, rowOf}
+use Rattle.grammar.specs.Grammar.{Sort, Contract, Item, Field, Param, Ty, Arg, Clause, Stmt, Expr, Rule, span, name, text, assignOp, unOp, binOp, count, flag, Row, records, rowOf}
 
 abbrev pub sortOf : ℕ → Sort
 sortOf n = getD (Contract ∷ Item ∷ Field ∷ Param ∷ Ty ∷ Arg ∷ Clause ∷ Stmt ∷ []) n Expr

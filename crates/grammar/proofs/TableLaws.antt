@@ -8,8 +8,8 @@ use lib.Dec.{leb}
 use lib.ListN.{length, getD, List·getD-append}
 use lib.Seq.{getD-append-add}
 use borrow.Author.Tests.{leb-true}
-use Rattle.sheet.specs.Grammar.{Rule, span, name, text, assignOp, unOp, binOp, count, flag, Row, records, rowOf}
-use Rattle.sheet.specs.Table.{ruleNumbers, toldSorts, three, tableOf, ruleTable, lengthTable, numbersOf, sortTable, sortNumbers, groupSorts}
+use Rattle.grammar.specs.Grammar.{Rule, span, name, text, assignOp, unOp, binOp, count, flag, Row, records, rowOf}
+use Rattle.grammar.specs.Table.{ruleNumbers, toldSorts, three, tableOf, ruleTable, lengthTable, numbersOf, sortTable, sortNumbers, groupSorts}
 
 -- entry j of row k of a table whose rows have w entries
 pub table-at : {A : Type 0} (f : Row → List A) (w : ℕ) (d : A) (none : Row) → ((r : Row) → length (f r) ≡ w) → (rs : List Row) (k j : ℕ) → k < length rs → j < w

@@ -1,9 +1,9 @@
 -- `sheet::words::try_expr` meets its contract: the word that is tried stands at its place. Assumes nothing.
 use borrow.Author.Needs.{needs}
 use native.Mathlib.Omega.{arith}
-use Rattle.sheet.proofs.KindLaws.{tried-expr}
-use Rattle.sheet.proofs.words.try_expr.Statement.{statement}
-use Rattle.sheet.proofs.words.try_expr.Tie as tie
+use Rattle.grammar.proofs.KindLaws.{tried-expr}
+use Rattle.grammar.proofs.words.try_expr.Statement.{statement}
+use Rattle.grammar.proofs.words.try_expr.Tie as tie
 
 pub try-expr-spec : {M : Type 1} → statement M
 try-expr-spec =

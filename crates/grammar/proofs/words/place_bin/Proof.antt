@@ -1,7 +1,7 @@
 use borrow.Author.Needs.{needs}
-use Rattle.sheet.proofs.Steps.{bin-words}
-use Rattle.sheet.proofs.words.place_bin.Statement.{statement}
-use Rattle.sheet.proofs.words.place_bin.Tie as tie
+use Rattle.grammar.proofs.KindLaws.{bin-words}
+use Rattle.grammar.proofs.words.place_bin.Statement.{statement}
+use Rattle.grammar.proofs.words.place_bin.Tie as tie
 
 returns : tie.Need-returns
 returns c = c .before .try-bin .ensures (c .if1 .taken)

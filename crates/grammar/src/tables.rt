@@ -2,7 +2,7 @@
 ghost use mathlib.Core.Path.{_≡_};
 ghost use Prim.Native.Nat.{_*_, _+_, _<_};
 ghost use lib.ListN.{getD};
-ghost use Rattle.sheet.specs.Table.{alwaysTable, lengthTable, ruleTable, sortTable};
+ghost use Rattle.grammar.specs.Table.{alwaysTable, lengthTable, ruleTable, sortTable};
 
 // A table is made where it is read: bytes are made in a few instructions, numbers one by one.
 fn wide(x: u8) -> usize

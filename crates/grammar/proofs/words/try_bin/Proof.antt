@@ -1,9 +1,9 @@
 -- `sheet::words::try_bin` meets its contract: the word that is tried stands at its place. Assumes nothing.
 use borrow.Author.Needs.{needs}
 use native.Mathlib.Omega.{arith}
-use Rattle.sheet.proofs.KindLaws.{tried-bin}
-use Rattle.sheet.proofs.words.try_bin.Statement.{statement}
-use Rattle.sheet.proofs.words.try_bin.Tie as tie
+use Rattle.grammar.proofs.KindLaws.{tried-bin}
+use Rattle.grammar.proofs.words.try_bin.Statement.{statement}
+use Rattle.grammar.proofs.words.try_bin.Tie as tie
 
 pub try-bin-spec : {M : Type 1} → statement M
 try-bin-spec =

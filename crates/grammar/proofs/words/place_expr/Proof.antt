@@ -1,8 +1,8 @@
 use borrow.Author.Needs.{needs}
-use Rattle.sheet.specs.Grammar.{Expr}
-use Rattle.sheet.proofs.KindLaws.{words-of}
-use Rattle.sheet.proofs.words.place_expr.Statement.{statement}
-use Rattle.sheet.proofs.words.place_expr.Tie as tie
+use Rattle.grammar.specs.Grammar.{Expr}
+use Rattle.grammar.proofs.KindLaws.{words-of}
+use Rattle.grammar.proofs.words.place_expr.Statement.{statement}
+use Rattle.grammar.proofs.words.place_expr.Tie as tie
 
 returns : tie.Need-returns
 returns c = c .before .try-expr .ensures (c .if1 .taken)

@@ -1,9 +1,9 @@
 -- `sheet::grammar::kind_for` meets its contract: each arm looks the word up among those of its sort. Assumes nothing.
 use borrow.Author.Needs.{needs}
-use Rattle.sheet.specs.Grammar.{Contract, Item, Field, Param, Ty, Arg, Clause, Stmt, Expr}
-use Rattle.sheet.proofs.KindLaws.{kind-at, kind-arm, other-sort}
-use Rattle.sheet.proofs.grammar.kind_for.Statement.{statement}
-use Rattle.sheet.proofs.grammar.kind_for.Tie as tie
+use Rattle.grammar.specs.Grammar.{Contract, Item, Field, Param, Ty, Arg, Clause, Stmt, Expr}
+use Rattle.grammar.proofs.KindLaws.{kind-at, kind-arm, other-sort}
+use Rattle.grammar.proofs.kinds.kind_for.Statement.{statement}
+use Rattle.grammar.proofs.kinds.kind_for.Tie as tie
 
 returns : tie.Need-returns
 returns c = rw (c .before .before .before .match .keys1) (kind-arm Contract _ _ _ (c .before .place-in .ensures) (c .within .ensures))

@@ -3,9 +3,9 @@ use crate::words::place_expr;
 use text::place_in;
 ghost use mathlib.Core.Path.{_≡_};
 ghost use Prim.Native.Nat.{_+_, _≤_};
-ghost use Rattle.sheet.specs.Grammar.{kindFor};
-ghost use Rattle.sheet.specs.Grammar.{within as withinOf};
-ghost use Rattle.sheet.specs.Table.{sortOf};
+ghost use Rattle.grammar.specs.Grammar.{kindFor};
+ghost use Rattle.grammar.specs.Grammar.{within as withinOf};
+ghost use Rattle.grammar.specs.Table.{sortOf};
 
 fn within(first: usize, n: usize, p: usize) -> usize
     requires { ⌜ first + n ≤ 34 ⌝ }

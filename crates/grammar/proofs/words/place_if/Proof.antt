@@ -1,6 +1,6 @@
 use borrow.Author.Needs.{needs}
-use Rattle.sheet.proofs.words.place_if.Statement.{statement}
-use Rattle.sheet.proofs.words.place_if.Tie as tie
+use Rattle.grammar.proofs.words.place_if.Statement.{statement}
+use Rattle.grammar.proofs.words.place_if.Tie as tie
 
 returns : tie.Need-returns
 returns c = rw (← c .before .is-word .ensures, c .if1 .taken)

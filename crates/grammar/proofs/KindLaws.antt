@@ -12,8 +12,8 @@ use Prim.Native.String.{String}
 use Rattle.text.specs.Text.{bytes, ended, same}
 use Rattle.text.specs.Word.{place, split}
 use Rattle.text.proofs.Words.{same-is}
-use Rattle.sheet.specs.Grammar.{binOps, Sort, Contract, Item, Field, Param, Ty, Arg, Clause, Stmt, Expr, rows, none, first, within, wordsOf, kindFor}
-use Rattle.sheet.specs.Table.{sortOf}
+use Rattle.grammar.specs.Grammar.{assignOps, unOps, binOps, Sort, Contract, Item, Field, Param, Ty, Arg, Clause, Stmt, Expr, rows, none, first, within, wordsOf, kindFor}
+use Rattle.grammar.specs.Table.{sortOf}
 
 -- the words of a sort's records, as the code has them
 abbrev pub table : Sort → String
@@ -38,6 +38,19 @@ words-of Arg = refl
 words-of Clause = refl
 words-of Stmt = refl
 words-of Expr = refl
+
+-- and the operators
+pub assign-words : split (bytes "set add sub ") ≡ assignOps
+unfolding split ended
+assign-words = refl
+
+pub un-words : split (bytes "not neg ") ≡ unOps
+unfolding split ended
+un-words = refl
+
+pub bin-words : split (bytes "or and eq ne lt gt le ge add sub mul div rem shr ") ≡ binOps
+unfolding split ended
+bin-words = refl
 
 -- whether the words vs stand in ws at the places from k on
 standing : List (List ℕ) → ℕ → List (List ℕ) → Bool

@@ -1,7 +1,7 @@
 use borrow.Author.Needs.{needs}
 use borrow.Author.Tests.{lt-ltb, le-ltb}
-use Rattle.sheet.proofs.grammar.within.Statement.{statement}
-use Rattle.sheet.proofs.grammar.within.Tie as tie
+use Rattle.grammar.proofs.kinds.within.Statement.{statement}
+use Rattle.grammar.proofs.kinds.within.Tie as tie
 
 returns : tie.Need-returns
 returns c = rw (lt-ltb _ _ (c .if1 .taken))

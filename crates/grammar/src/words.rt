@@ -6,7 +6,7 @@ ghost use mathlib.Core.Path.{_≡_};
 ghost use Prim.Native.Nat.{_<_};
 ghost use Rattle.text.specs.Text.{same};
 ghost use Rattle.text.specs.Word.{place};
-ghost use Rattle.sheet.specs.Grammar.{binOps, Expr, rows, wordsOf};
+ghost use Rattle.grammar.specs.Grammar.{binOps, Expr, rows, wordsOf};
 
 fn wide(x: u8) -> usize
     ensures { λ r. ⌜ r < 256 ⌝ }
