@@ -22,7 +22,7 @@ use Rattle.rules.proofs.Exprs.{by-kind}
 use Rattle.rules.proofs.Forest.{joined, partsOf}
 use Rattle.rules.proofs.Standing.{row-first}
 use Rattle.rules.proofs.Records.{limits-at}
-use Rattle.declared.proofs.Tables.{or-parts}
+use Rattle.text.proofs.Tests.{or-parts}
 use Rattle.declared.specs.Lines.{ExprAt, RecordAt}
 use Rattle.arithmetic.specs.Tests.{compares}
 use Rattle.arithmetic.proofs.Ops.{op-place, either, fits-next, the-bin, the-op}

@@ -26,7 +26,7 @@ use Rattle.rules.proofs.Records.{no-nodes, group, event-at, entry-at}
 use Rattle.rules.proofs.Standing.{Stands, stands, nodes-next, row-first, row-rest, row-take}
 use Rattle.rules.proofs.Binding.{kept-assoc, kept-behind, kept-unit, each-append}
 use Rattle.declared.proofs.Fields.{items-at}
-use Rattle.declared.proofs.Tables.{or-parts}
+use Rattle.text.proofs.Tests.{or-parts}
 use Rattle.declared.specs.Answers.{Answers}
 use Rattle.declared.specs.Found.{ofKind}
 use Rattle.declared.specs.Lines.{RecordsAt, FewLines}

@@ -13,11 +13,6 @@ use Rattle.text.specs.Word.{place}
 use Rattle.grammar.specs.Grammar.{words}
 use Rattle.rules.specs.Text.{Name, is, isOne, pick}
 
--- neither of two tests holds
-pub or-parts : (a b : Bool) → (a || b) ≡ false → (a ≡ false) × (b ≡ false)
-or-parts true b e = absurd (let z : _≡_ {A = ℕ} 0 1 = cc in omega arith)
-or-parts false b e = (refl, e)
-
 -- what a table has for a name is what stands at the name's place among its words
 abbrev pub wordsIn : {A : Type 0} → List (String × A) → List (List ℕ)
 wordsIn [] = []

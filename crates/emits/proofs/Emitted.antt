@@ -38,7 +38,7 @@ use Rattle.declared.specs.declared.refusal.Done.{Done}
 use Rattle.declared.specs.declared.refusal.Done.the-variants.{Fine, Refused}
 use Rattle.declared.proofs.Answers.{fits, misfits}
 use Rattle.declared.proofs.Codes.{from-code}
-use Rattle.declared.proofs.Tables.{or-parts}
+use Rattle.text.proofs.Tests.{or-parts}
 use Rattle.env.specs.Force.{envOf, NoValue, ExprIn}
 use Rattle.env.specs.declared.env.Env.{Env}
 use Rattle.env.specs.declared.judge.Typed.{Typed}

@@ -5,11 +5,11 @@ use mathlib.Core.List.{List, [], _∷_, Forall₂, Forall₂·nil as nil₂, For
 use mathlib.Core.Bool.{Bool, true, false}
 use mathlib.Core.Option.{Option, none, some}
 use Prim.Native.Nat.{ℕ}
-use lib.Dec.{leb}
 use Rattle.sheet.proofs.Paired.{Opt, o-none, o-some, append₂}
 use Rattle.rules.specs.Text.{Piece}
-use Rattle.rules.specs.Asking.{Ty, Refusal, Rule, ret, refuse, ask, _>>=_, _>>_, expect, when, ifSome, ifSomeElse, forEach, Res, ok, refused, Asking, Out, ended, fresh}
+use Rattle.rules.specs.Asking.{Ty, Refusal, Rule, ret, refuse, ask, _>>=_, _>>_, when, ifSome, ifSomeElse, forEach, Res, ok, refused, Asking, Out, ended, fresh}
 use Rattle.rules.specs.Model.{Model}
+use Rattle.rules.proofs.Pure.{FromTwelve, Pure, p-ret, p-refuse}
 
 -- What two sheets may differ in: the model in which names are looked up, the lines, and whether texts of literals are free.
 pub record Setting : Type 1 where
@@ -22,10 +22,6 @@ pub record Setting : Type 1 where
 -- the setting of two models
 abbrev pub settingOf : (L : ℕ → ℕ → Type 0) → ((l : ℕ) → L l l) → Type 0 → Model → Model → Setting
 settingOf L same X m n = record { left = m; right = n; Lines = L; line-itself = same; Free = X }
-
--- a refusal with a number of the rules
-abbrev pub FromTwelve : Refusal → Type 0
-FromTwelve r = leb 12 (r .number) ≡ true
 
 -- a refusal for the text of a literal, where texts are free
 abbrev pub ByText : Setting → Refusal → Type 0
@@ -42,40 +38,6 @@ pub data AlikeAt (S : Setting) : (A : Type 0) → Rule A → Rule A → Type 1 w
 
 abbrev pub Alike : Setting → {A : Type 0} → Rule A → Rule A → Type 1
 Alike S {A} p q = AlikeAt S A p q
-
--- a rule that asks nothing
-pub data PureAt : (A : Type 0) → Rule A → Type 1 where
-  p-ret : {A : Type 0} (a : A) → PureAt A (ret a)
-  p-refuse : {A : Type 0} (r : Refusal) → FromTwelve r → PureAt A (refuse r)
-
-abbrev pub Pure : {A : Type 0} → Rule A → Type 1
-Pure {A} p = PureAt A p
-
-pub p-bind : {A B : Type 0} {p : Rule A} {f : A → Rule B} → Pure p → ((a : A) → Pure (f a)) → Pure (p >>= f)
-unfolding _>>=_
-p-bind (p-ret a) k = k a
-p-bind (p-refuse r h) k = p-refuse r h
-
-pub p-then : {A B : Type 0} {p : Rule A} {q : Rule B} → Pure p → Pure q → Pure (p >> q)
-unfolding _>>_
-p-then h k = p-bind h (λ _. k)
-
-pub p-expect : (b : Bool) (n at : ℕ) (ps : List Piece) → leb 12 n ≡ true → Pure (expect b n at ps)
-unfolding expect
-p-expect true n at ps h = p-ret tt
-p-expect false n at ps h = p-refuse _ h
-
-pub p-some : {A : Type 0} (o : Option A) {f : A → Rule Unit} → ((a : A) → Pure (f a)) → Pure (ifSome o f)
-unfolding ifSome
-p-some none k = p-ret tt
-p-some (some a) k = k a
-
-pub p-for : {A : Type 0} (as' : List A) {f : A → Rule Unit} → ((a : A) → Pure (f a)) → Pure (forEach as' f)
-unfolding forEach
-p-for [] k = p-ret tt
-p-for (a ∷ as') k = p-bind (k a) (λ _. p-for as' k)
-
-pub ruleset pure = (p-ret, p-bind, p-then, p-expect, p-some, p-for)
 
 module _ {S : Setting} where
   pub a-same : {A : Type 0} {p : Rule A} → Pure p → Alike S p p

@@ -8,6 +8,7 @@ use Prim.Native.Nat.{ℕ}
 use native.Mathlib.Omega.{arith}
 use Rattle.text.specs.Text.{same}
 use Rattle.text.proofs.Words.{same-is}
+use Rattle.text.proofs.Tests.{or-parts}
 use Rattle.rules.specs.Text.{Name, Piece}
 use Rattle.rules.specs.Ast.{Field, Entry, span}
 use Rattle.rules.specs.Asking.{Rule, expect, forEach, fresh}
@@ -17,7 +18,7 @@ use Rattle.rules.specs.KeyKinds.{Keyed, Use, isKeyed, isNameKey, nameParams, ke
 use Rattle.rules.specs.Check.{beforeEntries, check}
 use Rattle.rules.proofs.All.{All, all-append, all-map}
 use Rattle.related.proofs.Alike.{Alike, a-same, a-each}
-use Rattle.related.proofs.Pure.{pure-declared}
+use Rattle.rules.proofs.Pure.{pure-declared}
 use Rattle.related.proofs.Like.{same-new, same-genesis}
 use Rattle.related.proofs.LikeStatements.{a-predicate}
 use Rattle.related.proofs.LikeEntries.{uses-like}
@@ -42,14 +43,10 @@ values-append (f ∷ fs) gs h = rw (values, last-before (f .name) fs gs (h .0)) 
 
 -- ------------------------------------------------------------ keys
 
-or-false : (a b : Bool) → (a || b) ≡ false → (a ≡ false) × (b ≡ false)
-or-false true b e = absurd (let z : _≡_ {A = ℕ} 0 1 = cc in omega arith)
-or-false false b e = (refl, e)
-
 any-append : (p : Use → Bool) (us vs : List Use) → any p us ≡ false → any p vs ≡ false → any p (us ++ vs) ≡ false
 unfolding any
 any-append p [] vs h k = k
-any-append p (u ∷ us) vs h k = let q = or-false (p u) (any p us) h in rw (q .0) (any-append p us vs (q .1) k)
+any-append p (u ∷ us) vs h k = let q = or-parts (p u) (any p us) h in rw (q .0) (any-append p us vs (q .1) k)
 
 passes-test : (b : Bool) (n at : ℕ) (ps : List Piece) → Passes (expect (not b) n at ps) → b ≡ false
 unfolding expect fresh
@@ -76,11 +73,11 @@ unfolding checkUses any
 uses-pass seen [] vs a b h k = seen-more [] seen vs a k
 uses-pass seen (u ∷ us) vs a b h k =
     let q = passes-parts h in
-    passes-then (q .0) (uses-pass (u ∷ seen) us vs (both vs a b) (all-map _ _ (λ v e. or-false (differs v u) (any (differs v) us) e .1) vs b) (q .1) k)
+    passes-then (q .0) (uses-pass (u ∷ seen) us vs (both vs a b) (all-map _ _ (λ v e. or-parts (differs v u) (any (differs v) us) e .1) vs b) (q .1) k)
   where
     both : (vs : List Use) → Agree seen vs → Agree (u ∷ us) vs → Agree (u ∷ seen) vs
     both [] a b = tt
-    both (v ∷ vs) a b = (rw (or-false (differs v u) (any (differs v) us) (b .0) .0, a .0), both vs (a .1) (b .1))
+    both (v ∷ vs) a b = (rw (or-parts (differs v u) (any (differs v) us) (b .0) .0, a .0), both vs (a .1) (b .1))
 
 uses-append : (m : Model) (es fs : List Entry) → uses m (es ++ fs) ≡ uses m es ++ uses m fs
 unfolding uses

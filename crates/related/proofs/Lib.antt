@@ -1,5 +1,4 @@
 pub mod Alike
-pub mod Pure
 pub mod Like
 pub mod LikeTyping
 pub mod LikeStatements

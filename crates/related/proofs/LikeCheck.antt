@@ -11,7 +11,7 @@ use Rattle.rules.specs.Typing.{Env}
 use Rattle.rules.specs.Assets.{narrowWrapping}
 use Rattle.rules.specs.Check.{clausePredicate, checkLocal, checkBody, clauseAssets, paramTypes, checkEntry, madeUp, checkDefault, checkField, checkGenesis, beforeEntries, check}
 use Rattle.related.proofs.Alike.{Setting, a-ret, Alike, a-same, a-bind, a-then, a-some, a-each}
-use Rattle.related.proofs.Pure.{pure-declared}
+use Rattle.rules.proofs.Pure.{pure-declared}
 use Rattle.related.proofs.Like.{Head, SameField, Like, leaf~, span-like, id-like, last-like, SameEnv, same-new, same-genesis, same-bound}
 use Rattle.related.proofs.LikeTyping.{AskedLike, name-like, a-ask-of, a-tyOf}
 use Rattle.related.proofs.LikeStatements.{StmtLike, guard~, bind~, emit~, assign~, do~, a-emit, a-assign, a-stmt-types, a-predicate, a-recipient, a-no-asset, a-assets, a-narrow-all}

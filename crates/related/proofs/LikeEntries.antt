@@ -12,8 +12,8 @@ use Rattle.rules.specs.Declared.{literal, intOf}
 use Rattle.rules.specs.Typing.{Dot, identOf, isSome}
 use Rattle.rules.specs.Arithmetic.{any, isOp, acknowledged, amountOf, isMintedAmount, boundedAddend, sumTerms, mentions, mentionsAny, subtracts, upperBounds, capsFromAbove, limitsCap, limitsBound, sameTarget, without, isSum, addends, isMints, assetParams, bounded, checkSum, checkArithmetic}
 use Rattle.rules.specs.KeyKinds.{Keyed, keyedHere, keyedCalls, keyedCallsAll, present, clauseExprs, bodyExprs, entryExprs, keyedIn, Use, nameParams, isKeyed, isNameKey, usesOf, uses, checkKeyKinds}
-use Rattle.related.proofs.Alike.{Setting, a-ret, Alike, pure, a-same, a-bind, a-some, a-maybe, a-each}
-use Rattle.related.proofs.Pure.{p-uses}
+use Rattle.related.proofs.Alike.{Setting, a-ret, Alike, a-same, a-bind, a-some, a-maybe, a-each}
+use Rattle.rules.proofs.Pure.{pure, p-uses}
 use Rattle.related.proofs.Like.{SameField, Both, b-none, b-some, LeafLike, l-text, l-same, Like, leaf~, unary~, binary~, field~, call~, wrap~, Likes, nil~, more~, span-like, leaf-like, DotLike, dot-like, ident-like, ident-same, has-leaf}
 use Rattle.related.proofs.LikeTyping.{of-type}
 use Rattle.related.proofs.LikeStatements.{StmtLike, guard~, bind~, emit~, assign~, do~}

@@ -15,7 +15,8 @@ use Rattle.rules.specs.Model.{Model, fieldNamed, eventNamed}
 use Rattle.rules.specs.Typing.{Env, Dot, Asked, identOf, identIs}
 use Rattle.rules.specs.Statements.{emitMismatch, checkEmitField, checkEmitFields, narrowField, isAddressField, nameIntoAddress, isWrapping, wrappingIntoNarrow, literalIntoNarrow, fromDeployParams, slotFits, judgeAssign, checkAssign, checkKeyedUse, checkStmtTypes, expectPredicate, positions, refuseNameRecipient}
 use Rattle.rules.specs.Assets.{makesAsset, noAssetCall, noAssetCalls, consumedAssetCall, assetCallsConsumed, wraps, wrapsAny, reaches, narrowArg, narrowValues, narrowSet, narrowStmt, wrappedAfter, narrowStmts}
-use Rattle.related.proofs.Alike.{Setting, a-ret, Alike, pure, a-same, a-bind, a-then, a-when, a-some, a-maybe, a-else, a-each, a-for}
+use Rattle.rules.proofs.Pure.{pure}
+use Rattle.related.proofs.Alike.{Setting, a-ret, Alike, a-same, a-bind, a-then, a-when, a-some, a-maybe, a-else, a-each, a-for}
 use Rattle.related.proofs.Like.{Head, SameField, Both, b-none, b-some, Like, leaf~, unary~, binary~, field~, call~, wrap~, Likes, nil~, more~, span-like, DotLike, dot-like, call-like, list-like, ident-like, ident-same, has-leaf, is-like, SameEnv}
 use Rattle.related.proofs.LikeTyping.{TextOnly, t-ret, a-text, t-expect, of-type, AskedLike, field-in, param-like, a-keyed, int-like, a-typings, a-ask-of, a-tyOf}
 

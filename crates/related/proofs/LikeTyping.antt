@@ -12,7 +12,8 @@ use Rattle.rules.specs.Asking.{Ty, TName, Asset, Unknown, Address, Boolean, Ref
 use Rattle.rules.specs.Declared.{literal, intOf, isZeroLiteral, tyOfDecl, eqTy}
 use Rattle.rules.specs.Model.{fieldNamed}
 use Rattle.rules.specs.Typing.{Env, identLeaf, Dot, identIs, Asked, isNameParam, fieldOf, keyedField, isPool, judgeKey, checkKeys, checkAmount, checkKeyedCall, expectKeyedOp, expectAssetReceiver, tyOfIdent, tyOfLeaf, tyOfGet, tyOfCall, askEach, typeCall, expectNumericOr, expectNumber, judgeUnary, logical, arithmetic, ordering, equality, judgeBinary, tyOfUnary, tyOfBinary, asked, typing, typings, askOf, tyOf}
-use Rattle.related.proofs.Alike.{Setting, a-ret, a-left, a-right, a-ask, Alike, pure, a-same, a-bind, a-then, a-when, a-some}
+use Rattle.rules.proofs.Pure.{pure}
+use Rattle.related.proofs.Alike.{Setting, a-ret, a-left, a-right, a-ask, Alike, a-same, a-bind, a-then, a-when, a-some}
 use Rattle.related.proofs.Like.{Head, SameField, Both, b-none, b-some, LeafLike, l-text, l-same, Like, leaf~, unary~, binary~, field~, call~, wrap~, Likes, nil~, more~, span-like, line-like, leaf-like, DotLike, dot-like, ident-like, ident-same, is-like, SameEnv}
 
 -- a rule that gives tt, or refuses for the text of a literal

@@ -24,10 +24,10 @@ use Rattle.rules.specs.Check.{paramTypes, checkEntry, checkField, checkD
 use Rattle.rules.specs.Verdict.{modelOf, ruled, judge, verdict, keptJudge, keptVerdict}
 use Rattle.rules.proofs.All.{All, all-append, all-split}
 use Rattle.rules.proofs.Keeps.{Mapped, Afresh, zeros, keeps}
-use Rattle.rules.proofs.Coherence.{C, c-then, Fits}
+use Rattle.rules.proofs.Coherence.{C, CEach, c-then, c-list, c-pure, Fits}
 use Rattle.rules.proofs.Lines.{ends, outAt, fits}
 use Rattle.rules.proofs.Lets.{Past, past-on}
-use Rattle.rules.proofs.Silent.{CEach, s-each, s-for, s-storable, s-digest, s-guardian, s-event-param, s-entry-param, s-key-kinds}
+use Rattle.rules.proofs.Pure.{p-for, p-storable, p-digest, p-guardian, p-event-param, p-entry-param, p-key-kinds}
 use Rattle.rules.proofs.Whole.{FitsEach, FitsBody, w-predicate, w-entry, w-default, w-genesis}
 use Rattle.rules.proofs.Ordered.{Ordered, defaults, itemExprs, allExprs, ordered}
 
@@ -213,7 +213,7 @@ module _ (m : ℕ → Out Ty) (n : ℕ) where
 
   c-field : (M : Model) (f : Field) → FitsEach Q (new M []) (present (f .default)) → C Q Afresh (checkField (new M []) f)
   unfolding checkField
-  c-field M f h = c-then Q Afresh _ _ (s-storable Q Afresh (f .ty)) (c-then Q Afresh _ _ (s-digest Q Afresh (f .name) (f .ty)) (c-default M f (f .default) h))
+  c-field M f h = c-then Q Afresh _ _ (c-pure Q Afresh (p-storable (f .ty))) (c-then Q Afresh _ _ (c-pure Q Afresh (p-digest (f .name) (f .ty))) (c-default M f (f .default) h))
 
   c-fields : (M : Model) (fs : List Field) → FitsEach Q (new M []) (defaults fs) → CEach Q Afresh (checkField (new M [])) fs
   c-fields M [] h = tt
@@ -281,13 +281,13 @@ module _ (m : ℕ → Out Ty) (n : ℕ) where
       let M = build is' in
       let p = parts M is' h in
       c-then Q Afresh _ _
-      (c-then Q Afresh _ _ (s-each Q Afresh _ _ (p .fields))
-      (c-then Q Afresh _ _ (s-for Q Afresh _ _ (λ e. s-for Q Afresh _ _ (s-event-param Q Afresh)))
-      (c-then Q Afresh _ _ (s-for Q Afresh _ _ (λ f. s-guardian Q Afresh (f .ty)))
-      (c-then Q Afresh _ _ (s-for Q Afresh _ _ (λ e. s-for Q Afresh _ _ (s-entry-param Q Afresh)))
-      (s-each Q Afresh _ _ (p .invariants))))))
-      (c-then Q Afresh _ _ (s-each Q Afresh _ _ (p .entries))
-      (c-then Q Afresh _ _ (s-key-kinds Q Afresh M) (s-each Q Afresh _ _ (p .genesis))))
+      (c-then Q Afresh _ _ (c-list Q Afresh _ _ (p .fields))
+      (c-then Q Afresh _ _ (c-pure Q Afresh (p-for _ (λ e. p-for _ p-event-param)))
+      (c-then Q Afresh _ _ (c-pure Q Afresh (p-for _ (λ f. p-guardian (f .ty))))
+      (c-then Q Afresh _ _ (c-pure Q Afresh (p-for _ (λ e. p-for _ p-entry-param)))
+      (c-list Q Afresh _ _ (p .invariants))))))
+      (c-then Q Afresh _ _ (c-list Q Afresh _ _ (p .entries))
+      (c-then Q Afresh _ _ (c-pure Q Afresh (p-key-kinds M)) (c-list Q Afresh _ _ (p .genesis))))
 
 -- ------------------------------------------------------------ demand 3
 

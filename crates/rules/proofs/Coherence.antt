@@ -7,9 +7,10 @@ use Prim.Native.Nat.{ℕ}
 use Prim.Native.String.{String}
 use Rattle.rules.specs.Text.{Name, Piece}
 use Rattle.rules.specs.Ast.{UnaryOp, Not, Neg, BinOp, Or, And, Eq, Ne, Lt, Gt, Le, Ge, Add, Sub, Mul, Div, Rem, Shr, Expr, leaf, unary, binary, field, call, wrap, Exprs, nil, more, line}
-use Rattle.rules.specs.Asking.{Ty, Rule, ret, refuse, ask, _>>=_, _>>_, when, ifSome, expect, Out, fresh, ok}
+use Rattle.rules.specs.Asking.{Ty, Rule, ret, refuse, ask, _>>=_, _>>_, when, ifSome, expect, forEach, Out, fresh, ok}
 use Rattle.rules.specs.Typing.{Env, Asked, asked, expectAssetReceiver, expectKeyedOp, judgeKey, checkKeys, checkAmount, checkKeyedCall, askEach, typeCall, expectNumericOr, expectNumber, judgeUnary, logical, arithmetic, ordering, equality, judgeBinary, tyOfUnary, tyOfBinary, stale, typing, typings, askOf, tyOf}
 use Rattle.rules.proofs.All.{All}
+use Rattle.rules.proofs.Pure.{Pure, p-ret, p-refuse}
 use Rattle.rules.proofs.Keeps.{Throughout, Afresh, fresh-ok}
 
 module _ (Q : Bool → ℕ → Rule Ty → Type 0) (R : Rule Ty → Ty → Type 0) where
@@ -43,6 +44,25 @@ module _ (Q : Bool → ℕ → Rule Ty → Type 0) (R : Rule Ty → Ty → Type 
   unfolding expect
   c-expect true k at ps = tt
   c-expect false k at ps = tt
+
+  -- it holds of f for each of a list
+  abbrev pub CEach : {A : Type 0} → (A → Rule Unit) → List A → Type 0
+  CEach f = All (λ a. C (f a))
+
+  pub c-list : {A : Type 0} (as' : List A) (f : A → Rule Unit) → CEach f as' → C (forEach as' f)
+  unfolding forEach
+  c-list [] f h = tt
+  c-list (a ∷ as') f h = c-bind (f a) (λ _. forEach as' f) (h .0) (λ _. c-list as' f (h .1))
+
+  pub c-for : {A : Type 0} (as' : List A) (f : A → Rule Unit) → ((a : A) → C (f a)) → C (forEach as' f)
+  unfolding forEach
+  c-for [] f h = tt
+  c-for (a ∷ as') f h = c-bind (f a) (λ _. forEach as' f) (h a) (λ _. c-for as' f h)
+
+  -- a rule that asks nothing
+  pub c-pure : {A : Type 0} {p : Rule A} → Pure p → C p
+  c-pure (p-ret a) = tt
+  c-pure (p-refuse r h) = tt
 
   pub ruleset rules = (c-ret, c-bind, c-then, c-when, c-some, c-expect)
 

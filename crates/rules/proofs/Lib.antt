@@ -3,10 +3,10 @@ pub mod All
 pub mod Keeps
 pub mod Marks
 pub mod AnyTable
+pub mod Pure
 pub mod Coherence
 pub mod Lets
 pub mod Lines
-pub mod Silent
 pub mod Whole
 pub mod Parts
 pub mod Placed

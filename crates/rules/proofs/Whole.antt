@@ -16,8 +16,8 @@ use Rattle.rules.specs.KeyKinds.{present, clauseExprs, bodyExprs}
 use Rattle.rules.specs.Check.{clausePredicate, checkBody, paramTypes, checkEntry, madeUp, checkDefault, checkGenesis}
 use Rattle.rules.proofs.All.{All, all-split, all-map}
 use Rattle.rules.proofs.Keeps.{Afresh}
-use Rattle.rules.proofs.Coherence.{C, CA, rules, c-bind, c-bind-at, c-then, c-some, c-expect, c-keyed, Fits, FitsAll, c-asked, c-typing, c-typings, c-tyOf}
-use Rattle.rules.proofs.Silent.{CEach, s-each, s-for, s-assign, s-local, s-wrapping, s-clause-assets, s-assets, s-arithmetic}
+use Rattle.rules.proofs.Coherence.{C, CA, CEach, rules, c-bind, c-bind-at, c-then, c-some, c-list, c-for, c-pure, c-expect, c-keyed, Fits, FitsAll, c-asked, c-typing, c-typings, c-tyOf}
+use Rattle.rules.proofs.Pure.{p-for, p-assign, p-local, p-wrapping, p-clause-assets, p-assets, p-arithmetic}
 
 module _ (Q : Bool → ℕ → Rule Ty → Type 0) where
   -- each expression of the list fits
@@ -34,7 +34,7 @@ module _ (Q : Bool → ℕ → Rule Ty → Type 0) where
 
   w-assign : (Γ : Env) (o : AssignOp) (t v : Asked) → CA Q Afresh t → CA Q Afresh v → C Q Afresh (checkAssign Γ o t v)
   unfolding checkAssign
-  w-assign Γ o t v h k = search (rules, s-assign)
+  w-assign Γ o t v h k = search (rules, c-pure, p-assign)
 
   -- a rule of a call, whose arguments fit
   w-call : (Γ : Env) (e : Expr) (f : Call → Rule Unit) → Fits Q Afresh Γ e → ((c : Call) → FitsAll Q Afresh Γ (c .args) → C Q Afresh (f c)) → C Q Afresh (ifSome (callOf e) f)
@@ -75,7 +75,7 @@ module _ (Q : Bool → ℕ → Rule Ty → Type 0) where
   w-recipient Γ e h =
       w-call Γ e _ h
       (λ c k.
-      s-for Q Afresh _ _
+      c-for Q Afresh _ _
       (λ i. w-some (getElem? (list (c .args)) i) _ (λ a q. c-bind Q Afresh (tyOf Γ a) _ (c-tyOf Q Afresh Γ a (fits-at Γ (c .args) i a k q)) (λ _. c-expect Q Afresh _ _ _ _))))
 
   w-emit-field : (Γ : Env) (e : Expr) (p : Param) → Fits Q Afresh Γ e → C Q Afresh (checkEmitField Γ e p)
@@ -90,10 +90,10 @@ module _ (Q : Bool → ℕ → Rule Ty → Type 0) where
 
   w-emit : (Γ : Env) (x : Name) (es : List Expr) → FitsEach Γ es → C Q Afresh (checkEmitFields Γ x es)
   unfolding checkEmitFields
-  w-emit Γ x es h = c-some Q Afresh _ _ (λ d. s-each Q Afresh _ _ (w-zip Γ es _ h))
+  w-emit Γ x es h = c-some Q Afresh _ _ (λ d. c-list Q Afresh _ _ (w-zip Γ es _ h))
 
   w-args : (Γ : Env) (es : List Expr) → FitsEach Γ es → C Q Afresh (forEach es (λ a. tyOf Γ a >> ret tt))
-  w-args Γ es h = s-each Q Afresh es _ (all-map (Fits Q Afresh Γ) _ (λ e k. c-then Q Afresh (tyOf Γ e) (ret tt) (c-tyOf Q Afresh Γ e k) tt) es h)
+  w-args Γ es h = c-list Q Afresh es _ (all-map (Fits Q Afresh Γ) _ (λ e k. c-then Q Afresh (tyOf Γ e) (ret tt) (c-tyOf Q Afresh Γ e k) tt) es h)
 
   -- each expression of the statements fits, with the locals that are bound there
   abbrev pub FitsBody : Env → List Stmt → Type 0
@@ -109,7 +109,7 @@ module _ (Q : Bool → ℕ → Rule Ty → Type 0) where
   w-body Γ [] h = tt
   w-body Γ (guard e ∷ ss) h = c-then Q Afresh _ _ (w-predicate Γ e (h .0)) (w-body Γ ss (h .1))
   w-body Γ (bind x v ∷ ss) h =
-      c-bind-at Q (tyOf Γ v) _ (c-tyOf Q Afresh Γ v (h .0)) (λ t q. c-then Q Afresh _ _ (s-local Q Afresh v t) (w-body (bound Γ x t (lineAfter v)) ss (h .1 t q)))
+      c-bind-at Q (tyOf Γ v) _ (c-tyOf Q Afresh Γ v (h .0)) (λ t q. c-then Q Afresh _ _ (c-pure Q Afresh (p-local v t)) (w-body (bound Γ x t (lineAfter v)) ss (h .1 t q)))
   w-body Γ (emit x es ∷ ss) h = c-then Q Afresh _ _ (w-args Γ es (h .0)) (c-then Q Afresh _ _ (w-emit Γ x es (h .0)) (w-body Γ ss (h .1)))
   w-body Γ (assign s o t v ∷ ss) h = c-then Q Afresh _ _ (w-stmt Γ o s t v (h .0) (h .1)) (w-body Γ ss (h .2))
   w-body Γ (do' e ∷ ss) h = c-then Q Afresh _ _ (w-do Γ e (h .0)) (c-then Q Afresh _ _ (w-recipient Γ e (h .0)) (w-body Γ ss (h .1)))
@@ -126,11 +126,11 @@ module _ (Q : Bool → ℕ → Rule Ty → Type 0) where
       → C Q Afresh (checkEntry M en)
   unfolding checkEntry
   w-entry M en h k =
-      c-then Q Afresh _ _ (s-wrapping Q Afresh M en)
-      (c-then Q Afresh _ _ (s-each Q Afresh _ _ (w-clauses _ (en .clauses) h))
+      c-then Q Afresh _ _ (c-pure Q Afresh (p-wrapping M en))
+      (c-then Q Afresh _ _ (c-list Q Afresh _ _ (w-clauses _ (en .clauses) h))
       (c-then Q Afresh _ _ (w-body _ (en .body) k)
-      (c-then Q Afresh _ _ (s-for Q Afresh _ _ (s-clause-assets Q Afresh))
-      (c-then Q Afresh _ _ (s-for Q Afresh _ _ (s-assets Q Afresh)) (s-arithmetic Q Afresh en _)))))
+      (c-then Q Afresh _ _ (c-pure Q Afresh (p-for _ p-clause-assets))
+      (c-then Q Afresh _ _ (c-pure Q Afresh (p-for _ p-assets)) (c-pure Q Afresh (p-arithmetic en _))))))
 
   pub w-default : (M : Model) (f : Field) (v : Expr) → Fits Q Afresh (new M []) v → C Q Afresh (checkDefault (new M []) f v)
   unfolding checkDefault madeUp
@@ -138,8 +138,8 @@ module _ (Q : Bool → ℕ → Rule Ty → Type 0) where
 
   pub w-genesis : (Γ : Env) (s : Stmt) → FitsEach Γ (bodyExprs (s ∷ [])) → C Q Afresh (checkGenesis Γ s)
   unfolding checkGenesis bodyExprs checkStmtTypes
-  w-genesis Γ (guard e) h = c-then Q Afresh _ _ tt (s-assets Q Afresh (guard e))
-  w-genesis Γ (bind x v) h = c-then Q Afresh _ _ tt (s-assets Q Afresh (bind x v))
-  w-genesis Γ (emit x es) h = c-then Q Afresh _ _ tt (s-assets Q Afresh (emit x es))
-  w-genesis Γ (assign s o t v) h = c-then Q Afresh _ _ (w-stmt Γ o s t v (h .0) (h .1 .0)) (s-assets Q Afresh (assign s o t v))
-  w-genesis Γ (do' e) h = c-then Q Afresh _ _ (w-do Γ e (h .0)) (s-assets Q Afresh (do' e))
+  w-genesis Γ (guard e) h = c-then Q Afresh _ _ tt (c-pure Q Afresh (p-assets (guard e)))
+  w-genesis Γ (bind x v) h = c-then Q Afresh _ _ tt (c-pure Q Afresh (p-assets (bind x v)))
+  w-genesis Γ (emit x es) h = c-then Q Afresh _ _ tt (c-pure Q Afresh (p-assets (emit x es)))
+  w-genesis Γ (assign s o t v) h = c-then Q Afresh _ _ (w-stmt Γ o s t v (h .0) (h .1 .0)) (c-pure Q Afresh (p-assets (assign s o t v)))
+  w-genesis Γ (do' e) h = c-then Q Afresh _ _ (w-do Γ e (h .0)) (c-pure Q Afresh (p-assets (do' e)))

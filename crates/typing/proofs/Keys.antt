@@ -36,7 +36,7 @@ use Rattle.declared.specs.declared.model.Found.the-variants.{At, Nothing}
 use Rattle.declared.specs.declared.refusal.Refusal.{Refusal}
 use Rattle.declared.specs.declared.refusal.Done.{Done}
 use Rattle.declared.specs.declared.refusal.Done.the-variants.{Fine, Refused}
-use Rattle.declared.proofs.Tables.{or-parts}
+use Rattle.text.proofs.Tests.{or-parts}
 use Rattle.declared.proofs.Codes.{from-code}
 use Rattle.env.proofs.Lookups.{TypeBehind, behind as type-behind}
 use Rattle.env.specs.Answers.{typedOf, JudgesAmount, JudgesKey}
