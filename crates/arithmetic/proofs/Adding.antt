@@ -15,7 +15,7 @@ use Rattle.rules.specs.Arithmetic.{opPlace, isOp, any, acknowledged, sumTerms, 
 use Rattle.rules.specs.Typing.{isSome}
 use Rattle.rules.specs.Standing.{exprAt}
 use Rattle.rules.proofs.Exprs.{by-kind}
-use Rattle.declared.proofs.Tables.{or-parts}
+use Rattle.text.proofs.Tests.{or-parts}
 use Rattle.declared.specs.Lines.{ExprAt}
 use Rattle.arithmetic.specs.Tests.{others, added, addsUnbounded}
 use Rattle.arithmetic.proofs.Ops.{op-place}

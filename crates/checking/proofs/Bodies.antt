@@ -227,8 +227,8 @@ module _ (s S : List ℕ) (T : Table) (params count body total at left : ℕ) (h
   abbrev env : Env
   env = withLocals params count body (total - left) at
 
-  abbrev next : Env
-  next = withLocals params count body (suc (total - left)) (endAt S at)
+  abbrev grown : Env
+  grown = withLocals params count body (suc (total - left)) (endAt S at)
 
   d : Loaded s S
   d = h .ready .ready .force .loaded
@@ -259,9 +259,9 @@ module _ (s S : List ℕ) (T : Table) (params count body total at left : ℕ) (h
   unfolding ofKind
   let-here q = rw (ofKind, let z : eqb (nodeKind (nodeAt s at)) 16 ≡ true = rw kind-here (eq-eqb (kindAt S at) 16 q) in z) refl
 
-  force-next : InForce s S next
+  force-grown : InForce s S grown
   unfolding withLocals
-  force-next =
+  force-grown =
       record {
         loaded = d;
         params = h .ready .ready .force .params;
@@ -271,8 +271,8 @@ module _ (s S : List ℕ) (T : Table) (params count body total at left : ℕ) (h
 
   -- what is in force on U with the statement behind
   pub record Grown (U : Table) (Γ : typing.Env) : Type 0 where
-    pub ready : ReadyTyped s S next U
-    pub is : envOf s U next ≡ Γ
+    pub ready : ReadyTyped s S grown U
+    pub is : envOf s U grown ≡ Γ
 
   module _ (U : Table) (o : OnTyped s S env T U) where
     still : kindAt S at ≢ 16 → Grown U (envOf s T env)
@@ -281,7 +281,7 @@ module _ (s S : List ℕ) (T : Table) (params count body total at left : ℕ) (h
         record {
           ready =
               record {
-                ready = record { force = force-next; room = o .on .ready .room };
+                ready = record { force = force-grown; room = o .on .ready .room };
                 typed = rw (lets-next, no-let-here q, append-nil) (o .typed);
               };
           is = rw (lets-next, no-let-here q, append-nil) (o .on .same);
@@ -293,7 +293,7 @@ module _ (s S : List ℕ) (T : Table) (params count body total at left : ℕ) (h
         record {
           ready =
               record {
-                ready = record { force = force-next; room = o .on .ready .room };
+                ready = record { force = force-grown; room = o .on .ready .room };
                 typed =
                     rw (lets-next, let-here q) (lets-append (o .typed) (rw (st .here) (a-let {t = node at (st .line) (st .parts)} (rw (b .marked) (code-is (b .type))) no-let)));
               };

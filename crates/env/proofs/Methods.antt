@@ -19,7 +19,7 @@ use Rattle.sheet.specs.Scratch.{kindAt, nameAt}
 use Rattle.sheet.specs.Say.{nspanAt}
 use Rattle.rules.specs.Text.{Name, is, isOne}
 use Rattle.rules.specs.Ast.{Expr, Field, span, typeName}
-use Rattle.rules.specs.Asking.{Ty, Int, Boolean, Asset, Word64, Time, Unknown, code, ok, expect, ifSome}
+use Rattle.rules.specs.Asking.{Ty, Int, Boolean, Asset, Word64, Time, Unknown, code, expect, ifSome}
 use Rattle.rules.specs.Declared.{declaredArg, eqTy, isTy}
 use Rattle.rules.specs.Typing as typing
 use Rattle.rules.specs.Typing.{Dot, dotOf, identIs, keyedField, isPool, keyedOpFits, keyedOpText, expectKeyedOp, receiverText, expectAssetReceiver, tyOfDot, tyOfGet, tyOfCall}
@@ -29,7 +29,7 @@ use Rattle.rules.proofs.Parts.{stop, _also_, pick}
 use Rattle.rules.proofs.Standing.{row-first}
 use Rattle.declared.specs.Answers.{Answers}
 use Rattle.declared.specs.Found.{foundNode, foundField}
-use Rattle.declared.specs.Lines.{Typed, ExprAt}
+use Rattle.declared.specs.Lines.{Typed}
 use Rattle.declared.specs.Refusal.{dotAt, refusalOf, doneOf}
 use Rattle.declared.specs.declared.model.Found.{Found}
 use Rattle.declared.specs.declared.model.Found.the-variants.{At, Nothing}

@@ -224,5 +224,5 @@ module _ (s S : List ℕ) (d : Loaded s S) (small : length s ≤ 16384) (few : l
   bounded (KeyKinds map key) = omega (arith, brief-at map)
 
 -- the message of every refusal, whatever lines it names
-pub short : (s S : List ℕ) (r : Refusal) → Loaded s S → length s ≤ 16384 → length S / 8 ≤ 1024 → length (render (refusalOf s r .text)) ≤ longest
-short s S r d b h = omega (arith, render-few (refusalOf s r .text), bounded s S d b h r)
+pub message-short : (s S : List ℕ) (r : Refusal) → Loaded s S → length s ≤ 16384 → length S / 8 ≤ 1024 → length (render (refusalOf s r .text)) ≤ longest
+message-short s S r d b h = omega (arith, render-few (refusalOf s r .text), bounded s S d b h r)

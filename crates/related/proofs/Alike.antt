@@ -6,7 +6,6 @@ use mathlib.Core.Bool.{Bool, true, false}
 use mathlib.Core.Option.{Option, none, some}
 use Prim.Native.Nat.{ℕ}
 use Rattle.sheet.proofs.Paired.{Opt, o-none, o-some, append₂}
-use Rattle.rules.specs.Text.{Piece}
 use Rattle.rules.specs.Asking.{Ty, Refusal, Rule, ret, refuse, ask, _>>=_, _>>_, when, ifSome, ifSomeElse, forEach, Res, ok, refused, Asking, Out, ended, fresh}
 use Rattle.rules.specs.Model.{Model}
 use Rattle.rules.proofs.Pure.{FromTwelve, Pure, p-ret, p-refuse}

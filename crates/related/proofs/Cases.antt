@@ -1,19 +1,22 @@
--- Sheets of a few lines that meet the premises of `texts-verdict` and `joined-number`. Assumes nothing.
+-- Sheets of a few lines that meet the premises of `texts-verdict`, `all-but-one` and `joined-number`. Assumes nothing.
 use mathlib.Core.Path.{_≡_, refl}
-use mathlib.Core.Logic.{_⊎_}
+use mathlib.Core.Logic.{_⊎_, inl}
 use mathlib.Core.List.{List, [], _∷_, _++_, Forall₂·nil as nil₂, Forall₂·cons as cons₂}
 use mathlib.Core.Option.{none}
 use Prim.Native.Nat.{ℕ}
+use lib.ListN.{take, drop}
 use Rattle.text.specs.Text.{bytes}
 use Rattle.sheet.specs.Line.{Line}
 use Rattle.sheet.specs.Load.{load}
+use Rattle.sheet.specs.Held.{done, next}
 use Rattle.sheet.specs.Same.{same-bytes, int-texts}
 use Rattle.rules.specs.Model.{Model, fieldNamed, eventNamed}
 use Rattle.rules.specs.Standing.{readLines}
 use Rattle.rules.specs.Computed.{computed}
-use Rattle.rules.specs.Verdict.{verdict}
-use Rattle.related.specs.Sheets.{Foreign}
+use Rattle.rules.specs.Verdict.{modelOf, verdict}
+use Rattle.related.specs.Sheets.{results, entriesIn, ButOne, Foreign}
 use Rattle.related.proofs.JoinedSheets.{joined-number}
+use Rattle.related.proofs.OneEntry.{all-but-one}
 use Rattle.related.proofs.Texts.{texts-verdict}
 
 -- lines, each ended by LF
@@ -34,19 +37,39 @@ other-text =
     (cons₂ same-bytes (cons₂ same-bytes (cons₂ same-bytes (cons₂ same-bytes (cons₂ (int-texts (bytes "17") (bytes "200") (bytes "300") refl refl) nil₂)))))
     refl
 
+abbrev head : List Line → Line
+head [] = record { kind = 0; at = 0; op = 0; spans = []; start = 0; name = []; parts = [] }
+head (l ∷ ls) = l
+
+-- the lines of three entries, the second with a body of two lines
+abbrev entries-with : List (List ℕ) → List ℕ
+entries-with body = sheet (bytes "contract,3" ∷ bytes "entry,0,0,0" ∷ bytes "entry,0,0,1" ∷ (body ++ (bytes "entry,0,0,0" ∷ [])))
+
+abbrev lines-with : List (List ℕ) → List Line
+lines-with body = readLines (load (entries-with body) 6 48)
+
+-- a body that passes, and one that is refused: the other two entries come to the same
+one-entry :
+    let xs = lines-with (bytes "do" ∷ bytes "now,1" ∷ []) in
+    let ys = lines-with (bytes "guard" ∷ bytes "int,1,5" ∷ []) in
+    ButOne 1 (results (modelOf xs)) (results (modelOf ys))
+unfolding computed readLines entriesIn
+one-entry =
+    let x = bytes "do" ∷ bytes "now,1" ∷ [] in
+    let y = bytes "guard" ∷ bytes "int,1,5" ∷ [] in
+    let xs = lines-with x in
+    let ys = lines-with y in
+    all-but-one {c = head xs} {e = head (drop 2 xs)} {a = take 1 (drop 1 xs)} {m = take 2 (drop 3 xs)} {z = drop 5 xs} {c' = head ys} {e' = head (drop 2 ys)} {a' = take 1 (drop 1 ys)} {m' = take 2 (drop 3 ys)} {z' = drop 5 ys}
+    (record { read = (entries-with x, 6, 48, refl); items = (1, next done); one = next (next (next done)); is-entry = refl })
+    (record { read = (entries-with y, 6, 48, refl); items = (1, next done); one = next (next (next done)); is-entry = refl })
+    (cons₂ (record { kind = refl; op = refl; spans = refl; parts = refl; name = inl refl }) nil₂)
+    (cons₂ (record { kind = refl; op = refl; spans = refl; parts = refl; name = inl refl }) nil₂)
+
 abbrev first-lines : List (List ℕ)
 first-lines = bytes "state,1" ∷ bytes "field,1,x,0" ∷ bytes "type,2,u8,0" ∷ []
 
 abbrev second-lines : List (List ℕ)
 second-lines = bytes "invariant" ∷ bytes "bin,1,eq" ∷ bytes "id,2,y" ∷ bytes "now,3" ∷ []
-
-abbrev head : List Line → Line
-head [] = record { kind = 0; at = 0; op = 0; spans = []; start = 0; name = []; parts = [] }
-head (l ∷ ls) = l
-
-abbrev rest : List Line → List Line
-rest [] = []
-rest (l ∷ ls) = ls
 
 -- whatever the line's kind
 no-name : {n : Model} {l : Line} → fieldNamed n (l .name) ≡ none → eventNamed n (l .name) ≡ none → Foreign n l
@@ -62,7 +85,7 @@ two-in-one =
     let s = sheet (bytes "contract,2" ∷ (first-lines ++ second-lines)) in
     let x = readLines (load s₁ 4 32) in
     let y = readLines (load s₂ 5 40) in
-    joined-number s₁ s₂ s 4 32 100 5 40 100 8 64 100 c c (bytes "contract,2") first-lines second-lines (head x) (head y) (head (readLines (load s 8 64))) (rest x) (rest y) refl refl refl refl refl refl refl refl
+    joined-number s₁ s₂ s 4 32 100 5 40 100 8 64 100 c c (bytes "contract,2") first-lines second-lines (head x) (head y) (head (readLines (load s 8 64))) (drop 1 x) (drop 1 y) refl refl refl refl refl refl refl refl
     (no-name refl refl, (no-name refl refl, (no-name refl refl, tt)))
     (no-name refl refl, (no-name refl refl, (no-name refl refl, (no-name refl refl, tt))))
     refl refl

@@ -2,7 +2,7 @@
 -- `emit` an event of it. Assumes nothing.
 use mathlib.Core.Path.{_≡_, refl, sym, ap}
 use mathlib.Core.List.{List, [], _∷_, _++_, append-assoc, Forall₂}
-use mathlib.Core.Bool.{Bool, true, false, not, _&&_, _||_, Bool·beq}
+use mathlib.Core.Bool.{Bool, true, false, not, _&&_, Bool·beq}
 use mathlib.Core.Option.{Option, none, some}
 use Prim.Native.Nat.{ℕ}
 use native.Mathlib.Omega.{arith}
@@ -24,7 +24,7 @@ use Rattle.related.proofs.LikeStatements.{a-predicate}
 use Rattle.related.proofs.LikeEntries.{uses-like}
 use Rattle.related.proofs.LikeCheck.{PartLike, a-entry, a-check-field, a-genesis, values-like}
 use Rattle.related.proofs.Compared.{renumbered}
-use Rattle.related.proofs.Passing.{Passes, passes-then, passes-parts, passes-both, passes-append, passes-alike}
+use Rattle.related.proofs.Unrefused.{Passes, passes-then, passes-parts, passes-both, passes-append, passes-alike}
 use Rattle.related.proofs.Lookups.{fieldIn, last-before}
 
 -- ------------------------------------------------------------ fields that are the last of their names

@@ -36,7 +36,7 @@ use Rattle.related.proofs.TwinItems.{head-same, itemsOf, Heads, heads-o
 use Rattle.related.proofs.Sheets.{items-read, items-before}
 use Rattle.related.proofs.Accepted.{zero-passed, passed-zero}
 use Rattle.related.proofs.Lookups.{fieldIn, last-before, last-behind, first-before, first-behind, found}
-use Rattle.related.proofs.Passing.{Passes}
+use Rattle.related.proofs.Unrefused.{Passes}
 
 -- ------------------------------------------------------------ one of two sheets
 

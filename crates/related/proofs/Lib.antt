@@ -5,7 +5,7 @@ pub mod LikeStatements
 pub mod LikeEntries
 pub mod LikeCheck
 pub mod Compared
-pub mod Passing
+pub mod Unrefused
 pub mod TwinExprs
 pub mod TwinItems
 pub mod Sheets

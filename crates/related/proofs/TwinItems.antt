@@ -168,23 +168,23 @@ module _ {L : ℕ → ℕ → Type 0} {R : Line → Line → Type 0} {X : Type 0
 abbrev pub itemsOf : Nodes → Model
 itemsOf ns = build (map itemOf (nodes ns))
 
-abbrev Any : {A : Type 0} → A → A → Type 0
-Any a b = Unit
+abbrev AnyPair : {A : Type 0} → A → A → Type 0
+AnyPair a b = Unit
 
 -- fields, of which F holds, and the same events
 abbrev pub ItemHeads : (Field → Field → Type 0) → Item → Item → Type 0
-ItemHeads F = ItemBy F Any Any Any
+ItemHeads F = ItemBy F AnyPair AnyPair AnyPair
 
 abbrev pub Heads : (Field → Field → Type 0) → Model → Model → Type 0
-Heads F = ModelBy F Any Any Any
+Heads F = ModelBy F AnyPair AnyPair AnyPair
 
 module _ {L : ℕ → ℕ → Type 0} {R : Line → Line → Type 0} {X : Type 0} (same : (l k : Line) → R l k → SameRecord X l k) (F : Field → Field → Type 0)
     (field : (t u : Node) → Formed grammar.Field t → Twin L R t u → F (fieldOf t) (fieldOf u)) where
   pub item-heads : {t u : Node} → Formed grammar.Item t → Twin L R t u → ItemHeads F (itemOf t) (itemOf u)
-  item-heads = item-twin same F Any Any Any field (λ ns ms q. tt) (λ t u q. tt) (λ i j l k ps qs e p fs q r. tt)
+  item-heads = item-twin same F AnyPair AnyPair AnyPair field (λ ns ms q. tt) (λ t u q. tt) (λ i j l k ps qs e p fs q r. tt)
 
   pub heads-of : {ns ms : Nodes} (n : ℕ) → FormedAll (times n grammar.Item) ns → Twins L R ns ms → Heads F (itemsOf ns) (itemsOf ms)
-  heads-of n f h = build-by (items-by same F Any Any Any field (λ ns ms q. tt) (λ t u q. tt) (λ i j l k ps qs e p fs q r. tt) n f h)
+  heads-of n f h = build-by (items-by same F AnyPair AnyPair AnyPair field (λ ns ms q. tt) (λ t u q. tt) (λ i j l k ps qs e p fs q r. tt) n f h)
 
 -- where the fields have the same heads and the events are the same, both models tell the same of every name
 pub every-field : (S : Setting) → Forall₂ Head (S .left .fields) (S .right .fields) → (x : Name) → SameField S x

@@ -64,7 +64,7 @@ fn mark(a: Typed) -> u8
     }
 }
 
-// The type of line i. Every rule asks a type through this function, and no other function marks a line.
+// The type of line i. Every rule asks a type through this function, and none but this and `ty_again`, its part for the exception, marks a line.
 pub fn ty_of(sheet: &[u8], lines: &[u16], env: Env, table: &mut [u8], i: usize) -> Typed
     requires { ⌜ Asks (now sheet) (now lines) env (now table) i ⌝ }
     ensures { λ r. ⌜ Types (now (sheet .entry)) (tyOf (envOf (now (sheet .entry)) (now (table .entry)) env) (exprAt (now (sheet .entry)) i)) (now (table .entry)) r (now (table .exit)) ⌝ }

@@ -21,7 +21,7 @@ use Rattle.declared.specs.declared.refusal.Done.{Done}
 use Rattle.declared.specs.declared.refusal.Done.the-variants.{Fine, Refused}
 use Rattle.pieces.specs.Writing.{Adds}
 use Rattle.pieces.proofs.Adding.{told-all, all-written}
-use Rattle.message.proofs.Lengths.{short}
+use Rattle.message.proofs.Lengths.{message-short}
 use Rattle.refusals.specs.Numbers.{Numbers}
 use Rattle.checking.specs.Walk.{SheetIn}
 use Rattle.typing.specs.Asks.{Does}
@@ -38,7 +38,7 @@ written-none B = refl
 module _ (s S : List ℕ) (r : Refusal) (h : Few s S) where
   text-short : length (textOf s r) ≤ longest
   unfolding textOf
-  text-short = short s S r (h .loaded) (h .small) (h .few)
+  text-short = message-short s S r (h .loaded) (h .small) (h .few)
 
   pub told-length : (B U : List ℕ) (n : ℕ) → Adds (render (refusalOf s r .text)) B 0 U n → n ≡ length (textOf s r)
   unfolding textOf
