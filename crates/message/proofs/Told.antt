@@ -59,7 +59,7 @@ param-name-at s i = param-name (nodeAt s i)
 
 -- ------------------------------------------------------------ descriptions of types
 
--- none of the codes that are told no-value
+-- none of the codes that are told apart
 abbrev Rest : ℕ → Type 0
 Rest c = (((((((((Unit {0} × (c ≢ 1)) × (c ≢ 2)) × (c ≢ 3)) × (c ≢ 4)) × (c ≢ 5)) × (c ≢ 6)) × (c ≢ 7)) × (c ≢ 8)) × (c ≢ 9))
 

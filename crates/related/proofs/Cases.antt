@@ -41,7 +41,7 @@ abbrev head : List Line → Line
 head [] = record { kind = 0; at = 0; op = 0; spans = []; start = 0; name = []; parts = [] }
 head (l ∷ ls) = l
 
--- the lines of three entries, the second with a body of two lines
+-- a sheet of three entries, the second with a body of two lines
 abbrev entries-with : List (List ℕ) → List ℕ
 entries-with body = sheet (bytes "contract,3" ∷ bytes "entry,0,0,0" ∷ bytes "entry,0,0,1" ∷ (body ++ (bytes "entry,0,0,0" ∷ [])))
 
