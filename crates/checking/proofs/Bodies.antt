@@ -24,7 +24,6 @@ use Rattle.rules.specs.Check.{checkLocal, checkBody}
 use Rattle.rules.specs.Standing.{nodeAt, nodesAt, exprAt, exprsAt, stmtAt, stmtsAt, Loaded, Here, Row}
 use Rattle.rules.proofs.AnyTable.{from-table, first-time}
 use Rattle.rules.proofs.Binding.{kept-length, then-ok, then-refused, kept-assoc, refused-behind}
-use Rattle.rules.proofs.Exprs.{line-at}
 use Rattle.rules.proofs.Parts.{stop as end', _also_, pick}
 use Rattle.rules.proofs.Records.{guard-at, let-at, emit-at, assign-at, do-at, no-stmts, stmts-next}
 use Rattle.rules.proofs.Standing.{Stands, stands, row-first, row-nth, row-take, skip-next, nodes-last}
@@ -44,6 +43,7 @@ use Rattle.env.specs.declared.env.Env.{Env}
 use Rattle.env.specs.declared.judge.Typed.{Typed}
 use Rattle.env.specs.declared.judge.Typed.the-variants.{Is, Refused as No}
 use Rattle.typing.specs.Asks.{Asks, Types, Does}
+use Rattle.typing.proofs.Asking.{asks-line, of-expr}
 use Rattle.typing.proofs.Calls.{did, stopped, does-length}
 use Rattle.typing.proofs.Operators.{gave, gave-code}
 use Rattle.typing.proofs.Doing.{does-then, does-cut, does-nothing}
@@ -61,12 +61,12 @@ unfolding codeR
 marked-by s S env T i t U h l e = go (leb 1 (getD T i 0) && leb (getD T i 0) 10) refl
   where
     here : line (exprAt s i) ≡ i
-    here = line-at (h .ready .force .loaded) (h .here)
+    here = asks-line s S env T i h
 
     go : (b : Bool) → (leb 1 (getD T i 0) && leb (getD T i 0) 10) ≡ b → getD U i 0 ≡ code t
     go true q =
         let c = code-of (getD T i 0) (told (getD T i 0) q) in
-        let f = from-table (envOf s T env) (exprAt s i) T (tyFrom (getD T i 0)) (not-stale-at s S env T i (record { force = h .ready .force; here = h .here }) l) (rw here (c .0)) in
+        let f = from-table (envOf s T env) (exprAt s i) T (tyFrom (getD T i 0)) (not-stale-at s S env T i (of-expr s S env T i h) l) (rw here (c .0)) in
         let u : U ≡ T = ap (λ o. o .table) (sym e ∙ f) in
         let z : _≡_ {A = Res Ty} (ok t) (ok (tyFrom (getD T i 0))) = ap (λ o. o .res) (sym e ∙ f) in
         let y : t ≡ tyFrom (getD T i 0) = cc in

@@ -15,8 +15,7 @@ use Rattle.grammar.specs.Grammar as grammar
 use Rattle.sheet.specs.Scratch.{entry, kindAt, endAt, nameAt}
 use Rattle.sheet.specs.Tree.{takeNodes}
 use Rattle.rules.specs.Text.{Name}
-use Rattle.rules.specs.Ast.{Expr, Exprs, nil, more, Param, Stmt, emit, list, span, exprsOf}
-use Rattle.rules.specs.Check.{checkBody}
+use Rattle.rules.specs.Ast.{Expr, Exprs, nil, more, Param, list, span, exprsOf}
 use Rattle.rules.specs.Asking.{Ty, code, ok, Rule, ret, _>>=_, _>>_, expect, ifSome, forEach}
 use Rattle.rules.specs.Kept.{Table, kept}
 use Rattle.rules.specs.Declared.{eqTy, isTy, oneWord, tyOfDecl}
@@ -39,14 +38,14 @@ use Rattle.declared.specs.declared.refusal.Done.the-variants.{Fine, Refused}
 use Rattle.declared.proofs.Answers.{fits, misfits}
 use Rattle.declared.proofs.Codes.{from-code}
 use Rattle.text.proofs.Tests.{or-parts}
-use Rattle.env.specs.Force.{envOf, NoValue, ExprIn}
+use Rattle.env.specs.Force.{envOf, ExprIn}
 use Rattle.env.specs.declared.env.Env.{Env}
 use Rattle.env.specs.declared.judge.Typed.{Typed}
 use Rattle.env.specs.declared.judge.Typed.the-variants.{Is, Refused as No}
-use Rattle.typing.specs.Asks.{Asks, AsksAll, Types, Does}
+use Rattle.typing.specs.Asks.{Asks, NoValue, AsksAll, Types, Does}
 use Rattle.typing.proofs.Calls.{did}
 use Rattle.typing.proofs.Doing.{typed-then, not-typed, does-then, does-cut}
-use Rattle.typing.proofs.Onward.{Onward, onward, no-value-below, no-value-next, clear-judged, clear-each}
+use Rattle.typing.proofs.Onward.{Onward, onward, no-value-below, no-value-next, off-judged, off-each}
 use Rattle.typing.proofs.Operators.{gave-code}
 use Rattle.emits.specs.Emit.{emitRule, fieldsRule, EmitIn, FieldIn, FieldsIn, Mismatches, JudgesField}
 use Rattle.declared.specs.Answers.{Answers}
@@ -174,7 +173,7 @@ module _ (s S : List ℕ) (env : Env) (T : Table) (arg args param params : ℕ) 
       module _ (e : d ≡ Fine) (a' p' : ℕ) (ea : a' ≡ endAt S arg) (ep : p' ≡ endAt S param) where
         on : Onward s S env T U
         unfolding checkEmitField
-        on = onward s S env T U first tt (h .ready) (clear-judged (h .ready .force .loaded) (envOf s T env) (row-first these) (h .no-value) _ _ _ _) (did s first T d U (k .gives) e)
+        on = onward s S env T U first tt (h .ready) (off-judged (h .ready .force .loaded) (envOf s T env) (row-first these) (h .no-value) _ _ _ _) (did s first T d U (k .gives) e)
 
         pub fields-rest : FieldsIn s S env U a' (args - 1) p' (params - 1)
         fields-rest = record { ready = on .ready; these = rw ea (row-rest these); no-value = rw ea (no-value-next (h .ready .force .loaded) (row-first these)); those = rw ep (row-rest those) }
@@ -255,7 +254,7 @@ module _ (s S : List ℕ) (env : Env) (T : Table) (i : ℕ) (h : EmitIn s S env 
 
       module _ (e : d ≡ Fine) where
         on-emit : Onward s S env T U
-        on-emit = onward s S env T U _ tt (h .ready) (clear-each (h .ready .force .loaded) (envOf s T env) (emit-asks .row) (emit-asks .no-value)) (did s _ T d U (k .gives) e)
+        on-emit = onward s S env T U _ tt (h .ready) (off-each (h .ready .force .loaded) (envOf s T env) (emit-asks .row) (emit-asks .no-value)) (did s _ T d U (k .gives) e)
 
         pub emit-on : EmitIn s S env U i
         emit-on = record { ready = on-emit .ready; within = h .within; kind = h .kind }
@@ -264,10 +263,3 @@ module _ (s S : List ℕ) (env : Env) (T : Table) (i : ℕ) (h : EmitIn s S env 
             → Does s (emitRule (envOf s T env) (nameAt s S i) (list es)) T r W
         unfolding emitRule
         emit-ok r W g = does-then s all Emits T d U asks e r W (rw (← on-emit .same) g)
-
--- ------------------------------------------------------------ in a body
-
--- the `emit` clause of `checkBody` is this rule, then the rest of the body
-pub emit-clause : (Γ : Environment) (x : Name) (as' : List Expr) (ss : List Stmt) (T : Table) → kept (emitRule Γ x as' >>= λ _. checkBody Γ ss) T ≡ kept (checkBody Γ (emit x as' ∷ ss)) T
-unfolding emitRule checkBody _>>_
-emit-clause Γ x as' ss T = kept-assoc (λ _. checkEmitFields Γ x as') (λ _. checkBody Γ ss) (forEach as' λ arg. tyOf Γ arg >> ret tt) T

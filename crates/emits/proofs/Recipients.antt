@@ -33,14 +33,14 @@ use Rattle.declared.specs.declared.refusal.Done.{Done}
 use Rattle.declared.specs.declared.refusal.Done.the-variants.{Fine, Refused}
 use Rattle.declared.proofs.Answers.{fits, misfits}
 use Rattle.declared.proofs.Tables.{wordsIn, place-most, pick-place}
-use Rattle.env.specs.Force.{envOf, NoValue}
+use Rattle.env.specs.Force.{envOf}
 use Rattle.env.specs.declared.env.Env.{Env}
 use Rattle.env.specs.declared.judge.Typed.{Typed}
 use Rattle.env.specs.declared.judge.Typed.the-variants.{Is, Refused as No}
-use Rattle.typing.specs.Asks.{Asks, AsksAll, Types, Does}
+use Rattle.typing.specs.Asks.{Asks, NoValue, AsksAll, Types, Does}
 use Rattle.typing.proofs.Calls.{did}
 use Rattle.typing.proofs.Doing.{typed-then, not-typed, does-then, does-cut}
-use Rattle.typing.proofs.Onward.{Onward, onward, no-value-next, clear-judged}
+use Rattle.typing.proofs.Onward.{Onward, onward, no-value-next, off-judged}
 use Rattle.typing.proofs.Operators.{gave-code}
 use Rattle.emits.specs.Recipient.{recipientRule, recipientsRule, Recipients, JudgesRecipient}
 
@@ -133,7 +133,7 @@ module _ (s S : List ℕ) (env : Env) (T : Table) (left at : ℕ) (h : AsksAll s
       module _ (e : d ≡ Fine) (m : ℕ) (q : m ≡ endAt S at) where
         on : Onward s S env T U
         unfolding recipientRule
-        on = onward s S env T U first tt (h .ready) (clear-judged (h .ready .force .loaded) (envOf s T env) (row-first row) (h .no-value) _ _ _ _) (did s first T d U (k .gives) e)
+        on = onward s S env T U first tt (h .ready) (off-judged (h .ready .force .loaded) (envOf s T env) (row-first row) (h .no-value) _ _ _ _) (did s first T d U (k .gives) e)
 
         pub all-rest : AsksAll s S env U (left - 1) m
         all-rest = record { ready = on .ready; row = rw q (row-rest row); no-value = rw q (no-value-next (h .ready .force .loaded) (row-first row)) }

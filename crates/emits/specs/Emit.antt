@@ -16,8 +16,9 @@ use Rattle.rules.specs.Standing.{exprAt, paramAt, Here, Row}
 use Rattle.declared.specs.Answers.{Answers}
 use Rattle.declared.specs.Refusal.{doneOf}
 use Rattle.declared.specs.declared.refusal.Done.{Done}
-use Rattle.env.specs.Force.{envOf, NoValue, Ready}
+use Rattle.env.specs.Force.{envOf, Ready}
 use Rattle.env.specs.declared.env.Env.{Env as CodeEnv}
+use Rattle.typing.specs.Asks.{NoValue}
 
 -- the `emit` clause of `checkBody`, without the rest of the body
 unfoldable pub emitRule : Env → Name → List Expr → Rule Unit

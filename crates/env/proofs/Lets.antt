@@ -36,7 +36,7 @@ let-end d j w k =
     rw (t .here) (placed-at d (row-first r) .2 ∙ parts-end grammar.Expr 1 t (rw g refl))
 
 module _ (s : List ℕ) where
-  -- each ends behind the one before, the first at line lo or behind it, the last at line hi or before it
+  -- none ends before the one before it; the first ends at line lo or behind it, the last at line hi or before it
   abbrev Rising : ℕ → ℕ → List Node → Type 0
   Rising lo hi [] = lo ≤ hi
   Rising lo hi (t ∷ ts) = (lo ≤ namedEnd s t .1) × Rising (namedEnd s t .1) hi ts

@@ -166,7 +166,7 @@ module _ {s S : List ℕ} (d : Loaded s S) (xs : List Name) where
 
 -- ------------------------------------------------------------ the walk over the lines
 
--- a line at which no bound `let` has yet to end
+-- from line `next` on the exception holds nowhere
 pub not-stale-at : (s S : List ℕ) (env : Env) (T : Table) (i : ℕ) → ExprIn s S env i → env .next ≤ i → stale (envOf s T env) (exprAt s i) ≡ false
 unfolding envOf
 not-stale-at s S env T i h q =

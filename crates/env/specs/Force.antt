@@ -3,11 +3,10 @@ use Prim.Native.Nat.{ℕ, suc, _/_, _≤_}
 use mathlib.Core.List.{List, [], _∷_, map}
 use mathlib.Core.Bool.{true, false}
 use mathlib.Core.Option.{Option, none, some}
-use mathlib.Core.Logic.{_≢_}
 use mathlib.Core.Path.{_≡_}
 use lib.ListN.{length, getD}
 use Rattle.grammar.specs.Grammar as grammar
-use Rattle.sheet.specs.Scratch.{entry, kindAt, skip}
+use Rattle.sheet.specs.Scratch.{entry, skip}
 use Rattle.sheet.specs.Tree.{Node, node}
 use Rattle.rules.specs.Text.{Name, is, isOne, get, lastNamed}
 use Rattle.rules.specs.Ast.{lineAfter, fieldOf, paramOf, typeName}
@@ -47,13 +46,13 @@ envOf s T env =
       model = modelIn s;
       params = paramsIn s env;
       locals = map (localOf T) (lets s (env .bound) (env .body));
-      genesis = env .genesis;
       ends = endsIn s env;
+      genesis = env .genesis;
     }
 
 -- ------------------------------------------------------------ what the code asks
 
--- the lines that an `Env` tells are there
+-- the lines that an `Env` tells are there, and `next` is the line behind its bound statements
 pub record InForce (s S : List ℕ) (env : Env) : Type 0 where
   pub loaded : Loaded s S
   pub params : Row S grammar.Param (env .count) (env .params)
@@ -64,10 +63,6 @@ pub record InForce (s S : List ℕ) (env : Env) : Type 0 where
 pub record ExprIn (s S : List ℕ) (env : Env) (i : ℕ) : Type 0 where
   pub force : InForce s S env
   pub here : Here S grammar.Expr i
-
--- line i is no `let`'s value
-pub record NoValue (S : List ℕ) (i : ℕ) : Type 0 where
-  pub before : (j : ℕ) → suc j ≡ i → kindAt S j ≢ 16
 
 -- the lines of an `Env` are there, and the table has a byte a line
 pub record Ready (s S : List ℕ) (env : Env) (T : Table) : Type 0 where

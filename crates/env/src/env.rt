@@ -16,7 +16,7 @@ ghost use Rattle.rules.specs.Typing.{isNameParam, isPool, tyOfIdent};
 ghost use Rattle.env.specs.Force.{envOf, ExprIn, FieldFound, fieldTy, InForce, KeyedFound, markOf, paramsIn, Ready};
 
 // The model is that of the sheet. The parameters are `count` records from line `params` on. Of the statements from
-// line `body` on, the `let`s among the first `bound` are bound; `next` is the line behind these.
+// line `body` on, the `let`s among the first `bound` are bound; `next` is the line behind those first statements.
 pub struct Env {
     pub params: usize,
     pub count: usize,

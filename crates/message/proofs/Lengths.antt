@@ -96,7 +96,7 @@ room s i = 63 * bytesUpto i (linesOf s) + 3 * i
 
 -- what that leaves a type's text, where the sheet has 16,384 bytes and 1,024 lines
 abbrev typeMost : ℕ
-typeMost = 16176
+typeMost = (63 * 16384 + 3 * 1024) / 64
 
 -- an argument by its kind, from 8 on
 by-kind : (k i : ℕ) (l : Line) (ps : Nodes) → l .kind - 8 ≡ k → length (l .name) ≤ 64

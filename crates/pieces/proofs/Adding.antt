@@ -2,7 +2,7 @@
 use mathlib.Core.Path.{_≡_, refl, sym, ap, _∙_}
 use mathlib.Core.List.{List, [], _∷_, _++_, append-nil}
 use mathlib.Core.Bool.{Bool, true, false, cond}
-use Prim.Native.Nat.{ℕ, zero, suc, _+_, _-_, _*_, _^_, _≤_, _<_}
+use Prim.Native.Nat.{ℕ, zero, suc, _+_, _-_, _≤_, _<_}
 use native.Mathlib.Numerals.{add-one}
 use native.Mathlib.Omega.{arith}
 use lib.Dec.{leb}
@@ -165,17 +165,6 @@ module _ (p B : List ℕ) (a : ℕ) (U : List ℕ) (e : U ≡ overlay B a p) whe
   add-all h l = record { told = sym (told-all (a + length p) (omega arith)); buffer = e }
 
 -- ------------------------------------------------------------ a message
-
--- a length that is at most a slice's is told as it is; the bound is what is known of a slice of bytes
-pub told-exact : (t B : List ℕ) (a : ℕ) (U : List ℕ) (b m : ℕ) → Adds t B a U b → b ≤ m → m * 1 < 2 ^ 63 → b ≡ a + length t
-told-exact t B a U b m x h l = go (leb (a + length t) MOST) refl
-  where
-    go : (t' : Bool) → leb (a + length t) MOST ≡ t' → b ≡ a + length t
-    go true e = x .told ∙ told-all (a + length t) (leb-true (a + length t) MOST e)
-    go false e =
-        let f = leb-false (a + length t) MOST e in
-        let q : b ≡ MOST = x .told ∙ told-most (a + length t) (omega arith) in
-        absurd (omega arith)
 
 -- a message that fits stands at the buffer's start
 pub all-written : (t B U : List ℕ) (b : ℕ) → Adds t B 0 U b → length t ≤ length B → U ≡ t ++ drop (length t) B

@@ -32,8 +32,8 @@ pub record Named (l : Line) : Type 0 where
   pub short : length (l .name) ≤ 64
   pub literal : l .kind ≡ 20 → all (plain false) (l .name) ≡ true
 
-plain-all : (b : Bool) (f : List ℕ) → isPlain b f ≡ true → (length f ≤ 64) × (all (plain b) f ≡ true)
-plain-all b f e =
+plain-parts : (b : Bool) (f : List ℕ) → isPlain b f ≡ true → (length f ≤ 64) × (all (plain b) f ≡ true)
+plain-parts b f e =
     let h = and-eq-true-iff (leb 1 (length f) && leb (length f) 64) (all (plain b) f) .0 e in
     (leb-true (length f) 64 (and-eq-true-iff (leb 1 (length f)) (leb (length f) 64) .0 (h .0) .1), h .1)
 
@@ -58,8 +58,8 @@ Begun k l = (l .kind ≡ k) × (length (l .name) ≤ 64)
 field-begun : (k : ℕ) (r : Rule) (a : ℕ) (f : List ℕ) (l m : Line) → readField r a f l ≡ some m → Begun k l → Begun k m
 unfolding readField
 field-begun k span a f l m e h = rw (number-some _ _ m e .1) h
-field-begun k name a f l m e h = let w = when-some _ _ m e in rw (w .1) (h .0, plain-all true f (name-plain f (w .0)) .0)
-field-begun k text a f l m e h = let w = when-some _ _ m e in rw (w .1) (h .0, plain-all false f (w .0) .0)
+field-begun k name a f l m e h = let w = when-some _ _ m e in rw (w .1) (h .0, plain-parts true f (name-plain f (w .0)) .0)
+field-begun k text a f l m e h = let w = when-some _ _ m e in rw (w .1) (h .0, plain-parts false f (w .0) .0)
 field-begun k (count s) a f l m e h = rw (number-some _ _ m e .1) h
 field-begun k (flag s) a f l m e h = rw (number-some _ _ m e .1) h
 field-begun k assignOp a f l m e h = rw (when-some _ _ m e .1) h
@@ -102,7 +102,7 @@ pieces-named σ at (w ∷ fs) l e =
     let b = fields-begun k (rowOf k .rules) a fs (begun k at) l r (refl, omega arith) in
     let by-kind : l .kind ≡ 20 → readFields (span ∷ text ∷ []) a fs (begun k at) ≡ some l =
     λ q. subst (λ j. readFields (rowOf j .rules) a fs (begun k at) ≡ some l) (sym (b .0) ∙ q) r in
-    record { short = b .1; literal = λ q. plain-all false (l .name) (literal-text a fs (begun k at) l (by-kind q)) .1 }
+    record { short = b .1; literal = λ q. plain-parts false (l .name) (literal-text a fs (begun k at) l (by-kind q)) .1 }
 
 pub lines-named : (ls : List (List ℕ)) (i j at : ℕ) (ds : List (ℕ × Sort)) (xs : List Line) → scan i at ds ls ≡ lines xs → Each (λ k. Named) j xs
 unfolding scan readLine

@@ -25,7 +25,7 @@ use Rattle.rules.specs.Verdict.{modelOf, ruled, judge, verdict, keptJudg
 use Rattle.rules.proofs.All.{All, all-append, all-split}
 use Rattle.rules.proofs.Keeps.{Mapped, Afresh, zeros, keeps}
 use Rattle.rules.proofs.Coherence.{C, CEach, c-then, c-list, c-pure, Fits}
-use Rattle.rules.proofs.Lines.{ends, outAt, fits}
+use Rattle.rules.proofs.Lines.{line-lt-after, outAt, fits}
 use Rattle.rules.proofs.Lets.{Past, past-on}
 use Rattle.rules.proofs.Pure.{p-for, p-storable, p-digest, p-guardian, p-event-param, p-entry-param, p-key-kinds}
 use Rattle.rules.proofs.Whole.{FitsEach, FitsBody, w-predicate, w-entry, w-default, w-genesis}
@@ -106,7 +106,7 @@ exprs-all M (i ∷ is') = exprs-append (itemPairs M i) _ ∙ rw (exprs-item M i,
 abbrev Plain : Pair → Type 0
 Plain p = Past (p .0 .ends) (line (p .1))
 
--- what is plain of the expressions es, and where those behind them start
+-- the pairs ps are plain, and the expressions fs behind them stand in order from a line k on
 abbrev Passed : List Pair → (i j : ℕ) → List Expr → Type 0
 Passed ps i j fs = All Plain ps × (k : ℕ) × (i ≤ k) × Ordered k j fs
 
@@ -115,7 +115,7 @@ plain-with : (Γ : Env) (es fs : List Expr) (i j : ℕ) → Past (Γ .ends) i �
 plain-with Γ [] fs i j p o = (tt, i, omega arith, o)
 plain-with Γ (e ∷ es) fs i j p o =
     let a = o .0 in
-    let b = ends e (o .1) in
+    let b = line-lt-after e (o .1) in
     let r = plain-with Γ es fs (lineAfter e) j (past-on (Γ .ends) i (lineAfter e) p (omega arith)) (o .2) in
     let c = r .2 in
     ((past-on (Γ .ends) i (line e) p a, r .0), r .1, omega arith, r .3)
@@ -141,7 +141,7 @@ plain-body Γ [] fs i j p o = (tt, i, omega arith, o)
 plain-body Γ (guard e ∷ ss) fs i j p o = plain-then Γ (e ∷ []) (bodyPairs Γ ss) (bodyExprs ss ++ fs) fs i j p o (λ k. plain-body Γ ss fs k j)
 plain-body Γ (bind x v ∷ ss) fs i j p o =
     let a = o .0 in
-    let b = ends v (o .1) in
+    let b = line-lt-after v (o .1) in
     let r = plain-body _ ss fs (lineAfter v) j (past-bound Γ x (fresh (tyOf Γ v) .res) i (lineAfter v) p (omega arith)) (o .2) in
     let c = r .2 in
     ((past-on (Γ .ends) i (line v) p a, r .0), r .1, omega arith, r .3)
@@ -171,7 +171,7 @@ outOf (p ∷ ps) x = cond (ltb x (lineAfter (p .1))) (outAt (p .0) (p .1) x) (ou
 
 ordered-most : (i j : ℕ) (es : List Expr) → Ordered i j es → i ≤ j
 ordered-most i j [] h = h
-ordered-most i j (e ∷ es) h = let a = ends e (h .1) in let b = ordered-most (lineAfter e) j es (h .2) in let c = h .0 in omega arith
+ordered-most i j (e ∷ es) h = let a = line-lt-after e (h .1) in let b = ordered-most (lineAfter e) j es (h .2) in let c = h .0 in omega arith
 
 module _ (m : ℕ → Out Ty) (n : ℕ) where
   abbrev Q : Bool → ℕ → Rule Ty → Type 0
@@ -184,7 +184,7 @@ module _ (m : ℕ → Out Ty) (n : ℕ) where
   fits-pairs [] i j o b p f = tt
   fits-pairs (p ∷ ps) i j o b q f =
       let e = p .1 in
-      let a = ends e (o .1) in
+      let a = line-lt-after e (o .1) in
       let c = ordered-most (lineAfter e) j (exprs ps) (o .2) in
       let d = o .0 in (
         fits m n (p .0) (line e) (q .0) e (omega arith) (o .1) (omega arith)

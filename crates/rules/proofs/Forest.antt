@@ -173,9 +173,6 @@ module _ {s S : List ℕ} (d : Loaded s S) where
         are = exprs-join (b .count) d (a .row) ∙ rw (a .are, a .ends, b .are) refl;
       }
 
-  pub left-bound : {i end : ℕ} {es : Exprs} → Left s S i end es → i ≤ end
-  left-bound l = let q = skip-least (l .row) in omega (arith, q, l .ends)
-
   -- nothing is left
   pub left-over : {i end : ℕ} {es : Exprs} → Left s S i end es → end ≤ i → es ≡ nil
   left-over {i} {end} {es} l h = go (l .count) (l .row) (l .ends) (l .are)

@@ -1,5 +1,5 @@
 -- Expressions whose lines are numbered as a sheet numbers them: a record's parts follow it directly.
--- Then a map m as `Coherence` wants it is there. Assumes nothing.
+-- Then one map tells what typing each line comes to, as `Mapped` of Keeps wants it. Assumes nothing.
 use mathlib.Core.Path.{_≡_, refl, sym, _∙_}
 use mathlib.Core.Bool.{false, cond}
 use Prim.Native.Nat.{ℕ, _<_, _≤_, suc}
@@ -30,17 +30,17 @@ abbrev mutual
 mutual
   unfolding line
 
-  pub ends : (e : Expr) → Numbered e → line e < lineAfter e
-  ends (leaf l s k) h = omega arith
-  ends (unary l s o e) h = omega (arith, ends e (h .1))
-  ends (binary l s o a b) h = omega (arith, ends a (h .2), ends b (h .3))
-  ends (field l s e x k) h = omega (arith, ends e (h .1))
-  ends (call l s c es) h = omega (arith, ends c (h .1), ends-all (lineAfter c) es (h .2))
-  ends (wrap l s w e) h = omega (arith, ends e (h .1))
+  pub line-lt-after : (e : Expr) → Numbered e → line e < lineAfter e
+  line-lt-after (leaf l s k) h = omega arith
+  line-lt-after (unary l s o e) h = omega (arith, line-lt-after e (h .1))
+  line-lt-after (binary l s o a b) h = omega (arith, line-lt-after a (h .2), line-lt-after b (h .3))
+  line-lt-after (field l s e x k) h = omega (arith, line-lt-after e (h .1))
+  line-lt-after (call l s c es) h = omega (arith, line-lt-after c (h .1), lines-le-after (lineAfter c) es (h .2))
+  line-lt-after (wrap l s w e) h = omega (arith, line-lt-after e (h .1))
 
-  pub ends-all : (i : ℕ) (es : Exprs) → NumberedFrom i es → i ≤ linesAfter i es
-  ends-all i nil h = omega arith
-  ends-all i (more e es) h = omega (arith, ends e (h .1), ends-all (lineAfter e) es (h .2))
+  pub lines-le-after : (i : ℕ) (es : Exprs) → NumberedFrom i es → i ≤ linesAfter i es
+  lines-le-after i nil h = omega arith
+  lines-le-after i (more e es) h = omega (arith, line-lt-after e (h .1), lines-le-after (lineAfter e) es (h .2))
 
 -- what holds of each line of an expression holds of the askings that type it
 module _ (P : ℕ → Type 0) (R : Rule Ty → Ty → Type 0) (Γ : Env) where
@@ -54,26 +54,26 @@ module _ (P : ℕ → Type 0) (R : Rule Ty → Ty → Type 0) (Γ : Env) where
     pub fits-lines : (e : Expr) → Numbered e → Between (line e) (lineAfter e) → Fits (OfLine P) R Γ e
     fits-lines (leaf l s k) h f = f l (omega arith) (omega arith)
     fits-lines (unary l s o e) h f =
-        let z = ends e (h .1) in
+        let z = line-lt-after e (h .1) in
         (f l (omega arith) (omega arith), fits-lines e (h .1) (λ x u v. f x (omega arith) v))
     fits-lines (binary l s o a b) h f =
-        let y = ends a (h .2) in
-        let z = ends b (h .3) in
+        let y = line-lt-after a (h .2) in
+        let z = line-lt-after b (h .3) in
         (f l (omega arith) (omega arith), fits-lines a (h .2) (λ x u v. f x (omega arith) (omega arith)), fits-lines b (h .3) (λ x u v. f x (omega arith) v))
-    fits-lines (field l s e n m) h f = let z = ends e (h .1) in f l (omega arith) (omega arith)
+    fits-lines (field l s e n m) h f = let z = line-lt-after e (h .1) in f l (omega arith) (omega arith)
     fits-lines (call l s c es) h f =
-        let y = ends c (h .1) in
-        let z = ends-all (lineAfter c) es (h .2) in
+        let y = line-lt-after c (h .1) in
+        let z = lines-le-after (lineAfter c) es (h .2) in
         (f l (omega arith) (omega arith), fits-lines-all (lineAfter c) es (h .2) (λ x u v. f x (omega arith) v))
     fits-lines (wrap l s w e) h f =
-        let z = ends e (h .1) in
+        let z = line-lt-after e (h .1) in
         (f l (omega arith) (omega arith), fits-lines e (h .1) (λ x u v. f x (omega arith) v))
 
     fits-lines-all : (i : ℕ) (es : Exprs) → NumberedFrom i es → Between i (linesAfter i es) → FitsAll (OfLine P) R Γ es
     fits-lines-all i nil h f = tt
     fits-lines-all i (more e es) h f =
-        let y = ends e (h .1) in
-        let z = ends-all (lineAfter e) es (h .2) in
+        let y = line-lt-after e (h .1) in
+        let z = lines-le-after (lineAfter e) es (h .2) in
         let w = h .0 in
         (fits-lines e (h .1) (λ x u v. f x (omega arith) (omega arith)), fits-lines-all (lineAfter e) es (h .2) (λ x u v. f x (omega arith) v))
 
@@ -131,12 +131,12 @@ module _ (m : ℕ → Out Ty) (n : ℕ) (Γ : Env) (k : ℕ) (past : Past (Γ .e
     pub fits : (e : Expr) → k ≤ line e → Numbered e → lineAfter e ≤ n → Says m (outAt Γ e) (line e) (lineAfter e) → Fits (Mapped m n) Afresh Γ e
     fits (leaf l s v) g h b f = (sym (f l (omega arith) (omega arith)), omega arith, now _ g)
     fits (unary l s o e) g h b f =
-        let z = ends e (h .1) in
+        let z = line-lt-after e (h .1) in
         let j : l < lineAfter e = omega arith in
         ((here m l (lineAfter e) _ (outAt Γ e) j f, omega arith, now _ g), fits e (omega arith) (h .1) b (within m l (lineAfter e) (line e) (lineAfter e) _ _ (omega arith) (omega arith) f))
     fits (binary l s o a c) g h b f =
-        let z = ends a (h .2) in
-        let y = ends c (h .3) in
+        let z = line-lt-after a (h .2) in
+        let y = line-lt-after c (h .3) in
         let j : l < lineAfter c = omega arith in
         let says : Says m (λ i. cond (ltb i (lineAfter a)) (outAt Γ a i) (outAt Γ c i)) (line a) (lineAfter c) =
         within m l (lineAfter c) (line a) (lineAfter c) _ _ (omega arith) (omega arith) f
@@ -145,24 +145,24 @@ module _ (m : ℕ → Out Ty) (n : ℕ) (Γ : Env) (k : ℕ) (past : Past (Γ .e
           fits a (omega arith) (h .2) (omega arith) (first m (lineAfter a) (line a) (lineAfter c) (outAt Γ a) (outAt Γ c) (omega arith) says),
           fits c (omega arith) (h .3) b (rest m (lineAfter a) (line a) (lineAfter c) (line c) (outAt Γ a) (outAt Γ c) (omega arith) (omega arith) says),
         )
-    fits (field l s e x v) g h b f = let z = ends e (h .1) in (sym (f l (omega arith) (omega arith)), omega arith, now _ g)
+    fits (field l s e x v) g h b f = let z = line-lt-after e (h .1) in (sym (f l (omega arith) (omega arith)), omega arith, now _ g)
     fits (call l s c es) g h b f =
-        let z = ends c (h .1) in
-        let y = ends-all (lineAfter c) es (h .2) in
+        let z = line-lt-after c (h .1) in
+        let y = lines-le-after (lineAfter c) es (h .2) in
         let j : l < linesAfter (lineAfter c) es = omega arith in (
           (here m l (linesAfter (lineAfter c) es) _ (outsAt Γ es) j f, omega arith, now _ g),
           fits-all (lineAfter c) es (omega arith) (h .2) b (within m l (linesAfter (lineAfter c) es) (lineAfter c) (linesAfter (lineAfter c) es) _ _ (omega arith) (omega arith) f),
         )
     fits (wrap l s w e) g h b f =
-        let z = ends e (h .1) in
+        let z = line-lt-after e (h .1) in
         let j : l < lineAfter e = omega arith in
         ((here m l (lineAfter e) _ (outAt Γ e) j f, omega arith, now _ g), fits e (omega arith) (h .1) b (within m l (lineAfter e) (line e) (lineAfter e) _ _ (omega arith) (omega arith) f))
 
     pub fits-all : (i : ℕ) (es : Exprs) → k ≤ i → NumberedFrom i es → linesAfter i es ≤ n → Says m (outsAt Γ es) i (linesAfter i es) → FitsAll (Mapped m n) Afresh Γ es
     fits-all i nil g h b f = tt
     fits-all i (more e es) g h b f =
-        let z = ends e (h .1) in
-        let y = ends-all (lineAfter e) es (h .2) in
+        let z = line-lt-after e (h .1) in
+        let y = lines-le-after (lineAfter e) es (h .2) in
         let says : Says m (λ x. cond (ltb x (lineAfter e)) (outAt Γ e x) (outsAt Γ es x)) (line e) (linesAfter (lineAfter e) es) = λ x u v. f x (omega arith) v in (
           fits e (omega arith) (h .1) (omega arith) (first m (lineAfter e) (line e) (linesAfter (lineAfter e) es) (outAt Γ e) (outsAt Γ es) (omega arith) says),
           fits-all (lineAfter e) es (omega arith) (h .2) b

@@ -77,10 +77,10 @@ pub marks-code : {A : Type 0} (p : Rule A) (n l : ℕ) → l < n → getD (marks
 unfolding codeOf
 marks-code p n l h = marked (fresh p .log) (replicate n 0) l (rw (length-replicate {A = ℕ} n 0) h) (coded p) ∙ rw (zeros n l)
 
-code-reached : (l : ℕ) (as' : List Asking) → All Coded as' → eqb (codeOf l as') 0 ≡ not (reached l as')
+coded-reached : (l : ℕ) (as' : List Asking) → All Coded as' → eqb (codeOf l as') 0 ≡ not (reached l as')
 unfolding codeOf reached refusedIn firstCode
-code-reached l [] h = refl
-code-reached l ((i, c) ∷ rest) h = go (eqb i l) (eqb c 11) (refusedIn l rest) (code-reached l rest (h .1))
+coded-reached l [] h = refl
+coded-reached l ((i, c) ∷ rest) h = go (eqb i l) (eqb c 11) (refusedIn l rest) (coded-reached l rest (h .1))
   where
     go : (b e r : Bool) → eqb (cond r 11 (firstCode l rest)) 0 ≡ not (reached l rest) → eqb (cond ((b && e) || r) 11 (cond b c (firstCode l rest))) 0 ≡ not (b || reached l rest)
     go true true r q = refl
@@ -88,9 +88,9 @@ code-reached l ((i, c) ∷ rest) h = go (eqb i l) (eqb c 11) (refusedIn l rest) 
     go true false false q = h .0
     go false e r q = q
 
--- A line is marked exactly where the rules ask its type.
-pub marked-reached : {A : Type 0} (p : Rule A) (n l : ℕ) → l < n → eqb (getD (marks (replicate n 0) (fresh p .log)) l 0) 0 ≡ not (reached l (fresh p .log))
-marked-reached p n l h = ap (λ c. eqb c 0) (marks-code p n l h) ∙ code-reached l (fresh p .log) (coded p)
+-- A line's code is 0 exactly where the rules don't ask its type.
+pub code-reached : {A : Type 0} (p : Rule A) (l : ℕ) → eqb (codeOf l (fresh p .log)) 0 ≡ not (reached l (fresh p .log))
+code-reached p l = coded-reached l (fresh p .log) (coded p)
 
 count-from : (T : Table) (i : ℕ) (asked : List Asking) → ((l : ℕ) → l < length T → eqb (getD T l 0) 0 ≡ not (reached (i + l) asked)) → count T ≡ reachedFrom i (length T) asked
 unfolding count reachedFrom
@@ -111,4 +111,4 @@ pub count-reached : {A : Type 0} (p : Rule A) (n : ℕ) → count (marks (replic
 count-reached p n =
     let T = marks (replicate n 0) (fresh p .log) in
     let e : length T ≡ n = length-marks (replicate n 0) (fresh p .log) ∙ length-replicate {A = ℕ} n 0 in
-    count-from T 0 (fresh p .log) (λ l h. rw (let z : 0 + l ≡ l = omega arith in z) (marked-reached p n l (rw e at h))) ∙ rw e refl
+    count-from T 0 (fresh p .log) (λ l h. rw (let z : 0 + l ≡ l = omega arith in z) (ap (λ c. eqb c 0) (marks-code p n l (rw e at h)) ∙ code-reached p l)) ∙ rw e refl

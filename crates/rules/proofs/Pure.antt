@@ -1,4 +1,4 @@
--- Rules that ask no type. Assumes nothing.
+-- Rules that ask no type, and refuse with a number from 12 on. Assumes nothing.
 use mathlib.Core.Path.{_≡_, refl}
 use mathlib.Core.List.{List, [], _∷_}
 use mathlib.Core.Bool.{Bool, true, false}
@@ -17,7 +17,7 @@ use Rattle.rules.specs.Arithmetic.{checkSum, checkArithmetic}
 use Rattle.rules.specs.KeyKinds.{Use, checkUses, checkKeyKinds}
 use Rattle.rules.specs.Check.{checkLocal, clauseAssets, checkEventParam, checkEntryParam}
 
--- a refusal with a number of the rules
+-- a refusal with a number from 12 on
 abbrev pub FromTwelve : Refusal → Type 0
 FromTwelve r = leb 12 (r .number) ≡ true
 

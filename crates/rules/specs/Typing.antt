@@ -16,20 +16,20 @@ pub record Env : Type 0 where
   pub model : Model
   pub params : List (Name × Ty)
   pub locals : List (Name × Ty)
-  pub genesis : Bool
   -- the same `let`s, each with the first line behind it: what document 01's exception goes by
   pub ends : List (Name × ℕ)
+  pub genesis : Bool
 
 unfoldable pub new : Model → List (Name × Ty) → Env
-new m params = record { model = m; params = params; locals = []; genesis = false; ends = [] }
+new m params = record { model = m; params = params; locals = []; ends = []; genesis = false }
 
 unfoldable pub inGenesis : Env → Env
-inGenesis Γ = record { model = Γ .model; params = Γ .params; locals = Γ .locals; genesis = true; ends = Γ .ends }
+inGenesis Γ = record { model = Γ .model; params = Γ .params; locals = Γ .locals; ends = Γ .ends; genesis = true }
 
 -- `env.locals.borrow_mut().insert(name, ty)`, of a `let` behind which line i is the first
 unfoldable pub bound : Env → Name → Ty → ℕ → Env
 bound Γ x t i =
-    record { model = Γ .model; params = Γ .params; locals = Γ .locals ++ ((x, t) ∷ []); genesis = Γ .genesis; ends = Γ .ends ++ ((x, i) ∷ []) }
+    record { model = Γ .model; params = Γ .params; locals = Γ .locals ++ ((x, t) ∷ []); ends = Γ .ends ++ ((x, i) ∷ []); genesis = Γ .genesis }
 
 -- ------------------------------------------------------------ views of an expression
 
@@ -362,7 +362,7 @@ unfoldable mutual
   hasAny xs nil = false
   hasAny xs (more e es) = has xs e || hasAny xs es
 
--- the names of those behind which the first line is behind line i: they stand from the line's own statement or clause on
+-- the names of the `let`s that end behind line i: they stand from the line's own statement or clause on
 unfoldable pub later : ℕ → List (Name × ℕ) → List Name
 later i [] = []
 later i (b ∷ bs) = elim (ltb i (b .1)) [ true ↦ b .0 ∷ later i bs | false ↦ later i bs ]

@@ -28,10 +28,6 @@ pub record Answer : Type 0 where
 unfoldable pub written : List ℕ → List ℕ → List ℕ
 written new old = new ++ drop (length new) old
 
--- how many bytes a message has at most
-abbrev pub longest : ℕ
-longest = 16384
-
 -- a message that doesn't fit is not written at all
 unfoldable pub fitting : (most : ℕ) → List ℕ → List ℕ
 fitting most text = cond (leb (length text) most) text []
@@ -60,6 +56,10 @@ judge most (lines ls) = ruled most (length ls) (fresh (check (modelOf ls)))
 -- the sheet s, with the lengths of the lent type table, scratch and message buffer
 unfoldable pub verdict : List ℕ → (types scratch message : ℕ) → Answer
 verdict s types scratch message = judge message (load s types scratch)
+
+-- How many bytes a message has at most. No definition rests on it: the verdict call promises it (`message-short` of message/proofs/Lengths).
+abbrev pub longest : ℕ
+longest = 16384
 
 -- ------------------------------------------------------------ the same with kept types
 

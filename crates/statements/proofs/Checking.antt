@@ -46,7 +46,7 @@ use Rattle.declared.proofs.Tables.{one-place}
 use Rattle.typing.specs.Asks.{calleeAt, argsAt, Asks, AsksAt, AsksCall, Types, Does}
 use Rattle.typing.proofs.Calls.{parts, call-callee, call-args}
 use Rattle.typing.proofs.Doing.{typed-then, not-typed}
-use Rattle.typing.proofs.Onward.{Onward, onward, no-value-below, clear-type}
+use Rattle.typing.proofs.Onward.{Onward, onward, no-value-below, off-type}
 use Rattle.typing.proofs.Operators.{gave, gave-code}
 use Rattle.statements.specs.Assigned.{opOf, bareAt, TargetAt, JudgesAssign}
 use Rattle.statements.specs.Checked.{noDefaults, StmtIn, StmtOf, DefaultIn, ValueIn, givenTo, Gives}
@@ -100,7 +100,7 @@ module _ (s S : List ℕ) (env : Env) (T : Table) (i : ℕ) (h : StmtOf 18 s S e
 
     module _ (c m : ℕ) (e : a ≡ Is c) (q : m ≡ endAt S (i + 1)) where
       on : Onward s S env T U
-      on = onward s S env T U _ _ (h .stmt .ready) (clear-type (h .stmt .ready .force .loaded) (envOf s T env) (assign-target .here) (rw (add-one i) (no-value-below S i (omega (arith, h .kind))))) (gave s _ T a U k c e)
+      on = onward s S env T U _ _ (h .stmt .ready) (off-type (h .stmt .ready .force .loaded) (envOf s T env) (assign-target .here) (rw (add-one i) (no-value-below S i (omega (arith, h .kind))))) (gave s _ T a U k c e)
 
       pub assign-value : ValueIn s S env U (i + 1) m
       assign-value =
@@ -158,7 +158,7 @@ module _ (s S : List ℕ) (env : Env) (T : Table) (i : ℕ) (h : StmtOf 19 s S e
 
     module _ (c : ℕ) (e : a ≡ Is c) where
       on-do : Onward s S env T U
-      on-do = onward s S env T U _ _ (h .stmt .ready) (clear-type (h .stmt .ready .force .loaded) (envOf s T env) (do-expr .here) (rw (add-one i) (no-value-below S i (omega (arith, h .kind))))) (gave s _ T a U k c e)
+      on-do = onward s S env T U _ _ (h .stmt .ready) (off-type (h .stmt .ready .force .loaded) (envOf s T env) (do-expr .here) (rw (add-one i) (no-value-below S i (omega (arith, h .kind))))) (gave s _ T a U k c e)
 
       pub do-use : Asks s S env U (i + 1)
       do-use = record { ready = on-do .ready; here = do-expr .here }

@@ -35,8 +35,8 @@ pub types-length : (s : List ℕ) (p : Rule Ty) (T : Table) (a : Typed) (U : Tab
 types-length s p T a U k = sym (ap (λ o. length (o .table)) (k .gives)) ∙ kept-length p T
 
 module _ (s S : List ℕ) (env : Env) (T : Table) (i : ℕ) (h : Asks s S env T i) where
-  here : line (exprAt s i) ≡ i
-  here = line-at (h .ready .force .loaded) (h .here)
+  pub asks-line : line (exprAt s i) ≡ i
+  asks-line = line-at (h .ready .force .loaded) (h .here)
 
   pub of-expr : ExprIn s S env i
   of-expr = record { force = h .ready .force; here = h .here }
@@ -50,7 +50,7 @@ module _ (s S : List ℕ) (env : Env) (T : Table) (i : ℕ) (h : Asks s S env T 
     unfolding envOf typedOf stale
     of-known q y x z =
         let c = told known (sym t ∙ y) in
-        record { gives = from-table (envOf s T env) (exprAt s i) T _ (sym x ∙ z) (rw (here, ← e) (code-of known c .0)); valid = c }
+        record { gives = from-table (envOf s T env) (exprAt s i) T _ (sym x ∙ z) (rw (asks-line, ← e) (code-of known c .0)); valid = c }
 
     pub of-again : (q : Bool) → b ≡ true → q ≡ stale (envOf s [] env) (exprAt s i) → q ≡ true → AsksAgain s S env T i
     of-again q y x z = record { asks = h; marked = rw e at (told known (sym t ∙ y)); stale = sym x ∙ z }
@@ -61,8 +61,8 @@ module _ (s S : List ℕ) (env : Env) (T : Table) (i : ℕ) (h : Asks s S env T 
     of-fresh a U v y k m =
         record {
           gives =
-              first-time (envOf s T env) (exprAt s i) T (rw (here, ← e) (untold known (sym t ∙ y)))
-              ∙ rw (k .gives, here, mark-code s a (k .valid), m) refl;
+              first-time (envOf s T env) (exprAt s i) T (rw (asks-line, ← e) (untold known (sym t ∙ y)))
+              ∙ rw (k .gives, asks-line, mark-code s a (k .valid), m) refl;
           valid = k .valid;
         }
 
@@ -73,7 +73,7 @@ module _ (s S : List ℕ) (env : Env) (T : Table) (i : ℕ) (h : Asks s S env T 
 -- typed again
 module _ (s S : List ℕ) (env : Env) (T : Table) (i : ℕ) (h : AsksAgain s S env T i) where
   at : line (exprAt s i) ≡ i
-  at = here s S env T i (h .asks)
+  at = asks-line s S env T i (h .asks)
 
   pub again-asks : Asks s S env T i
   again-asks = h .asks

@@ -37,7 +37,7 @@ use Rattle.env.specs.declared.judge.Typed.{Typed}
 use Rattle.env.specs.declared.judge.Typed.the-variants.{Is, Refused as No}
 use Rattle.typing.specs.Asks.{calleeAt, argsAt, typeKeyed, typeArgs, Asks, AsksAt, AsksAll, AsksCall, Types, Does}
 use Rattle.typing.proofs.Asking.{types-length}
-use Rattle.typing.proofs.Onward.{Onward, onward, no-value-next, clear-type, clear-each}
+use Rattle.typing.proofs.Onward.{Onward, onward, no-value-next, off-type, off-each}
 use Rattle.typing.proofs.Operators.{gave}
 
 pub does-length : (s : List ℕ) (p : Rule Unit) (T : Table) (d : Done) (U : Table) → Does s p T d U → length U ≡ length T
@@ -153,7 +153,7 @@ module _ (s S : List ℕ) (env : Env) (T : Table) (i : ℕ) (keyed : Found) (h :
 
         module _ (f : d ≡ Fine) where
           on : Onward s S env T U
-          on = onward s S env T U _ tt (h .call .asks .ready) (clear-each (h .call .asks .ready .force .loaded) (envOf s T env) (args-all .row) (args-all .no-value)) (did s _ T d U (k .gives) f)
+          on = onward s S env T U _ tt (h .call .asks .ready) (off-each (h .call .asks .ready .force .loaded) (envOf s T env) (args-all .row) (args-all .no-value)) (did s _ T d U (k .gives) f)
 
           pub args-keyed : AsksCall s S env U i keyed
           args-keyed = on-call s S env T U i keyed h on
@@ -212,7 +212,7 @@ module _ (s S : List ℕ) (env : Env) (T : Table) (left at : ℕ) (h : AsksAll s
 
       module _ (c : ℕ) (e : a ≡ Is c) (m : ℕ) (q : m ≡ endAt S at) where
         on-first : Onward s S env T U
-        on-first = onward s S env T U _ _ (h .ready) (clear-type (h .ready .force .loaded) (envOf s T env) (row-first row) (h .no-value)) (gave s _ T a U k c e)
+        on-first = onward s S env T U _ _ (h .ready) (off-type (h .ready .force .loaded) (envOf s T env) (row-first row) (h .no-value)) (gave s _ T a U k c e)
 
         pub each-rest : AsksAll s S env U (left - 1) m
         each-rest = record { ready = on-first .ready; row = rw q (row-rest row); no-value = rw q (no-value-next (h .ready .force .loaded) (row-first row)) }

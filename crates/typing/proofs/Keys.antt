@@ -47,7 +47,7 @@ use Rattle.env.specs.declared.judge.Typed.{Typed}
 use Rattle.env.specs.declared.judge.Typed.the-variants.{Is, Refused as No}
 use Rattle.typing.specs.Asks.{calleeAt, argsAt, methodAt, amountRule, wanted, keysRule, Asks, AsksCall, AsksMethod, AsksKeys, Types, Does}
 use Rattle.typing.proofs.Asking.{types-length}
-use Rattle.typing.proofs.Onward.{Onward, onward, no-value-next, clear-type, clear-amount}
+use Rattle.typing.proofs.Onward.{Onward, onward, no-value-next, off-type, off-amount}
 use Rattle.typing.proofs.Operators.{gave}
 use Rattle.typing.proofs.Calls.{does-length, parts, did, stopped}
 
@@ -144,7 +144,7 @@ module _ (s S : List ℕ) (env : Env) (T : Table) (i : ℕ) (keyed : Found) (h :
       module _ (f : d ≡ Fine) (x : Name) (w at m : ℕ) (ex : x ≡ nameAt s S (i + 1)) (ew : w ≡ wantsOf x) (ea : at ≡ endAt S (i + 1)) (em : m ≡ entry S i 6) where
         on : Onward s S env T U
         unfolding argsAt
-        on = onward s S env T U _ tt (h .call .asks .ready) (clear-amount ld (envOf s T env) (methodAt s S i) (row-rest row) (no-value-next ld (row-first row))) (did s _ T d U (k .gives) f)
+        on = onward s S env T U _ tt (h .call .asks .ready) (off-amount ld (envOf s T env) (methodAt s S i) (row-rest row) (no-value-next ld (row-first row))) (did s _ T d U (k .gives) f)
 
         behind : at ≡ endAt S (suc i)
         behind = ea ∙ ap (endAt S) (add-one i)
@@ -357,7 +357,7 @@ module _ (s S : List ℕ) (env : Env) (T : Table) (field index wants left at : �
 
         module _ (f : d ≡ Fine) (m : ℕ) (em : m ≡ endAt S at) where
           on-keys : Onward s S env T U
-          on-keys = onward s S env T U _ _ (h .ready) (clear-type (h .ready .force .loaded) (envOf s T env) (row-first row-on) (h .no-value)) (gave s _ T a U k c e)
+          on-keys = onward s S env T U _ _ (h .ready) (off-type (h .ready .force .loaded) (envOf s T env) (row-first row-on) (h .no-value)) (gave s _ T a U k c e)
 
           pub keys-rest : AsksKeys s S env U field wants (left - 1) m
           keys-rest = record { ready = on-keys .ready; row = rw em (row-rest row-on); no-value = rw em (no-value-next (h .ready .force .loaded) (row-first row-on)); within = h .within; kind = h .kind; few = h .few }

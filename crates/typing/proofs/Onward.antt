@@ -29,11 +29,11 @@ use Rattle.rules.proofs.Standing.{stands, exprs-next}
 use Rattle.declared.proofs.Codes.{code-of}
 use Rattle.env.proofs.Lets.{lets-all}
 use Rattle.env.specs.Answers.{typedOf, Valid}
-use Rattle.env.specs.Force.{envOf, localOf, lets, NoValue, Ready}
+use Rattle.env.specs.Force.{envOf, localOf, lets, Ready}
 use Rattle.env.specs.declared.env.Env.{Env}
 use Rattle.env.specs.declared.judge.Typed.{Typed}
 use Rattle.env.specs.declared.judge.Typed.the-variants.{Is, Refused}
-use Rattle.typing.specs.Asks.{amountRule, answerMark}
+use Rattle.typing.specs.Asks.{amountRule, NoValue, answerMark}
 
 -- the mark of an answer is its code
 pub mark-code : (s : List ℕ) (a : Typed) → Valid a → codeR (typedOf s a) ≡ answerMark a
@@ -65,8 +65,8 @@ module _ {s S : List ℕ} (d : Loaded s S) {i : ℕ} (h : Here S grammar.Expr i)
 
 -- ------------------------------------------------------------ rules that ask no `let`'s value
 
-abbrev pub Clear : List ℕ → {A : Type 0} → Rule A → Type 0
-Clear S = Throughout (OfLine (NoValue S)) Any
+abbrev pub OffValues : List ℕ → {A : Type 0} → Rule A → Type 0
+OffValues S = Throughout (OfLine (NoValue S)) Any
 
 module _ {s S : List ℕ} (d : Loaded s S) (Γ : rules.Env) where
   fits-at : {i : ℕ} → Here S grammar.Expr i → NoValue S i → Fits (OfLine (NoValue S)) Any Γ (exprAt s i)
@@ -79,22 +79,22 @@ module _ {s S : List ℕ} (d : Loaded s S) (Γ : rules.Env) where
   fits-row stop a = tt
   fits-row {m = suc m} {i = i} (next h r) a = rw (exprs-next d m i (h .within)) (fits-at h a, fits-row r (no-value-next d h))
 
-  pub clear-type : {i : ℕ} → Here S grammar.Expr i → NoValue S i → Clear S (tyOf Γ (exprAt s i))
-  clear-type h a = c-tyOf (OfLine (NoValue S)) Any Γ _ (fits-at h a)
+  pub off-type : {i : ℕ} → Here S grammar.Expr i → NoValue S i → OffValues S (tyOf Γ (exprAt s i))
+  off-type h a = c-tyOf (OfLine (NoValue S)) Any Γ _ (fits-at h a)
 
   -- ... and a judgement of it that asks nothing
-  pub clear-judged : {i : ℕ} → Here S grammar.Expr i → NoValue S i → (b : Ty → Bool) (n at : ℕ) (ps : Ty → List Piece) → Clear S (tyOf Γ (exprAt s i) >>= λ t. expect (b t) n at (ps t))
-  clear-judged h a b n at ps = c-bind (OfLine (NoValue S)) Any _ _ (clear-type h a) (λ t. c-expect (OfLine (NoValue S)) Any (b t) n at (ps t))
+  pub off-judged : {i : ℕ} → Here S grammar.Expr i → NoValue S i → (b : Ty → Bool) (n at : ℕ) (ps : Ty → List Piece) → OffValues S (tyOf Γ (exprAt s i) >>= λ t. expect (b t) n at (ps t))
+  off-judged h a b n at ps = c-bind (OfLine (NoValue S)) Any _ _ (off-type h a) (λ t. c-expect (OfLine (NoValue S)) Any (b t) n at (ps t))
 
-  pub clear-each : {m i : ℕ} → Row S grammar.Expr m i → NoValue S i → Clear S (askEach (typings Γ (exprsAt s m i)))
-  clear-each r a = c-each (OfLine (NoValue S)) Any _ (c-typings (OfLine (NoValue S)) Any Γ _ (fits-row r a))
+  pub off-each : {m i : ℕ} → Row S grammar.Expr m i → NoValue S i → OffValues S (askEach (typings Γ (exprsAt s m i)))
+  off-each r a = c-each (OfLine (NoValue S)) Any _ (c-typings (OfLine (NoValue S)) Any Γ _ (fits-row r a))
 
-  pub clear-amount : (x : Name) {m i : ℕ} → Row S grammar.Expr m i → NoValue S i → Clear S (amountRule Γ x (exprsAt s m i))
+  pub off-amount : (x : Name) {m i : ℕ} → Row S grammar.Expr m i → NoValue S i → OffValues S (amountRule Γ x (exprsAt s m i))
   unfolding amountRule
-  clear-amount x r a = c-when (OfLine (NoValue S)) Any _ _ (c-amount (OfLine (NoValue S)) Any x _ (c-typings (OfLine (NoValue S)) Any Γ _ (fits-row r a)))
+  off-amount x r a = c-when (OfLine (NoValue S)) Any _ _ (c-amount (OfLine (NoValue S)) Any x _ (c-typings (OfLine (NoValue S)) Any Γ _ (fits-row r a)))
 
-clear-off : (S : List ℕ) {A : Type 0} (j : ℕ) (p : Rule A) → kindAt S j ≡ 16 → Clear S p → Off (suc j) p
-clear-off S j p k c = throughout-map (NoValue S) (λ l. suc j ≢ l) (λ l v e. v .before j e k) p c
+off-let : (S : List ℕ) {A : Type 0} (j : ℕ) (p : Rule A) → kindAt S j ≡ 16 → OffValues S p → Off (suc j) p
+off-let S j p k c = throughout-map (NoValue S) (λ l. suc j ≢ l) (λ l v e. v .before j e k) p c
 
 -- ------------------------------------------------------------ locals
 
@@ -119,8 +119,8 @@ onward-with s S env T U p a r e v =
     let l : length U ≡ length T = sym (ap (λ o. length (o .table)) e) ∙ kept-length p T in
     record { ready = record { force = r .force; room = omega (arith, l, r .room) }; same = rw (same-locals T U _ v) refl }
 
-pub onward : {A : Type 0} (s S : List ℕ) (env : Env) (T U : Table) (p : Rule A) (a : A) → Ready s S env T → Clear S p → kept p T ≡ record { res = ok a; table = U } → Onward s S env T U
+pub onward : {A : Type 0} (s S : List ℕ) (env : Env) (T U : Table) (p : Rule A) (a : A) → Ready s S env T → OffValues S p → kept p T ≡ record { res = ok a; table = U } → Onward s S env T U
 onward s S env T U p a r c e =
     let d = r .force .loaded in
     onward-with s S env T U p a r e
-    (lets-all d (SameValue T U) (λ j w k. rw (stands d j w .here) (sym (ap (λ o. getD (o .table) (suc j) 0) e) ∙ kept-off p T (suc j) (clear-off S j p k c))) (r .force .locals))
+    (lets-all d (SameValue T U) (λ j w k. rw (stands d j w .here) (sym (ap (λ o. getD (o .table) (suc j) 0) e) ∙ kept-off p T (suc j) (off-let S j p k c))) (r .force .locals))

@@ -28,7 +28,7 @@ use Rattle.env.specs.declared.judge.Typed.{Typed}
 use Rattle.env.specs.declared.judge.Typed.the-variants.{Is, Refused}
 use Rattle.typing.specs.Asks.{Asks, AsksAt, Types}
 use Rattle.typing.proofs.Asking.{types-length}
-use Rattle.typing.proofs.Onward.{Onward, onward, no-value-below, clear-type}
+use Rattle.typing.proofs.Onward.{Onward, onward, no-value-below, off-type}
 
 -- What an asking gave.
 module _ (s : List ℕ) (p : Rule Ty) (T : Table) (a : Typed) (U : Table) (k : Types s p T a U) where
@@ -91,7 +91,7 @@ module _ (s S : List ℕ) (env : Env) (T : Table) (i : ℕ) (h : AsksAt 29 s S e
 
     module _ (a : Typed) (U : Table) (k : Types s (tyOf (envOf s T env) (exprAt s (i + 1))) T a U) (c : ℕ) (e : a ≡ Is c) where
       on : Onward s S env T U
-      on = onward s S env T U _ _ (h .asks .ready) (rw (add-one i) (clear-type (h .asks .ready .force .loaded) (envOf s T env) (row-first (bin .1)) (no-value-below S i (omega (arith, h .kind))))) (gave s _ T a U k c e)
+      on = onward s S env T U _ _ (h .asks .ready) (rw (add-one i) (off-type (h .asks .ready .force .loaded) (envOf s T env) (row-first (bin .1)) (no-value-below S i (omega (arith, h .kind))))) (gave s _ T a U k c e)
 
       pub bin-right : Asks s S env U m
       bin-right = record { ready = on .ready; here = bin-operands .other .here }

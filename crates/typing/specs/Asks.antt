@@ -2,6 +2,7 @@
 use Prim.Native.Nat.{ℕ, suc, _/_, _<_, _≤_}
 use mathlib.Core.Bool.{true}
 use mathlib.Core.List.{List, [], _∷_}
+use mathlib.Core.Logic.{_≢_}
 use mathlib.Core.Path.{_≡_}
 use lib.Dec.{eqb}
 use lib.ListN.{length, getD, take, drop}
@@ -20,7 +21,7 @@ use Rattle.declared.specs.declared.refusal.Done.{Done}
 use Rattle.declared.specs.Codes.{IsCode}
 use Rattle.env.specs.Answers.{typedOf, Valid}
 use Rattle.env.specs.Calls.{KeyedOf}
-use Rattle.env.specs.Force.{envOf, NoValue, Ready}
+use Rattle.env.specs.Force.{envOf, Ready}
 use Rattle.env.specs.declared.env.Env.{Env as CodeEnv}
 use Rattle.env.specs.declared.judge.Typed.{Typed}
 use Rattle.env.specs.declared.judge.Typed.the-variants.{Is, Refused}
@@ -75,6 +76,10 @@ pub record AsksAt (k : ℕ) (s S : List ℕ) (env : CodeEnv) (T : Table) (i : �
 pub record AsksLeaf (s S : List ℕ) (env : CodeEnv) (T : Table) (i : ℕ) : Type 0 where
   pub asks : Asks s S env T i
   pub kind : kindAt S i < 28
+
+-- line i is no `let`'s value
+pub record NoValue (S : List ℕ) (i : ℕ) : Type 0 where
+  pub before : (j : ℕ) → suc j ≡ i → kindAt S j ≢ 16
 
 -- the types of m expressions are asked, the first of which stands at line i
 pub record AsksAll (s S : List ℕ) (env : CodeEnv) (T : Table) (m i : ℕ) : Type 0 where

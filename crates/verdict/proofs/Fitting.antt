@@ -13,20 +13,20 @@ use Rattle.rules.specs.Kept.{Table}
 use Rattle.rules.specs.Verdict.{longest, written, fitting, told, ruled, refusedSheet, judge, verdict}
 use Rattle.verdict.specs.Outcome.{answerOf, Outcome, outcome}
 
-told-whole : (most : ℕ) (r : Res Unit) (T : Table) → told most r T .length ≤ most → length (told most r T .message) ≡ told most r T .length
+told-in-full : (most : ℕ) (r : Res Unit) (T : Table) → told most r T .length ≤ most → length (told most r T .message) ≡ told most r T .length
 unfolding told fitting
-told-whole most (ok u) T h = refl
-told-whole most (refused r) T h = rw (le-leb _ most h) refl
+told-in-full most (ok u) T h = refl
+told-in-full most (refused r) T h = rw (le-leb _ most h) refl
 
 -- the message is written in full, where its length is at most what is lent
-pub whole : (s : List ℕ) (types scratch message : ℕ) → verdict s types scratch message .length ≤ message
+in-full : (s : List ℕ) (types scratch message : ℕ) → verdict s types scratch message .length ≤ message
     → length (verdict s types scratch message .message) ≡ verdict s types scratch message .length
 unfolding verdict judge ruled refusedSheet
-whole s types scratch message = go (load s types scratch)
+in-full s types scratch message = go (load s types scratch)
   where
     go : (o : Loaded) → judge message o .length ≤ message → length (judge message o .message) ≡ judge message o .length
     go (unread n i) h = refl
-    go (lines ls) h = told-whole message _ _ h
+    go (lines ls) h = told-in-full message _ _ h
 
 -- So, where 16,384 bytes are lent, the first bytes of the buffer are the message, as many as the answer says. The first two premises are
 -- what a call of `verdict` promises.
@@ -35,5 +35,5 @@ pub message-whole : (s S T M : List ℕ) (o : Outcome) → o ≡ outcome s S T M
     (length (a .message) ≡ o .answer .length) × (take (o .answer .length) (o .message) ≡ a .message)
 unfolding outcome answerOf written
 message-whole s S T M o e h g =
-    let w = whole s (length T) (length S) (length M) (omega (arith, h, g, ap (λ o. o .answer .length) e)) in
+    let w = in-full s (length T) (length S) (length M) (omega (arith, h, g, ap (λ o. o .answer .length) e)) in
     rw e (w, take-at _ _ _ w)
