@@ -228,10 +228,6 @@ all-none no-tree = refl
 pub all-first : {S : List ℕ} {n i j : ℕ} {t : Node} {ns : Nodes} → HeldAll S n i j (more t ns) → Held S n i t × HeldAll S n (endAt S i) j ns
 all-first (tree h r) = (h, r)
 
-pub held-line : {S : List ℕ} {n i j : ℕ} {l : Line} {ps : Nodes} → Held S n i (node j l ps)
-    → (j ≡ i) × (i < n) × Says S i l × HeldAll S n (suc i) (endAt S i) ps
-held-line (held h s r) = (refl, h, s, r)
-
 -- a tree ends in the first n lines
 mutual
   pub held-most : {S : List ℕ} {n i : ℕ} {t : Node} → Held S n i t → endAt S i ≤ n

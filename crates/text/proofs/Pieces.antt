@@ -21,15 +21,6 @@ module _ (p : ℕ → Bool) where
       go true h = refl
       go false h = ap (λ l. b ∷ l) h
 
-  pub upto-length : (l : List ℕ) → length (upto p l) ≤ length l
-  unfolding upto
-  upto-length [] = omega arith
-  upto-length (b ∷ bs) = go (p b) (upto-length bs)
-    where
-      go : (t : Bool) → length (upto p bs) ≤ length bs → length (cond t [] (b ∷ upto p bs)) ≤ suc (length bs)
-      go true h = omega arith
-      go false h = omega arith
-
   -- the pieces of b ∷ bs, where t says whether b ends one
   abbrev ended-at : List ℕ → ℕ → List ℕ → Bool → List (List ℕ)
   ended-at w b bs t = elim t [ true ↦ w ∷ ended p [] bs | false ↦ ended p (w ++ (b ∷ [])) bs ]
