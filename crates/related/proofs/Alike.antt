@@ -135,20 +135,20 @@ outcomes (a-left h) = text-left h
 outcomes (a-right h) = text-right h
 outcomes {S} (a-ask {l = l} {k = k} i h n) = asked-same S l k i _ _ (outcomes h) (λ t. outcomes (n t))
 
-abbrev pub SoundRes : {A : Type 0} → Res A → Type 0
-SoundRes (ok a) = Unit
-SoundRes (refused r) = FromTwelve r
+abbrev pub FromTwelveRes : {A : Type 0} → Res A → Type 0
+FromTwelveRes (ok a) = Unit
+FromTwelveRes (refused r) = FromTwelve r
 
-ended-sound : {A : Type 0} (l : ℕ) (as' : List Asking) (r : Res Ty) (f : Ty → Out A) → SoundRes r → ((t : Ty) → SoundRes (f t .res)) → SoundRes (ended l r as' f .res)
+ended-from-twelve : {A : Type 0} (l : ℕ) (as' : List Asking) (r : Res Ty) (f : Ty → Out A) → FromTwelveRes r → ((t : Ty) → FromTwelveRes (f t .res)) → FromTwelveRes (ended l r as' f .res)
 unfolding ended
-ended-sound l as' (ok t) f h k = k t
-ended-sound l as' (refused r) f h k = h
+ended-from-twelve l as' (ok t) f h k = k t
+ended-from-twelve l as' (refused r) f h k = h
 
--- where texts are not free, every refusal has a number of the rules
-pub sound : {S : Setting} {A : Type 0} {p q : Rule A} → (S .Free → ⊥) → Alike S p q → SoundRes (fresh p .res)
+-- where texts are not free, every refusal has a number from 12 on
+pub from-twelve : {S : Setting} {A : Type 0} {p q : Rule A} → (S .Free → ⊥) → Alike S p q → FromTwelveRes (fresh p .res)
 unfolding fresh
-sound n (a-ret a) = tt
-sound n (a-refuse r h) = h
-sound n (a-left h) = absurd (n (h .0))
-sound n (a-right h) = absurd (n (h .0))
-sound n (a-ask {l = l} {p = p} {f = f} i h k) = ended-sound l (fresh p .log) (fresh p .res) (λ t. fresh (f t)) (sound n h) (λ t. sound n (k t))
+from-twelve n (a-ret a) = tt
+from-twelve n (a-refuse r h) = h
+from-twelve n (a-left h) = absurd (n (h .0))
+from-twelve n (a-right h) = absurd (n (h .0))
+from-twelve n (a-ask {l = l} {p = p} {f = f} i h k) = ended-from-twelve l (fresh p .log) (fresh p .res) (λ t. fresh (f t)) (from-twelve n h) (λ t. from-twelve n (k t))

@@ -27,7 +27,7 @@ sheet (l ∷ ls) = l ++ (10 ∷ sheet ls)
 abbrev level : List ℕ → List ℕ
 level n = sheet (bytes "contract,1" ∷ bytes "state,1" ∷ bytes "field,10,level,1" ∷ bytes "type,11,u8,0" ∷ (bytes "int,17," ++ n) ∷ [])
 
--- 300 for 200, which a u8 cannot hold: 27
+-- 300 for 200
 other-text : (verdict (level (bytes "300")) 5 40 100 .number ≡ 0) ⊎ ((verdict (level (bytes "300")) 5 40 100 .number ≡ 27) ⊎ (verdict (level (bytes "300")) 5 40 100 .number ≡ 42))
 unfolding computed readLines
 other-text =
@@ -36,6 +36,11 @@ other-text =
     texts-verdict s z 5 40 100 5 40 100 (readLines (load s 5 40)) (readLines (load z 5 40)) refl refl
     (cons₂ same-bytes (cons₂ same-bytes (cons₂ same-bytes (cons₂ same-bytes (cons₂ (int-texts (bytes "17") (bytes "200") (bytes "300") refl refl) nil₂)))))
     refl
+
+-- a u8 cannot hold it
+number-other : verdict (level (bytes "300")) 5 40 100 .number ≡ 27
+unfolding computed
+number-other = refl
 
 abbrev head : List Line → Line
 head [] = record { kind = 0; at = 0; op = 0; spans = []; start = 0; name = []; parts = [] }

@@ -22,9 +22,9 @@ use Rattle.rules.specs.Check.{check}
 use Rattle.rules.proofs.Parts.{parts}
 use Rattle.related.proofs.Alike.{Setting}
 use Rattle.related.proofs.Compared.{renumbered, check-renumbered}
-use Rattle.related.proofs.Like.{Head, SameField, Like}
+use Rattle.related.proofs.Like.{Head, SameField, ExprLike}
 use Rattle.related.proofs.LikeCheck.{FieldLike}
-use Rattle.related.proofs.LikeEntries.{Idle, ClausesLike, c-nil, c-cons, c-skip, EntryLike}
+use Rattle.related.proofs.LikeEntries.{IdleClause, ClausesLike, c-nil, c-cons, c-skip, EntryLike}
 use Rattle.related.proofs.LikeStatements.{SameEvent, StmtLike}
 use Rattle.related.proofs.Sheets.{MovedTwin, MovedTwins}
 use Rattle.related.proofs.TwinExprs.{SettingTwin, nodes-twins, stmt-twin, clause-twin}
@@ -88,11 +88,11 @@ entry-is i l ps p =
 
 -- ------------------------------------------------------------ items in pairs
 
--- clauses, of which those of the first sheet may be idle
+-- clauses one by one, but for idle ones that only the first sheet has
 pub data Skips : Nodes → Nodes → Type 0 where
   s-nil : Skips nil nil
   s-twin : {t u : Node} {ns ms : Nodes} → MovedTwin t u → Skips ns ms → Skips (more t ns) (more u ms)
-  s-skip : {t : Node} {ns ms : Nodes} → Idle (clauseOf t) → Skips ns ms → Skips (more t ns) ms
+  s-skip : {t : Node} {ns ms : Nodes} → IdleClause (clauseOf t) → Skips ns ms → Skips (more t ns) ms
 
 -- entries with the same parameters and statements, and such clauses
 pub record EntryPair (l k : Line) (ps qs : Nodes) : Type 0 where
@@ -135,7 +135,7 @@ module _ (m n : Model) (same-field : (x : Name) → SameField (renumbered m n) x
   }
 
   like-pairs : {ns ms : Nodes} (k : ℕ) → FormedAll (times k grammar.Item) ns → Pairs ns ms
-      → Forall₂ (ItemBy (FieldLike S) (Like S) (StmtLike S) (EntryLike S)) (map itemOf (nodes ns)) (map itemOf (nodes ms))
+      → Forall₂ (ItemBy (FieldLike S) (ExprLike S) (StmtLike S) (EntryLike S)) (map itemOf (nodes ns)) (map itemOf (nodes ms))
   unfolding nodes times
   like-pairs zero none-due p-nil = nil₂
   like-pairs (suc k) (one-due f fs) (p-twin h r) = cons₂ (item-like f (named-twin h)) (like-pairs k fs r)

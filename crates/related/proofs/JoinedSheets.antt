@@ -1,5 +1,5 @@
--- Request 14: two sheets that are accepted, no line of one naming a state field or event of the other (`Foreign`), and one with a
--- `contract` line and the lines of both behind it. Assumes nothing.
+-- Request 14: two sheets that are accepted, the lines of each foreign to the other (`Foreign`), and one with a `contract` line and the
+-- lines of both behind it. Assumes nothing.
 use mathlib.Core.Path.{_≡_, sym, ap, _∙_}
 use mathlib.Core.Logic.{_⊎_, inl, inr}
 use mathlib.Core.List.{List, _∷_, _++_, Forall₂, Forall₂·nil as nil₂, Forall₂·cons as cons₂}
@@ -114,9 +114,9 @@ module _ {M N A B : Model} (p : Half N M A) (q : Half M N B) where
       go nil₂ = tt
       go (cons₂ {a = f} h r) = (rw (← h .head .name) (none-there (f .name) (h .foreign)), go r)
 
-  apart : (x : Name) → isKeyed M x ≡ true → isKeyed N x ≡ true → ⊥
+  disjoint : (x : Name) → isKeyed M x ≡ true → isKeyed N x ≡ true → ⊥
   unfolding fieldNamed
-  apart x h k = go (found (λ x. fieldNamed N x ≡ none) x (M .fields) (foreign (p .heads .fields)))
+  disjoint x h k = go (found (λ x. fieldNamed N x ≡ none) x (M .fields) (foreign (p .heads .fields)))
     where
       foreign : {fs gs : List Field} → Forall₂ (HeadForeign N) fs gs → All (λ f. fieldNamed N (f .name) ≡ none) fs
       foreign nil₂ = tt
@@ -127,7 +127,7 @@ module _ {M N A B : Model} (p : Half N M A) (q : Half M N B) where
       go (inr e) = let z : _≡_ {A = ℕ} 0 1 = cc (keyed-none N x e, k) in omega arith
 
   joined-passes : Passes (check M) → Passes (check N) → Passes (check J)
-  joined-passes = check-joined M N A B part₁ part₂ last apart
+  joined-passes = check-joined M N A B part₁ part₂ last disjoint
 
 -- ------------------------------------------------------------ the sheets
 
@@ -137,7 +137,7 @@ module _ (s₁ s₂ s : List ℕ) (types₁ scratch₁ message₁ types₂ scrat
     (lines₁ : linesOf s₁ ≡ l₁ ∷ L₁) (lines₂ : linesOf s₂ ≡ l₂ ∷ L₂) (all : linesOf s ≡ l ∷ (L₁ ++ L₂))
     (read₁ : load s₁ types₁ scratch₁ ≡ lines (c₁ ∷ r₁)) (read₂ : load s₂ types₂ scratch₂ ≡ lines (c₂ ∷ r₂))
     (not-early : early s types scratch ≡ 0) (first : readLine grammar.Contract 0 l ≡ good c) (count : sorts (c .parts) ≡ sorts (c₁ .parts) ++ sorts (c₂ .parts)) where
-  -- where both are accepted, and the names of one are no state or event names of the other, it is accepted
+  -- where both are accepted, and the lines of each are foreign to the other, it is accepted
   pub joined-number : All (Foreign (modelOf (c₂ ∷ r₂))) r₁ → All (Foreign (modelOf (c₁ ∷ r₁))) r₂
       → verdict s₁ types₁ scratch₁ message₁ .number ≡ 0 → verdict s₂ types₂ scratch₂ message₂ .number ≡ 0 → verdict s types scratch message .number ≡ 0
   joined-number f g h k =

@@ -19,7 +19,7 @@ use Rattle.rules.specs.Model.{Model, itemModel, joined, build, fieldNamed, even
 use Rattle.rules.proofs.All.{All}
 use Rattle.rules.proofs.Parts.{Each as Numbers, stop, _also_, pick, parts}
 use Rattle.related.proofs.Alike.{Setting, settingOf}
-use Rattle.related.proofs.Like.{Head, SameField, Like, last-like}
+use Rattle.related.proofs.Like.{Head, SameField, ExprLike, last-like}
 use Rattle.related.proofs.LikeStatements.{SameEvent, StmtLike}
 use Rattle.related.proofs.LikeEntries.{each-clauses, EntryLike}
 use Rattle.related.proofs.LikeCheck.{FieldLike, ModelBy, PartLike, ModelLike}
@@ -222,12 +222,12 @@ module _ {S : Setting} where
         body = map₂ stmtOf stmtOf (λ t u h. stmt-twin h) (drop₂ (m .0 + m .1 .0) (nodes-twins r));
       })
 
-  pub item-like : {t u : Node} → Formed grammar.Item t → SettingTwin S t u → ItemBy (FieldLike S) (Like S) (StmtLike S) (EntryLike S) (itemOf t) (itemOf u)
-  item-like = item-twin (λ l k q. q .same) (FieldLike S) (Like S) (StmtLike S) (EntryLike S) field-twin (λ ns ms q. at-twin 0 q) (λ t u q. stmt-twin q) entry-twin
+  pub item-like : {t u : Node} → Formed grammar.Item t → SettingTwin S t u → ItemBy (FieldLike S) (ExprLike S) (StmtLike S) (EntryLike S) (itemOf t) (itemOf u)
+  item-like = item-twin (λ l k q. q .same) (FieldLike S) (ExprLike S) (StmtLike S) (EntryLike S) field-twin (λ ns ms q. at-twin 0 q) (λ t u q. stmt-twin q) entry-twin
 
   pub part-of : {ns ms : Nodes} (n : ℕ) → FormedAll (times n grammar.Item) ns → Twins (S .Lines) (SameNamed S) ns ms → PartLike S (itemsOf ns) (itemsOf ms)
   part-of n f h =
-      build-by (items-by (λ l k q. q .same) (FieldLike S) (Like S) (StmtLike S) (EntryLike S) field-twin (λ ns ms q. at-twin 0 q) (λ t u q. stmt-twin q) entry-twin n f h)
+      build-by (items-by (λ l k q. q .same) (FieldLike S) (ExprLike S) (StmtLike S) (EntryLike S) field-twin (λ ns ms q. at-twin 0 q) (λ t u q. stmt-twin q) entry-twin n f h)
 
 -- the parts of a contract are its items
 pub contract-parts : {i : ℕ} {l : Line} {ps : Nodes} → Formed grammar.Contract (node i l ps) → (n : ℕ) × FormedAll (times n grammar.Item) ps

@@ -16,7 +16,7 @@ use Rattle.text.specs.declared.field.Number.the-variants.{Is, Bad}
 use Rattle.grammar.specs.Grammar.{Sort, Contract, Item, Field, Param, Ty, Arg, Clause, Stmt, Expr, Rule, span, name, text, assignOp, unOp, binOp, count, flag, rowOf, none, kindFor}
 use Rattle.sheet.specs.Line.{Line, begun, withSpan, withOp, withName, withParts, when, onNumber, readField, andThen, readFields, Read, good, bad, orTen, readAs, fieldsOf, readPieces, readLine}
 use Rattle.sheet.specs.Load.{Loaded, lines, sorts, due, judged, scan}
-use Rattle.sheet.specs.Same.{SameRecord, SameLine, TextApart, LineApart, same-bytes, int-texts}
+use Rattle.sheet.specs.Same.{SameRecord, SameLine, SameButText, LineSameButText, same-bytes, int-texts}
 use Rattle.sheet.proofs.Holds.{judged-lines}
 use Rattle.sheet.proofs.Paired.{Opt, o-none, o-some}
 
@@ -173,8 +173,8 @@ int-says Expr at sp t x e = go (numberOf 4294967295 sp) (isText t) e
     go (Is n) false e = absurd (let z : _≡_ {A = ℕ} 0 1 = cc in omega arith)
     go Bad b e = absurd (let z : _≡_ {A = ℕ} 0 1 = cc in omega arith)
 
-ints-apart : {v : Number} {x y : Line} → SaysInt v x → SaysInt v y → TextApart x y
-ints-apart h k =
+ints-but-text : {v : Number} {x y : Line} → SaysInt v x → SaysInt v y → SameButText x y
+ints-but-text h k =
     let p : h .spans .0 ≡ k .spans .0 = cc (h .spans .1, k .spans .1) in
     record {
       kind = h .kind ∙ sym (k .kind);
@@ -184,19 +184,19 @@ ints-apart h k =
       name = inr (tt, h .kind);
     }
 
-read-apart : {l k : List ℕ} {x y : Line} (s : Sort) (at to : ℕ) → LineApart l k → readLine s at l ≡ good x → readLine s to k ≡ good y → TextApart x y
+read-but-text : {l k : List ℕ} {x y : Line} (s : Sort) (at to : ℕ) → LineSameButText l k → readLine s at l ≡ good x → readLine s to k ≡ good y → SameButText x y
 unfolding readLine
-read-apart {l} {y = y} s at to same-bytes e f = let g = good-same {X = Unit} (line-same s at to l) e in let q : g .0 ≡ y = cc (g .1, f) in rw q at (g .2)
-read-apart {x = x} {y = y} s at to (int-texts sp t u p q) e f = ints-apart (int-says s at sp t x (rw p at e)) (int-says s to sp u y (rw q at f))
+read-but-text {l} {y = y} s at to same-bytes e f = let g = good-same {X = Unit} (line-same s at to l) e in let q : g .0 ≡ y = cc (g .1, f) in rw q at (g .2)
+read-but-text {x = x} {y = y} s at to (int-texts sp t u p q) e f = ints-but-text (int-says s at sp t x (rw p at e)) (int-says s to sp u y (rw q at f))
 
-pub scan-apart : (L K : List (List ℕ)) → Forall₂ LineApart L K → (ds : List (ℕ × Sort)) (i at j to : ℕ) (xs ys : List Line)
-    → scan i at ds L ≡ lines xs → scan j to ds K ≡ lines ys → Forall₂ TextApart xs ys
+pub scan-but-text : (L K : List (List ℕ)) → Forall₂ LineSameButText L K → (ds : List (ℕ × Sort)) (i at j to : ℕ) (xs ys : List Line)
+    → scan i at ds L ≡ lines xs → scan j to ds K ≡ lines ys → Forall₂ SameButText xs ys
 unfolding scan
-scan-apart L K nil₂ [] i at j to xs ys e f = let p : xs ≡ [] = cc in let q : ys ≡ [] = cc in rw (p, q) nil₂
-scan-apart L K nil₂ (d ∷ ds) i at j to xs ys e f = absurd (let z : _≡_ {A = ℕ} 0 1 = cc e in omega arith)
-scan-apart L K (cons₂ h r) [] i at j to xs ys e f = absurd (let z : _≡_ {A = ℕ} 0 1 = cc e in omega arith)
-scan-apart L K (cons₂ {l₁ = L'} {l₂ = K'} h r) (d ∷ ds) i at j to xs ys e f =
+scan-but-text L K nil₂ [] i at j to xs ys e f = let p : xs ≡ [] = cc in let q : ys ≡ [] = cc in rw (p, q) nil₂
+scan-but-text L K nil₂ (d ∷ ds) i at j to xs ys e f = absurd (let z : _≡_ {A = ℕ} 0 1 = cc e in omega arith)
+scan-but-text L K (cons₂ h r) [] i at j to xs ys e f = absurd (let z : _≡_ {A = ℕ} 0 1 = cc e in omega arith)
+scan-but-text L K (cons₂ {l₁ = L'} {l₂ = K'} h r) (d ∷ ds) i at j to xs ys e f =
     let p = judged-lines _ _ i _ xs e in
     let q = judged-lines _ _ j _ ys f in
-    let a = read-apart (d .1) at to h (p .2) (q .2) in
-    rw (p .4, q .4) (cons₂ a (scan-apart L' K' r (due (suc (d .0)) (sorts (q .0 .parts)) ++ ds) _ _ _ _ (p .1) (q .1) (rw (a .parts) at (p .3)) (q .3)))
+    let a = read-but-text (d .1) at to h (p .2) (q .2) in
+    rw (p .4, q .4) (cons₂ a (scan-but-text L' K' r (due (suc (d .0)) (sorts (q .0 .parts)) ++ ds) _ _ _ _ (p .1) (q .1) (rw (a .parts) at (p .3)) (q .3)))
