@@ -18,7 +18,7 @@ use Rattle.related.proofs.Alike.{FromTwelveRes, from-twelve}
 use Rattle.related.proofs.LikeCheck.{a-check}
 use Rattle.related.proofs.Sheets.{lines-like}
 
-itself : {X : Type 0} (ls : List Line) → Forall₂ (SameRecord X) ls ls
+itself : {Free : Type 0} (ls : List Line) → Forall₂ (SameRecord Free) ls ls
 itself [] = nil₂
 itself (l ∷ ls) = cons₂ (record { kind = refl; op = refl; spans = refl; parts = refl; name = inl refl }) (itself ls)
 
@@ -26,7 +26,7 @@ itself (l ∷ ls) = cons₂ (record { kind = refl; op = refl; spans = refl; part
 module _ (s : List ℕ) (types scratch message : ℕ) (ls : List Line) (read : load s types scratch ≡ lines ls) where
   -- the rules are alike on it and on itself, so every refusal has a number from 12 on
   pub rules-from-twelve : FromTwelveRes (fresh (check (modelOf ls)) .res)
-  rules-from-twelve = from-twelve (λ x. x) (a-check (lines-like (λ i j. Unit) (λ l. tt) (λ i j h. tt) ⊥ s types scratch ls ls read (itself ls)))
+  rules-from-twelve = from-twelve (λ x. x) (a-check (lines-like (λ i j. Unit) tt (λ i j h. tt) ⊥ s types scratch ls ls read (itself ls)))
 
   by-result : (r : Res Unit) → fresh (check (modelOf ls)) .res ≡ r → FromTwelveRes r → verdict s types scratch message .number ≡ 0 → fresh (check (modelOf ls)) .res ≡ ok tt
   unfolding verdict judge ruled told

@@ -15,12 +15,12 @@ pub record Setting : Type 1 where
   pub left : Model
   pub right : Model
   pub Lines : ℕ → ℕ → Type 0
-  pub line-itself : (l : ℕ) → Lines l l
+  pub line-zero : Lines 0 0
   pub Free : Type 0
 
 -- the setting of two models
-abbrev pub settingOf : (L : ℕ → ℕ → Type 0) → ((l : ℕ) → L l l) → Type 0 → Model → Model → Setting
-settingOf L same X m n = record { left = m; right = n; Lines = L; line-itself = same; Free = X }
+abbrev pub settingOf : (L : ℕ → ℕ → Type 0) → L 0 0 → Type 0 → Model → Model → Setting
+settingOf L z Free m n = record { left = m; right = n; Lines = L; line-zero = z; Free = Free }
 
 -- a refusal for the text of a literal, where texts are free
 abbrev pub ByText : Setting → Refusal → Type 0

@@ -1,15 +1,17 @@
 -- Sheets of a few lines that meet the premises of `texts-verdict`, `all-but-one` and `joined-number`. Assumes nothing.
-use mathlib.Core.Path.{_≡_, refl}
+use mathlib.Core.Path.{_≡_, refl, ap, _∙_}
 use mathlib.Core.Logic.{_⊎_, inl}
 use mathlib.Core.List.{List, [], _∷_, _++_, Forall₂·nil as nil₂, Forall₂·cons as cons₂}
 use mathlib.Core.Option.{none}
 use Prim.Native.Nat.{ℕ}
 use lib.ListN.{take, drop}
-use Rattle.text.specs.Text.{bytes}
+use Rattle.text.specs.Text.{bytes, either}
+use Rattle.text.proofs.Pieces.{ended-append}
 use Rattle.sheet.specs.Line.{Line}
-use Rattle.sheet.specs.Load.{load}
+use Rattle.sheet.specs.Load.{linesOf, load}
 use Rattle.sheet.specs.Held.{done, next}
 use Rattle.sheet.specs.Same.{same-bytes, int-texts}
+use Rattle.sheet.specs.Joined.{Reads, Joins}
 use Rattle.rules.specs.Model.{Model, fieldNamed, eventNamed}
 use Rattle.rules.specs.Standing.{readLines}
 use Rattle.rules.specs.Computed.{computed}
@@ -80,17 +82,29 @@ second-lines = bytes "invariant" ∷ bytes "bin,1,eq" ∷ bytes "id,2,y" ∷ byt
 no-name : {n : Model} {l : Line} → fieldNamed n (l .name) ≡ none → eventNamed n (l .name) ≡ none → Foreign n l
 no-name e f = record { field = λ _. e; event = λ _. f }
 
+-- a first line, and the bytes of both
+abbrev both-bytes : List ℕ
+both-bytes = sheet (bytes "contract,2" ∷ []) ++ (sheet first-lines ++ sheet second-lines)
+
+both-lines : linesOf both-bytes ≡ bytes "contract,2" ∷ (first-lines ++ second-lines)
+unfolding computed
+both-lines =
+    ended-append (either 10 10) [] (sheet (bytes "contract,2" ∷ [])) (sheet first-lines ++ sheet second-lines) tt
+    ∙ ap (λ ls. bytes "contract,2" ∷ ls) (ended-append (either 10 10) [] (sheet first-lines) (sheet second-lines) tt)
+
 -- a state and an invariant in one sheet
-two-in-one : verdict (sheet (bytes "contract,2" ∷ (first-lines ++ second-lines))) 8 64 100 .number ≡ 0
+two-in-one : verdict both-bytes 8 64 100 .number ≡ 0
 unfolding computed readLines
 two-in-one =
     let c = bytes "contract,1" in
     let s₁ = sheet (c ∷ first-lines) in
     let s₂ = sheet (c ∷ second-lines) in
-    let s = sheet (bytes "contract,2" ∷ (first-lines ++ second-lines)) in
     let x = readLines (load s₁ 4 32) in
     let y = readLines (load s₂ 5 40) in
-    joined-number s₁ s₂ s 4 32 100 5 40 100 8 64 100 c c (bytes "contract,2") first-lines second-lines (head x) (head y) (head (readLines (load s 8 64))) (drop 1 x) (drop 1 y) refl refl refl refl refl refl refl refl
+    let one : Reads s₁ 4 32 c first-lines (head x) (drop 1 x) = record { all = refl; read = refl } in
+    let two : Reads s₂ 5 40 c second-lines (head y) (drop 1 y) = record { all = refl; read = refl } in
+    let both : Joins (head x) (head y) (first-lines ++ second-lines) both-bytes 8 64 (bytes "contract,2") (head (readLines (load both-bytes 8 64))) = record { all = both-lines; not-early = refl; first = refl; count = refl } in
+    joined-number one two both 100 100 100
     (no-name refl refl, (no-name refl refl, (no-name refl refl, tt)))
     (no-name refl refl, (no-name refl refl, (no-name refl refl, (no-name refl refl, tt))))
     refl refl

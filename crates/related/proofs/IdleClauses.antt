@@ -8,11 +8,10 @@ use lib.Seq.{drop-drop}
 use Rattle.grammar.specs.Grammar as grammar
 use Rattle.sheet.specs.Line.{Line}
 use Rattle.sheet.specs.Load.{times, sorts}
-use Rattle.sheet.specs.Tree.{Node, node, Nodes, nil, more, before}
+use Rattle.sheet.specs.Tree.{Node, node, Nodes, nil, more, before, treeCount}
 use Rattle.sheet.specs.Held.{Formed, formed, FormedAll, none-due, one-due}
-use Rattle.sheet.proofs.Holds.{count}
 use Rattle.sheet.proofs.Paired.{map₂}
-use Rattle.sheet.proofs.Twins.{twin-map}
+use Rattle.sheet.proofs.Twins.{twin-map, MovedTwin, MovedTwins}
 use Rattle.sheet.proofs.Trees.{all-formed, first-formed}
 use Rattle.rules.specs.Text.{Name}
 use Rattle.rules.specs.Ast.{Entry, entry, nodes, paramOf, clauseOf, stmtOf, itemOf}
@@ -26,7 +25,6 @@ use Rattle.related.proofs.Like.{Head, SameField, ExprLike}
 use Rattle.related.proofs.LikeCheck.{FieldLike}
 use Rattle.related.proofs.LikeEntries.{IdleClause, ClausesLike, c-nil, c-cons, c-skip, EntryLike}
 use Rattle.related.proofs.LikeStatements.{SameEvent, StmtLike}
-use Rattle.related.proofs.Sheets.{MovedTwin, MovedTwins}
 use Rattle.related.proofs.TwinExprs.{SettingTwin, nodes-twins, stmt-twin, clause-twin}
 use Rattle.related.proofs.TwinItems.{head-same, all-params, ItemBy, entry~, build-by, itemsOf, ItemHeads, item-heads, every-field, every-event, all-named, item-like}
 
@@ -38,9 +36,9 @@ pub record EntryTrees (l : Line) (ps : Nodes) : Type 0 where
   pub clauses : Nodes
   pub body : Nodes
   pub all : ps ≡ before params (before clauses body)
-  pub counts : l .parts ≡ (count params, grammar.Param) ∷ (count clauses, grammar.Clause) ∷ (count body, grammar.Stmt) ∷ []
+  pub counts : l .parts ≡ (treeCount params, grammar.Param) ∷ (treeCount clauses, grammar.Clause) ∷ (treeCount body, grammar.Stmt) ∷ []
   pub kind : l .kind ≡ 5
-  pub formed : FormedAll (times (count params) grammar.Param) params
+  pub formed : FormedAll (times (treeCount params) grammar.Param) params
 
 three : {a b c x y z : ℕ} → a ≡ x → b ≡ y → c ≡ z
     → _≡_ {A = List (ℕ × grammar.Sort)} ((a, grammar.Param) ∷ (b, grammar.Clause) ∷ (c, grammar.Stmt) ∷ []) ((x, grammar.Param) ∷ (y, grammar.Clause) ∷ (z, grammar.Stmt) ∷ [])
@@ -63,12 +61,12 @@ entry-parts (formed {l = l} a p fs) e =
       formed = u .4;
     }
 
-take-nodes : (a b : Nodes) → take (count a) (nodes (before a b)) ≡ nodes a
+take-nodes : (a b : Nodes) → take (treeCount a) (nodes (before a b)) ≡ nodes a
 unfolding nodes before
 take-nodes nil b = refl
 take-nodes (more t a) b = ap (λ ns. t ∷ ns) (take-nodes a b)
 
-drop-nodes : (a b : Nodes) → drop (count a) (nodes (before a b)) ≡ nodes b
+drop-nodes : (a b : Nodes) → drop (treeCount a) (nodes (before a b)) ≡ nodes b
 unfolding nodes before
 drop-nodes nil b = refl
 drop-nodes (more t a) b = drop-nodes a b
@@ -84,7 +82,7 @@ entry-is i l ps p =
     let a = p .params in
     let c = p .clauses in
     let b = p .body in
-    rw (z, p .counts, p .all, ← drop-drop (count c) (count a) (nodes (before a (before c b))), take-nodes a (before c b), drop-nodes a (before c b), take-nodes c b, drop-nodes c b)
+    rw (z, p .counts, p .all, ← drop-drop (treeCount c) (treeCount a) (nodes (before a (before c b))), take-nodes a (before c b), drop-nodes a (before c b), take-nodes c b, drop-nodes c b)
 
 -- ------------------------------------------------------------ items in pairs
 

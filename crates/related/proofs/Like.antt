@@ -7,7 +7,7 @@ use mathlib.Core.Option.{Option, none, some}
 use Prim.Native.Nat.{ℕ}
 use Prim.Native.String.{String}
 use Rattle.text.specs.Text.{same}
-use Rattle.sheet.proofs.Paired.{Opt, o-none, o-some}
+use Rattle.sheet.proofs.Paired.{Opt, o-none, o-some, opt-either}
 use Rattle.rules.specs.Text.{Name, lastNamed}
 use Rattle.rules.specs.Ast.{UnaryOp, BinOp, Leaf, int, id, Wrap, Expr, leaf, unary, binary, field, call, wrap, Exprs, nil, more, Field, span, line, leafOf, list}
 use Rattle.rules.specs.Asking.{Ty}
@@ -157,12 +157,8 @@ unfolding lastNamed
 last-like f g n x nil₂ = o-none
 last-like {R = R} f g n x (cons₂ {a = a} {b = b} h k) = go (last-like f g n x k) (alike (ap (same x) (n a b h)))
   where
-    here : (t : Bool) → Opt R (elim t [ true ↦ some a | false ↦ none ]) (elim t [ true ↦ some b | false ↦ none ])
-    here true = o-some h
-    here false = o-none
-
     alike : {t u : Bool} → t ≡ u → Opt R (elim t [ true ↦ some a | false ↦ none ]) (elim u [ true ↦ some b | false ↦ none ])
-    alike {u = u} e = rw e (here u)
+    alike {u = u} e = rw e (opt-either u (o-some h) o-none)
 
     go : {o u : Option _} {p q : Option _} → Opt R o u → Opt R p q → Opt R (elim o [ some b ↦ some b | none ↦ p ]) (elim u [ some b ↦ some b | none ↦ q ])
     go o-none q = q

@@ -93,7 +93,7 @@ module _ {S : Setting} where
   a-made-up : {Γ Δ : Env} {f g : Field} → SameEnv S Γ Δ → FieldLike S f g → AskedLike S (madeUp Γ f) (madeUp Δ g)
   unfolding madeUp
   a-made-up {f = f} e h = record {
-    expr = rw (h .nspan, ← h .head .name) (leaf~ (S .line-itself 0) (id-like (f .name) (h .same-field)));
+    expr = rw (h .nspan, ← h .head .name) (leaf~ (S .line-zero) (id-like (f .name) (h .same-field)));
     ty = rw (← h .head .name, name-like e (f .name) (h .same-field)) (a-ret _);
   }
 

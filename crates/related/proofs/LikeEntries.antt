@@ -4,7 +4,7 @@ use mathlib.Core.List.{List, [], _∷_, _++_, map, Forall₂, Forall₂·nil as 
 use mathlib.Core.Bool.{Bool, true, false, not, _&&_, _||_}
 use mathlib.Core.Option.{Option, none, some, Option·map}
 use Rattle.text.specs.Text.{same}
-use Rattle.sheet.proofs.Paired.{Opt, o-none, o-some, append₂}
+use Rattle.sheet.proofs.Paired.{Opt, o-none, o-some, opt-either, append₂}
 use Rattle.rules.specs.Text.{Name, is, isOne, among}
 use Rattle.rules.specs.Ast.{Add, AssignOp, Set, AddTo, SubFrom, Leaf, Expr, Exprs, Param, Clause, limits, denies, mints, after, Entry, Stmt, span, typeName}
 use Rattle.rules.specs.Asking.{Ty, Rule, ret, _>>=_, forEach}
@@ -74,14 +74,6 @@ idle-cap x c idle = refl
 idle-mints : (c : Clause) → IdleClause c → isMints c ≡ false
 unfolding isMints
 idle-mints c idle = refl
-
-unless-like : {A B : Type 0} {R : A → B → Type 0} {o : Option A} {u : Option B} (b : Bool) → Opt R o u → Opt R (elim b [ true ↦ o | false ↦ none ]) (elim b [ true ↦ u | false ↦ none ])
-unless-like true h = h
-unless-like false h = o-none
-
-unless-not : {A B : Type 0} {R : A → B → Type 0} {o : Option A} {u : Option B} (b : Bool) → Opt R o u → Opt R (elim b [ true ↦ none | false ↦ o ]) (elim b [ true ↦ none | false ↦ u ])
-unless-not true h = o-none
-unless-not false h = h
 
 module _ {S : Setting} where
   -- ------------------------------------------------------------ terms
@@ -218,7 +210,7 @@ module _ {S : Setting} where
 
   addends-like : {t u v w : Expr} (o : AssignOp) → ExprLike S t u → ExprLike S v w → Opt (Forall₂ (ExprLike S)) (addends o t v) (addends o u w)
   unfolding addends
-  addends-like {w = w} Set h k = rw (addends, sum-like k) (unless-like (isSum w) (without-like h (terms-like k)))
+  addends-like {w = w} Set h k = rw (addends, sum-like k) (opt-either (isSum w) (without-like h (terms-like k)) o-none)
   addends-like AddTo h k = o-some (terms-like k)
   addends-like SubFrom h k = o-none
 
@@ -239,7 +231,7 @@ module _ {S : Setting} where
   a-sum ps q (bind~ h) = a-ret tt
   a-sum ps q (emit~ k h) = a-ret tt
   a-sum {a} {b} ps q (assign~ {o = o} {w = w} h k) =
-      a-some (rw (acknowledged-like k) (unless-not (acknowledged w) (addends-like o h k)))
+      a-some (rw (acknowledged-like k) (opt-either (acknowledged w) o-none (addends-like o h k)))
       (λ es fs r.
       let n : any (λ t. not (bounded a t)) es ≡ any (λ t. not (bounded b t)) fs = any-like _ _ (λ e f n. ap not (bounded-like q n)) r in
       rw n (a-maybe (ident-same h) (λ x. rw (bound-like x q) (a-same (search pure)))))

@@ -32,7 +32,7 @@ module _ (s z : List ℕ) (types scratch message types' scratch' message' : ℕ)
       scan-but-text (linesOf s) (linesOf z) but-text ((0, Contract) ∷ []) 1 0 1 0 ls ks (loaded-whole s types scratch ls read .1) (loaded-whole z types' scratch' ks also-read .1)
 
   models : ModelLike (texts (modelOf ls) (modelOf ks))
-  models = lines-like (λ l k. l ≡ k) (λ l. refl) (λ i j. ap suc) Unit s types scratch ls ks read records-but-text
+  models = lines-like (λ l k. l ≡ k) refl (λ i j. ap suc) Unit s types scratch ls ks read records-but-text
 
   -- both accepted: the same type table and count
   pub texts-tables : first .number ≡ 0 → second .number ≡ 0 → (first .types ≡ second .types) × (first .count ≡ second .count)

@@ -16,7 +16,7 @@ use Rattle.sheet.specs.Same.{SameRecord}
 use Rattle.sheet.proofs.Paired.{Opt, take₂, drop₂, at₂, map₂, opt-map}
 use Rattle.sheet.proofs.Twins.{Twin, twin, Twins, no-twin, and-twin}
 use Rattle.rules.specs.Text.{Name}
-use Rattle.rules.specs.Ast.{Leaf, int, date, str, caller, native, inasset, now, Expr, leaf, Exprs, nil, more, spanOf, exprKinds, exprOf, exprsOf, nodes, blankNode, clauseOf, stmtOf}
+use Rattle.rules.specs.Ast.{Leaf, int, date, str, caller, native, inasset, now, Expr, leaf, Exprs, spanOf, first, rest, exprKinds, exprOf, exprsOf, nodes, blankNode, clauseOf, stmtOf}
 use Rattle.rules.specs.Typing.{identLeaf}
 use Rattle.rules.proofs.Parts.{Each as Numbers, stop, _also_, pick}
 use Rattle.related.proofs.Alike.{Setting}
@@ -51,17 +51,9 @@ same-name {Free} {l} {k} h f = go (h .name)
 plain : {S : Setting} (k : Leaf) → identLeaf k ≡ none → LeafLike S k k
 plain {S} k e = l-same {k = k} (λ x q. absurd (let z : _≡_ {A = ℕ} 0 1 = cc (e, q) in omega arith))
 
-abbrev first : Exprs → Expr
-first nil = leaf 0 0 now
-first (more e es) = e
-
-abbrev rest : Exprs → Exprs
-rest nil = nil
-rest (more e es) = es
-
 first-like : {S : Setting} {es fs : Exprs} → ExprsLike S es fs → ExprLike S (first es) (first fs)
 unfolding identLeaf
-first-like {S} nil~ = leaf~ (S .line-itself 0) (plain now refl)
+first-like {S} nil~ = leaf~ (S .line-zero) (plain now refl)
 first-like (more~ h k) = h
 
 rest-like : {S : Setting} {es fs : Exprs} → ExprsLike S es fs → ExprsLike S (rest es) (rest fs)
@@ -126,7 +118,7 @@ module _ {S : Setting} where
 
   pub at-twin : {ns ms : List Node} (n : ℕ) → Forall₂ (SettingTwin S) ns ms → ExprLike S (exprOf (getD ns n blankNode)) (exprOf (getD ms n blankNode))
   unfolding exprOf identLeaf
-  at-twin n nil₂ = leaf~ (S .line-itself 0) (plain (int []) refl)
+  at-twin n nil₂ = leaf~ (S .line-zero) (plain (int []) refl)
   at-twin zero (cons₂ h k) = expr-twin h
   at-twin (suc n) (cons₂ h k) = at-twin n k
 
@@ -143,7 +135,7 @@ module _ (S : Setting) (i j : ℕ) (n : S .Lines i j) (l k : Line) (h : SameName
   stmt-made (suc (suc zero)) e f = rw (e, f, ← same-name (h .same) (λ q. omega arith)) (emit~ (h .event (omega arith)) (map₂ exprOf exprOf (λ t u q. expr-twin q) r))
   stmt-made (suc (suc (suc zero))) e f = rw (e, f, h .same .spans, h .same .op) (assign~ (at-twin 0 r) (at-twin 1 r))
   stmt-made (suc (suc (suc (suc zero)))) e f = rw (e, f) (do~ (at-twin 0 r))
-  stmt-made (suc (suc (suc (suc (suc d))))) e f = rw (e, f) (do~ (leaf~ (S .line-itself 0) (plain now refl)))
+  stmt-made (suc (suc (suc (suc (suc d))))) e f = rw (e, f) (do~ (leaf~ (S .line-zero) (plain now refl)))
 
   clause-made : (d : ℕ) → l .kind - 11 ≡ d → k .kind - 11 ≡ d → ClauseLike S (clauseOf (node i l ps)) (clauseOf (node j k qs))
   unfolding clauseOf
