@@ -1,5 +1,5 @@
--- Sheets of a few lines that meet the premises of `texts-verdict`, `all-but-one` and `joined-number`. Assumes nothing.
-use mathlib.Core.Path.{_≡_, refl, ap, _∙_}
+-- Sheets of a few lines that meet the premises of `texts-verdict`, `all-but-one`, `idle-clauses` and `joined-number`. Assumes nothing.
+use mathlib.Core.Path.{_≡_, refl, sym, ap, _∙_}
 use mathlib.Core.Logic.{_⊎_, inl}
 use mathlib.Core.List.{List, [], _∷_, _++_, Forall₂·nil as nil₂, Forall₂·cons as cons₂}
 use mathlib.Core.Option.{none}
@@ -7,16 +7,26 @@ use Prim.Native.Nat.{ℕ}
 use lib.ListN.{take, drop}
 use Rattle.text.specs.Text.{bytes, either}
 use Rattle.text.proofs.Pieces.{ended-append}
+use Rattle.grammar.specs.Grammar as grammar
 use Rattle.sheet.specs.Line.{Line}
-use Rattle.sheet.specs.Load.{linesOf, load}
-use Rattle.sheet.specs.Held.{done, next}
+use Rattle.sheet.specs.Load.{linesOf, times, load}
+use Rattle.sheet.specs.Tree.{Node, Nodes, nil, more, build as trees, before}
+use Rattle.sheet.specs.Held.{done, next, Formed, FormedAll}
 use Rattle.sheet.specs.Same.{same-bytes, int-texts}
 use Rattle.sheet.specs.Joined.{Reads, Joins}
+use Rattle.sheet.proofs.Forms.{formed-one}
+use Rattle.sheet.proofs.Trees.{all-formed}
+use Rattle.sheet.proofs.Twins.{no-twin, moved}
+use Rattle.rules.specs.Asking.{Res, fresh}
+use Rattle.rules.specs.Check.{check}
 use Rattle.rules.specs.Model.{Model, fieldNamed, eventNamed}
 use Rattle.rules.specs.Standing.{readLines}
 use Rattle.rules.specs.Computed.{computed}
 use Rattle.rules.specs.Verdict.{modelOf, verdict}
 use Rattle.related.specs.Sheets.{results, entriesIn, ButOne, Foreign}
+use Rattle.related.proofs.LikeEntries.{idle}
+use Rattle.related.proofs.Sheets.{items-read}
+use Rattle.related.proofs.IdleClauses.{entry-parts, entry-trees, s-nil, s-skip, EntryPair, p-nil, p-entry, idle-clauses}
 use Rattle.related.proofs.JoinedSheets.{joined-number}
 use Rattle.related.proofs.OneEntry.{all-but-one}
 use Rattle.related.proofs.Texts.{texts-verdict}
@@ -71,6 +81,45 @@ one-entry =
     (record { read = (entries-with y, 6, 48, refl); items = (1, next done); one = next (next (next done)); is-entry = refl })
     (cons₂ (record { kind = refl; op = refl; spans = refl; parts = refl; name = inl refl }) nil₂)
     (cons₂ (record { kind = refl; op = refl; spans = refl; parts = refl; name = inl refl }) nil₂)
+
+-- a sheet of one entry: its line and clauses, before a statement
+abbrev entry-with : List (List ℕ) → List ℕ
+entry-with ls = sheet (bytes "contract,1" ∷ (ls ++ (bytes "guard" ∷ bytes "int,1,5" ∷ [])))
+
+abbrev with-after : List ℕ
+with-after = entry-with (bytes "entry,0,1,1" ∷ bytes "after,0,0" ∷ [])
+
+abbrev without-after : List ℕ
+without-after = entry-with (bytes "entry,0,0,1" ∷ [])
+
+first-item : {t : Node} {ns : Nodes} (n : ℕ) → FormedAll (times n grammar.Item) (more t ns) → Formed grammar.Item t
+unfolding times
+first-item n f = formed-one (all-formed grammar.Item n f .1)
+
+-- with an `after` of no expression, and without it
+idle-after :
+    let xs = readLines (load with-after 5 40) in
+    let ys = readLines (load without-after 4 32) in
+    fresh (check (modelOf xs)) .res ≡ fresh (check (modelOf ys)) .res
+unfolding computed readLines before
+idle-after =
+    let xs = readLines (load with-after 5 40) in
+    let ys = readLines (load without-after 4 32) in
+    let f = items-read with-after 5 40 (head xs) (drop 1 xs) refl in
+    let g = items-read without-after 4 32 (head ys) (drop 1 ys) refl in
+    let p = entry-parts (first-item (f .0) (f .1)) refl in
+    let q = entry-parts (first-item (g .0) (g .1)) refl in
+    let a = entry-trees p nil (trees 2 (take 1 (drop 2 xs))) (trees 3 (drop 3 xs)) refl refl in
+    let b = entry-trees q nil nil (trees 2 (drop 2 ys)) refl refl in
+    let pair : EntryPair _ _ _ _ = record {
+      left = p;
+      right = q;
+      params = rw (a .0, b .0) no-twin;
+      clauses = rw (a .1, b .1) (s-skip idle s-nil);
+      body = rw (a .2, b .2) (moved 3 2 (cons₂ (record { kind = refl; op = refl; spans = refl; parts = refl; name = inl refl }) (cons₂ (record { kind = refl; op = refl; spans = refl; parts = refl; name = inl refl }) nil₂)));
+    } in
+    let result : Model → Res Unit = λ m. fresh (check m) .res in
+    ap result (f .2) ∙ idle-clauses (trees 1 (drop 1 xs)) (trees 1 (drop 1 ys)) (f .0) (f .1) (p-entry pair p-nil) ∙ sym (ap result (g .2))
 
 abbrev first-lines : List (List ℕ)
 first-lines = bytes "state,1" ∷ bytes "field,1,x,0" ∷ bytes "type,2,u8,0" ∷ []

@@ -157,10 +157,12 @@ module _ {L : ℕ → ℕ → Type 0} {R : Line → Line → Type 0} {Free : Typ
   item-twin (formed {l = l} a p fs) (twin {i = i} {j = j} {k = k} {ps = ps} {qs = qs} n h r) =
       item-made i j l k ps qs (l .kind - 1) refl (ap (λ (n : ℕ). n - 1) (sym (same l k h .kind))) p a fs h r
 
-  items-by : {ns ms : Nodes} (n : ℕ) → FormedAll (times n grammar.Item) ns → Twins L R ns ms → Forall₂ (ItemBy F E B N) (map itemOf (nodes ns)) (map itemOf (nodes ms))
-  unfolding nodes times
-  items-by zero none-due no-twin = nil₂
-  items-by (suc n) (one-due f fs) (and-twin h r) = cons₂ (item-twin f h) (items-by n fs r)
+-- what holds of items one by one
+items-by : {L : ℕ → ℕ → Type 0} {R : Line → Line → Type 0} {Q : Item → Item → Type 0} {ns ms : Nodes} → ((t u : Node) → Formed grammar.Item t → Twin L R t u → Q (itemOf t) (itemOf u))
+    → (n : ℕ) → FormedAll (times n grammar.Item) ns → Twins L R ns ms → Forall₂ Q (map itemOf (nodes ns)) (map itemOf (nodes ms))
+unfolding nodes times
+items-by item zero none-due no-twin = nil₂
+items-by item (suc n) (one-due f fs) (and-twin h r) = cons₂ (item _ _ f h) (items-by item n fs r)
 
 -- ------------------------------------------------------------ models
 
@@ -184,7 +186,7 @@ module _ {L : ℕ → ℕ → Type 0} {R : Line → Line → Type 0} {Free : Typ
   item-heads = item-twin same F AnyPair AnyPair AnyPair field (λ ns ms q. tt) (λ t u q. tt) (λ i j l k ps qs e p fs q r. tt)
 
   pub heads-of : {ns ms : Nodes} (n : ℕ) → FormedAll (times n grammar.Item) ns → Twins L R ns ms → Heads F (itemsOf ns) (itemsOf ms)
-  heads-of n f h = build-by (items-by same F AnyPair AnyPair AnyPair field (λ ns ms q. tt) (λ t u q. tt) (λ i j l k ps qs e p fs q r. tt) n f h)
+  heads-of n f h = build-by (items-by (λ t u f q. item-heads f q) n f h)
 
 -- where the fields have the same heads and the events are the same, both models tell the same of every name
 pub every-field : (S : Setting) → Forall₂ Head (S .left .fields) (S .right .fields) → (x : Name) → SameField S x
@@ -226,8 +228,7 @@ module _ {S : Setting} where
   item-like = item-twin (λ l k q. q .same) (FieldLike S) (ExprLike S) (StmtLike S) (EntryLike S) field-twin (λ ns ms q. at-twin 0 q) (λ t u q. stmt-twin q) entry-twin
 
   pub part-of : {ns ms : Nodes} (n : ℕ) → FormedAll (times n grammar.Item) ns → Twins (S .Lines) (SameNamed S) ns ms → PartLike S (itemsOf ns) (itemsOf ms)
-  part-of n f h =
-      build-by (items-by (λ l k q. q .same) (FieldLike S) (ExprLike S) (StmtLike S) (EntryLike S) field-twin (λ ns ms q. at-twin 0 q) (λ t u q. stmt-twin q) entry-twin n f h)
+  part-of n f h = build-by (items-by (λ t u f q. item-like f q) n f h)
 
 -- the parts of a contract are its items
 pub contract-parts : {i : ℕ} {l : Line} {ps : Nodes} → Formed grammar.Contract (node i l ps) → (n : ℕ) × FormedAll (times n grammar.Item) ps
