@@ -46,7 +46,7 @@ record HeadForeign (n : Model) (f g : Field) : Type 0 where
   head : Head f g
   foreign : fieldNamed n (f .name) ≡ none
 
--- the same record, which names nothing of n
+-- the same record, which is foreign to n
 abbrev SameForeign : Model → Line → Line → Type 0
 SameForeign n l k = SameLine l k × Foreign n l
 

@@ -11,7 +11,7 @@ pub record Reads (s : List ℕ) (types scratch : ℕ) (l : List ℕ) (L : List (
   pub all : linesOf s ≡ l ∷ L
   pub read : load s types scratch ≡ lines (c ∷ r)
 
--- The sheet s has the first line l, which is read as c and tells the items of both c₁ and c₂, and the lines L behind it; nothing before the lines is refused.
+-- The sheet s has the first line l, which is read as c and tells the items of both c₁ and c₂, and the lines L behind it. Refusals 1 to 5 do not meet it.
 pub record Joins (c₁ c₂ : Line) (L : List (List ℕ)) (s : List ℕ) (types scratch : ℕ) (l : List ℕ) (c : Line) : Type 0 where
   pub all : linesOf s ≡ l ∷ L
   pub not-early : early s types scratch ≡ 0
