@@ -22,11 +22,6 @@ use Rattle.declared.specs.declared.model.Found.the-variants.{At, Nothing
 use Rattle.declared.proofs.Fields.{items-at}
 use Rattle.declared.specs.Event.{foundEvent, EventNamed}
 
--- what `is_event` answers
-pub is-event : (s S : List ℕ) (x : Name) (i k : ℕ) (y : Name) (b : Bool) → k ≡ kindAt S i → y ≡ nameAt s S i → b ≡ same x y
-    → (eqb k 2 && b) ≡ (eqb (kindAt S i) 2 && same x (nameAt s S i))
-is-event s S x i k y b e n q = rw (q, n, e) refl
-
 -- ------------------------------------------------------------ item by item
 
 abbrev eventName : Event → Name

@@ -1,8 +1,8 @@
 -- The last state field of a name. Assumes nothing.
 use mathlib.Core.Logic.{_≢_}
 use mathlib.Core.Path.{_≡_, refl, sym, ap, _∙_}
-use mathlib.Core.List.{List, [], _∷_, _++_, map, map-append}
-use mathlib.Core.Bool.{Bool, true, false, cond}
+use mathlib.Core.List.{List, [], _∷_, map, map-append}
+use mathlib.Core.Bool.{Bool, true, false}
 use mathlib.Core.Option.{Option, none, some, Option·map}
 use Prim.Native.Nat.{ℕ, suc, _+_, _-_, _<_, _≤_}
 use native.Mathlib.Omega.{arith}
@@ -15,30 +15,21 @@ use Rattle.sheet.specs.Held as formed
 use Rattle.sheet.specs.Scratch.{kindAt, endAt, entry}
 use Rattle.sheet.specs.Tree.{Node, node, nil, more, takeNodes}
 use Rattle.text.proofs.Words.{same-is}
-use Rattle.rules.specs.Text.{Name, lastNamed}
+use Rattle.rules.specs.Text.{Name, lastNamed, orElse}
 use Rattle.rules.specs.Ast.{Field, itemOf, fieldOf, paramOf, contractOf, nodes}
 use Rattle.rules.specs.Model.{itemModel, joined, build, fieldNamed}
 use Rattle.rules.specs.Verdict.{modelOf}
 use Rattle.rules.specs.Standing.{nodeName, treesFrom, without, nodeAt, nodesAt, fieldAt, modelIn, Loaded, Here, Row, stop, next}
 use Rattle.rules.proofs.Parts.{stop as end, _also_, pick, parts}
+use Rattle.rules.proofs.Lookups.{or-none, last-append}
 use Rattle.rules.proofs.Records.{group}
 use Rattle.rules.proofs.Standing.{Stands, stands, nodes-next, row-first, row-rest}
-use Rattle.declared.specs.Found.{nodeKind, ofKind, foundNode, foundField, orElse, itemFields, allFields, modelAt, Stretch, Of, Last, ItemAt, Newest, FieldsNamed, FieldNamed}
+use Rattle.declared.specs.Found.{nodeKind, ofKind, foundNode, foundField, itemFields, allFields, modelAt, Stretch, Of, Last, ItemAt, Newest, FieldsNamed, FieldNamed}
 use Rattle.declared.specs.Lines.{RecordsAt}
 use Rattle.declared.specs.declared.model.Found.{Found}
 use Rattle.declared.specs.declared.model.Found.the-variants.{At, Nothing}
-use Rattle.declared.proofs.Finding.{last-turn, or-none}
 
 -- ------------------------------------------------------------ the last of a name
-
-pub last-append : {A : Type 0} (f : A → Name) (x : Name) (as' bs : List A) (o : Option A)
-    → orElse (lastNamed f x (as' ++ bs)) o ≡ orElse (lastNamed f x bs) (orElse (lastNamed f x as') o)
-unfolding lastNamed orElse
-last-append f x [] bs o = refl
-last-append f x (a ∷ as') bs o =
-    last-turn f x a (as' ++ bs) o
-    ∙ last-append f x as' bs (cond (same x (f a)) (some a) o)
-    ∙ ap (orElse (lastNamed f x bs)) (sym (last-turn f x a as' o))
 
 pub last-map : {A B : Type 0} (g : A → B) (f : B → Name) (h : A → Name) (x : Name) → ((a : A) → f (g a) ≡ h a)
     → (as' : List A) → lastNamed f x (map g as') ≡ Option·map g (lastNamed h x as')

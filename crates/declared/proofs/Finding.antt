@@ -11,29 +11,17 @@ use borrow.Author.Tests.{eqb-true}
 use Rattle.text.specs.Text.{same}
 use Rattle.sheet.specs.Scratch.{kindAt, nameAt, endAt}
 use Rattle.sheet.specs.Tree.{Node, takeNodes}
-use Rattle.rules.specs.Text.{Name, among, lastNamed}
+use Rattle.rules.specs.Text.{Name, among, lastNamed, orElse}
 use Rattle.rules.specs.Ast.{nodes}
 use Rattle.rules.specs.Standing.{nodeName, nodeAt, nodesAt, Row}
+use Rattle.rules.proofs.Lookups.{or-none, last-turn}
 use Rattle.rules.proofs.Standing.{stands, nodes-next, row-first, row-rest}
 use Rattle.rules.specs.Typing.{isSome}
-use Rattle.declared.specs.Found.{nodeKind, ofKind, foundNode, foundAt, orElse, Stretch, Of, Last}
+use Rattle.declared.specs.Found.{nodeKind, ofKind, foundNode, foundAt, Stretch, Of, Last}
 use Rattle.declared.specs.declared.model.Found.{Found}
 use Rattle.declared.specs.declared.model.Found.the-variants.{At}
 
 -- ------------------------------------------------------------ the last of a name
-
--- the last of a list, or else o: the first of the list is a new such o
-pub last-turn : {A : Type 0} (f : A → Name) (x : Name) (a : A) (as' : List A) (o : Option A)
-    → orElse (lastNamed f x (a ∷ as')) o ≡ orElse (lastNamed f x as') (cond (same x (f a)) (some a) o)
-unfolding lastNamed orElse
-last-turn f x a as' o = go (lastNamed f x as') (same x (f a))
-  where
-    go : (l : Option _) (b : Bool)
-        → orElse (elim l as (λ _. Option _) [ some y ↦ some y | none ↦ elim b as (λ _. Option _) [ true ↦ some a | false ↦ none ] ]) o
-        ≡ orElse l (cond b (some a) o)
-    go (some y) b = refl
-    go none true = refl
-    go none false = refl
 
 -- a name is among those of a list where a search finds one of the list
 pub among-last : {A : Type 0} (f : A → Name) (x : Name) (as' : List A) → among x (map f as') ≡ isSome (lastNamed f x as')
@@ -48,11 +36,6 @@ among-last {A} f x (a ∷ as') = go (lastNamed f x as') (same x (f a)) (among-la
     go none true h = refl
     go (some y) false h = h
     go none false h = h
-
-pub or-none : {A : Type 0} (o : Option A) → orElse o none ≡ o
-unfolding orElse
-or-none none = refl
-or-none (some a) = refl
 
 -- ------------------------------------------------------------ line by line
 

@@ -1,4 +1,4 @@
--- Tests and tables of words. Assumes nothing.
+-- Tables of words. Assumes nothing.
 use mathlib.Core.Path.{_≡_, refl, sym, _∙_}
 use mathlib.Core.List.{List, [], _∷_, _++_, map}
 use mathlib.Core.Bool.{Bool, true, false, cond}

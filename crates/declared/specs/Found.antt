@@ -10,7 +10,7 @@ use Rattle.grammar.specs.Grammar.{Sort}
 use Rattle.grammar.specs.Grammar as grammar
 use Rattle.sheet.specs.Scratch.{kindAt, entry}
 use Rattle.sheet.specs.Tree.{Node, node}
-use Rattle.rules.specs.Text.{Name, lastNamed}
+use Rattle.rules.specs.Text.{Name, lastNamed, orElse}
 use Rattle.rules.specs.Ast.{Field, itemOf, nodes}
 use Rattle.rules.specs.Model.{Model, build, fieldNamed}
 use Rattle.rules.specs.Standing.{nodeName, nodeAt, nodesAt, fieldAt, modelIn, Loaded, Here, Row}
@@ -61,10 +61,6 @@ itemFields (node i l ps) = elim (eqb (l .kind) 1) [ true ↦ nodes ps | false �
 pub record ItemAt (s S : List ℕ) (i : ℕ) : Type 0 where
   pub loaded : Loaded s S
   pub here : Here S grammar.Item i
-
-unfoldable pub orElse : {A : Type 0} → Option A → Option A → Option A
-orElse none o = o
-orElse (some a) o = some a
 
 -- r is the last field of the name x of the item at line i, or else f
 pub record Newest (s S : List ℕ) (x : Name) (i : ℕ) (f r : Found) : Type 0 where

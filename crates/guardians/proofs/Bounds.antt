@@ -12,17 +12,18 @@ use mir.Val.{Fits}
 use lib.ListN.{length}
 use Rattle.grammar.specs.Grammar as grammar
 use Rattle.sheet.specs.Scratch.{kindAt, nameAt, endAt, entry}
-use Rattle.rules.specs.Text.{Name, Piece, lastNamed}
+use Rattle.rules.specs.Text.{Name, Piece, lastNamed, orElse}
 use Rattle.rules.specs.Ast.{Field, fieldOf, itemOf}
 use Rattle.rules.specs.Asking.{Res, ok, Rule, _>>=_, _>>_, expect, when, forEach}
 use Rattle.rules.specs.Declarations.{guardianFits, guardianBound}
 use Rattle.rules.specs.Model.{joined, build, fieldNamed, values}
 use Rattle.rules.specs.Standing.{nodeName, nodeAt, nodesAt, typeAt, fieldAt, modelIn, Loaded, Here, Row}
 use Rattle.rules.specs.Typing.{isSome}
+use Rattle.rules.proofs.Lookups.{or-none, last-append}
 use Rattle.rules.proofs.Records.{no-nodes, field-at}
 use Rattle.rules.proofs.Standing.{nodes-next, row-first, row-rest}
 use Rattle.declared.specs.Answers.{Answers}
-use Rattle.declared.specs.Found.{orElse, foundField, itemFields, modelAt, Stretch, Last, ItemAt, FieldsNamed}
+use Rattle.declared.specs.Found.{foundField, itemFields, modelAt, Stretch, Last, ItemAt, FieldsNamed}
 use Rattle.declared.specs.Lines.{Typed, RecordsAt}
 use Rattle.declared.specs.Refusal.{doneOf}
 use Rattle.declared.specs.declared.model.Found.{Found}
@@ -31,8 +32,7 @@ use Rattle.declared.specs.declared.refusal.Refusal.{Refusal}
 use Rattle.declared.specs.declared.refusal.Done.{Done}
 use Rattle.declared.specs.declared.refusal.Done.the-variants.{Fine, Refused}
 use Rattle.declared.proofs.Answers.{gives, then-fine, then-refused}
-use Rattle.declared.proofs.Fields.{last-append, last-map, as-field, field-name, all-kind, items-at, item-here, not-state, of-state}
-use Rattle.declared.proofs.Finding.{or-none}
+use Rattle.declared.proofs.Fields.{last-map, as-field, field-name, all-kind, items-at, item-here, not-state, of-state}
 use Rattle.guardians.specs.Bounds.{boundIfLast, boundsOf, fieldsLeft, FieldsLeft}
 
 pub next-fits : (S : List ℕ) (σ : grammar.Sort) (m i : ℕ) → Row S σ (suc m) i → length S < 18446744073709551616 → Fits w64 (i + 1)

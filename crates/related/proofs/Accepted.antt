@@ -14,27 +14,27 @@ use Rattle.rules.specs.Asking.{Res, ok, refused, fresh}
 use Rattle.rules.specs.Check.{check}
 use Rattle.rules.specs.Verdict.{told, modelOf, ruled, refusedSheet, judge, verdict}
 use Rattle.related.specs.Sheets.{AcceptedSheet}
-use Rattle.related.proofs.Alike.{SoundRes, sound}
+use Rattle.related.proofs.Alike.{FromTwelveRes, from-twelve}
 use Rattle.related.proofs.LikeCheck.{a-check}
 use Rattle.related.proofs.Sheets.{lines-like}
 
-itself : {X : Type 0} (ls : List Line) → Forall₂ (SameRecord X) ls ls
+itself : {Free : Type 0} (ls : List Line) → Forall₂ (SameRecord Free) ls ls
 itself [] = nil₂
 itself (l ∷ ls) = cons₂ (record { kind = refl; op = refl; spans = refl; parts = refl; name = inl refl }) (itself ls)
 
 -- a sheet that is read, as the lines ls
 module _ (s : List ℕ) (types scratch message : ℕ) (ls : List Line) (read : load s types scratch ≡ lines ls) where
   -- the rules are alike on it and on itself, so every refusal has a number from 12 on
-  pub rules-sound : SoundRes (fresh (check (modelOf ls)) .res)
-  rules-sound = sound (λ x. x) (a-check (lines-like (λ i j. Unit) (λ l. tt) (λ i j h. tt) ⊥ s types scratch ls ls read (itself ls)))
+  pub rules-from-twelve : FromTwelveRes (fresh (check (modelOf ls)) .res)
+  rules-from-twelve = from-twelve (λ x. x) (a-check (lines-like (λ i j. Unit) tt (λ i j h. tt) ⊥ s types scratch ls ls read (itself ls)))
 
-  by-result : (r : Res Unit) → fresh (check (modelOf ls)) .res ≡ r → SoundRes r → verdict s types scratch message .number ≡ 0 → fresh (check (modelOf ls)) .res ≡ ok tt
+  by-result : (r : Res Unit) → fresh (check (modelOf ls)) .res ≡ r → FromTwelveRes r → verdict s types scratch message .number ≡ 0 → fresh (check (modelOf ls)) .res ≡ ok tt
   unfolding verdict judge ruled told
   by-result (ok tt) e h z = e
   by-result (refused r) e h z = absurd (let y : r .number ≡ 0 = rw (read, e) at z in let w : leb 12 0 ≡ true = rw y at h in let v : _≡_ {A = ℕ} 0 1 = cc w in omega arith)
 
   pub zero-passed : verdict s types scratch message .number ≡ 0 → fresh (check (modelOf ls)) .res ≡ ok tt
-  zero-passed z = by-result (fresh (check (modelOf ls)) .res) refl rules-sound z
+  zero-passed z = by-result (fresh (check (modelOf ls)) .res) refl rules-from-twelve z
 
   pub passed-zero : fresh (check (modelOf ls)) .res ≡ ok tt → verdict s types scratch message .number ≡ 0
   unfolding verdict judge ruled told

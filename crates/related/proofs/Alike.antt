@@ -15,12 +15,12 @@ pub record Setting : Type 1 where
   pub left : Model
   pub right : Model
   pub Lines : ℕ → ℕ → Type 0
-  pub line-itself : (l : ℕ) → Lines l l
+  pub line-zero : Lines 0 0
   pub Free : Type 0
 
 -- the setting of two models
-abbrev pub settingOf : (L : ℕ → ℕ → Type 0) → ((l : ℕ) → L l l) → Type 0 → Model → Model → Setting
-settingOf L same X m n = record { left = m; right = n; Lines = L; line-itself = same; Free = X }
+abbrev pub settingOf : (L : ℕ → ℕ → Type 0) → L 0 0 → Type 0 → Model → Model → Setting
+settingOf L z Free m n = record { left = m; right = n; Lines = L; line-zero = z; Free = Free }
 
 -- a refusal for the text of a literal, where texts are free
 abbrev pub ByText : Setting → Refusal → Type 0
@@ -135,20 +135,20 @@ outcomes (a-left h) = text-left h
 outcomes (a-right h) = text-right h
 outcomes {S} (a-ask {l = l} {k = k} i h n) = asked-same S l k i _ _ (outcomes h) (λ t. outcomes (n t))
 
-abbrev pub SoundRes : {A : Type 0} → Res A → Type 0
-SoundRes (ok a) = Unit
-SoundRes (refused r) = FromTwelve r
+abbrev pub FromTwelveRes : {A : Type 0} → Res A → Type 0
+FromTwelveRes (ok a) = Unit
+FromTwelveRes (refused r) = FromTwelve r
 
-ended-sound : {A : Type 0} (l : ℕ) (as' : List Asking) (r : Res Ty) (f : Ty → Out A) → SoundRes r → ((t : Ty) → SoundRes (f t .res)) → SoundRes (ended l r as' f .res)
+ended-from-twelve : {A : Type 0} (l : ℕ) (as' : List Asking) (r : Res Ty) (f : Ty → Out A) → FromTwelveRes r → ((t : Ty) → FromTwelveRes (f t .res)) → FromTwelveRes (ended l r as' f .res)
 unfolding ended
-ended-sound l as' (ok t) f h k = k t
-ended-sound l as' (refused r) f h k = h
+ended-from-twelve l as' (ok t) f h k = k t
+ended-from-twelve l as' (refused r) f h k = h
 
--- where texts are not free, every refusal has a number of the rules
-pub sound : {S : Setting} {A : Type 0} {p q : Rule A} → (S .Free → ⊥) → Alike S p q → SoundRes (fresh p .res)
+-- where texts are not free, every refusal has a number from 12 on
+pub from-twelve : {S : Setting} {A : Type 0} {p q : Rule A} → (S .Free → ⊥) → Alike S p q → FromTwelveRes (fresh p .res)
 unfolding fresh
-sound n (a-ret a) = tt
-sound n (a-refuse r h) = h
-sound n (a-left h) = absurd (n (h .0))
-sound n (a-right h) = absurd (n (h .0))
-sound n (a-ask {l = l} {p = p} {f = f} i h k) = ended-sound l (fresh p .log) (fresh p .res) (λ t. fresh (f t)) (sound n h) (λ t. sound n (k t))
+from-twelve n (a-ret a) = tt
+from-twelve n (a-refuse r h) = h
+from-twelve n (a-left h) = absurd (n (h .0))
+from-twelve n (a-right h) = absurd (n (h .0))
+from-twelve n (a-ask {l = l} {p = p} {f = f} i h k) = ended-from-twelve l (fresh p .log) (fresh p .res) (λ t. fresh (f t)) (from-twelve n h) (λ t. from-twelve n (k t))

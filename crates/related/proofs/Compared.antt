@@ -14,11 +14,11 @@ use Rattle.related.proofs.LikeCheck.{ModelLike, a-entry, a-check}
 
 -- the same lines, and the texts of literals are free
 abbrev pub texts : Model → Model → Setting
-texts = settingOf (λ l k. l ≡ k) (λ l. refl) Unit
+texts = settingOf (λ l k. l ≡ k) refl Unit
 
 -- the same texts, and lines don't matter
 abbrev pub renumbered : Model → Model → Setting
-renumbered = settingOf (λ l k. Unit) (λ l. tt) ⊥
+renumbered = settingOf (λ l k. Unit) tt ⊥
 
 same-log : (m n : Model) {as' bs : List Asking} → Forall₂ (SameAsking (texts m n)) as' bs → as' ≡ bs
 same-log m n nil₂ = refl

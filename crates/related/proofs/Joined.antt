@@ -79,10 +79,10 @@ uses-pass seen (u ∷ us) vs a b h k =
     both [] a b = tt
     both (v ∷ vs) a b = (rw (or-parts (differs v u) (any (differs v) us) (b .0) .0, a .0), both vs (a .1) (b .1))
 
-uses-append : (m : Model) (es fs : List Entry) → uses m (es ++ fs) ≡ uses m es ++ uses m fs
+all-uses-append : (m : Model) (es fs : List Entry) → uses m (es ++ fs) ≡ uses m es ++ uses m fs
 unfolding uses
-uses-append m [] fs = refl
-uses-append m (e ∷ es) fs = rw (uses-append m es fs) (sym (append-assoc (usesOf m (nameParams (e .params)) (keyedIn (entryExprs e))) (uses m es) (uses m fs)))
+all-uses-append m [] fs = refl
+all-uses-append m (e ∷ es) fs = rw (all-uses-append m es fs) (sym (append-assoc (usesOf m (nameParams (e .params)) (keyedIn (entryExprs e))) (uses m es) (uses m fs)))
 
 -- a use is of a Map or Registry
 abbrev OfKeyed : Model → Use → Type 0
@@ -105,13 +105,13 @@ unfolding uses
 uses-keyed m [] = tt
 uses-keyed m (e ∷ es) = all-append (OfKeyed m) (usesOf m (nameParams (e .params)) (keyedIn (entryExprs e))) (uses m es) (of-keyed m (nameParams (e .params)) (keyedIn (entryExprs e))) (uses-keyed m es)
 
-module _ (m n : Model) (apart : (x : Name) → isKeyed m x ≡ true → isKeyed n x ≡ true → ⊥) where
+module _ (m n : Model) (disjoint : (x : Name) → isKeyed m x ≡ true → isKeyed n x ≡ true → ⊥) where
   differ-not : (u v : Use) → OfKeyed m u → OfKeyed n v → differs v u ≡ false
   unfolding differs
   differ-not u v h k = go (same (v .map) (u .map)) refl
     where
       go : (b : Bool) → same (v .map) (u .map) ≡ b → (b && not (Bool·beq (v .isName) (u .isName))) ≡ false
-      go true e = absurd (apart (u .map) h (rw (same-is (v .map) (u .map) e) at k))
+      go true e = absurd (disjoint (u .map) h (rw (same-is (v .map) (u .map) e) at k))
       go false e = refl
 
   none-differs : (us : List Use) (v : Use) → All (OfKeyed m) us → OfKeyed n v → any (differs v) us ≡ false
@@ -131,7 +131,7 @@ nothing-seen (v ∷ vs) = (refl, nothing-seen vs)
 
 -- the first model M stands as A in the joined one, the second N as B
 module _ (M N A B : Model) (a : PartLike (renumbered M (joined A B)) M A) (b : PartLike (renumbered N (joined A B)) N B)
-    (last : All (λ f. fieldIn (f .name) (B .fields) ≡ none) (A .fields)) (apart : (x : Name) → isKeyed M x ≡ true → isKeyed N x ≡ true → ⊥) where
+    (last : All (λ f. fieldIn (f .name) (B .fields) ≡ none) (A .fields)) (disjoint : (x : Name) → isKeyed M x ≡ true → isKeyed N x ≡ true → ⊥) where
   abbrev J : Model
   J = joined A B
 
@@ -161,8 +161,8 @@ module _ (M N A B : Model) (a : PartLike (renumbered M (joined A B)) M A) (b : P
       let v : uses N (N .entries) ≡ uses J (B .entries) = uses-like (renumbered N J) (b .entries) in
       let us : List Use = uses M (M .entries) in
       let vs : List Use = uses N (N .entries) in
-      rw (uses-append J (A .entries) (B .entries), ← u, ← v)
-      (uses-pass [] us vs (nothing-seen vs) (agree M N apart us vs (uses-keyed M (M .entries)) (uses-keyed N (N .entries))) h k)
+      rw (all-uses-append J (A .entries) (B .entries), ← u, ← v)
+      (uses-pass [] us vs (nothing-seen vs) (agree M N disjoint us vs (uses-keyed M (M .entries)) (uses-keyed N (N .entries))) h k)
 
   pub check-joined : Passes (check M) → Passes (check N) → Passes (check J)
   unfolding check joined

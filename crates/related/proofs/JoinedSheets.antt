@@ -1,5 +1,5 @@
--- Request 14: two sheets that are accepted, no line of one naming a state field or event of the other (`Foreign`), and one with a
--- `contract` line and the lines of both behind it. Assumes nothing.
+-- Request 14: two sheets that are accepted, the lines of each foreign to the other (`Foreign`), and one with a `contract` line and the
+-- lines of both behind it. Assumes nothing.
 use mathlib.Core.Path.{_≡_, sym, ap, _∙_}
 use mathlib.Core.Logic.{_⊎_, inl, inr}
 use mathlib.Core.List.{List, _∷_, _++_, Forall₂, Forall₂·nil as nil₂, Forall₂·cons as cons₂}
@@ -10,11 +10,12 @@ use native.Mathlib.Omega.{arith}
 use lib.ListN.{length}
 use Rattle.text.specs.Text.{same}
 use Rattle.grammar.specs.Grammar as grammar
-use Rattle.sheet.specs.Line.{Line, good, readLine}
-use Rattle.sheet.specs.Load.{lines, load, linesOf, sorts, early}
+use Rattle.sheet.specs.Line.{Line}
+use Rattle.sheet.specs.Load.{lines, load}
 use Rattle.sheet.specs.Tree.{Node, build as trees}
 use Rattle.sheet.specs.Held.{Formed, formed}
 use Rattle.sheet.specs.Same.{SameLine}
+use Rattle.sheet.specs.Joined.{Reads, Joins}
 use Rattle.sheet.proofs.Joining.{joined-read}
 use Rattle.sheet.proofs.Paired.{Opt, opt-none, opt-imp}
 use Rattle.sheet.proofs.Twins.{Twin, twin, Twins, twin-map, twins-map, trees-twins}
@@ -45,7 +46,7 @@ record HeadForeign (n : Model) (f g : Field) : Type 0 where
   head : Head f g
   foreign : fieldNamed n (f .name) ≡ none
 
--- the same record, which names nothing of n
+-- the same record, which is foreign to n
 abbrev SameForeign : Model → Line → Line → Type 0
 SameForeign n l k = SameLine l k × Foreign n l
 
@@ -81,6 +82,10 @@ module _ {N M A : Model} (h : Half N M A) where
   heads-in : (x : Name) → Opt Head (fieldIn x (M .fields)) (fieldIn x (A .fields))
   heads-in x = opt-imp (λ f g q. q .head) (in-both x)
 
+  none-there : (x : Name) → fieldNamed M x ≡ none → fieldIn x (A .fields) ≡ none
+  unfolding fieldNamed
+  none-there x e = opt-none (in-both x) e
+
 -- ------------------------------------------------------------ both
 
 keyed-none : (m : Model) (x : Name) → fieldNamed m x ≡ none → isKeyed m x ≡ false
@@ -91,20 +96,16 @@ module _ {M N A B : Model} (p : Half N M A) (q : Half M N B) where
   abbrev J : Model
   J = joined A B
 
-  none-there : (x : Name) → fieldNamed N x ≡ none → fieldIn x (B .fields) ≡ none
-  unfolding fieldNamed
-  none-there x e = opt-none (in-both q x) e
-
   part₁ : PartLike (renumbered M J) M A
   unfolding fieldNamed eventNamed joined
   part₁ =
-      p .part J (λ x e. rw (last-before x (A .fields) (B .fields) (opt-none (in-both q x) e)) (heads-in p x))
+      p .part J (λ x e. rw (last-before x (A .fields) (B .fields) (none-there q x e)) (heads-in p x))
       (λ x e. rw (← p .heads .events, ← q .heads .events) (sym (first-before x (M .events) (N .events) e)))
 
   part₂ : PartLike (renumbered N J) N B
   unfolding fieldNamed eventNamed joined
   part₂ =
-      q .part J (λ x e. rw (last-behind x (A .fields) (B .fields) (opt-none (in-both p x) e)) (heads-in q x))
+      q .part J (λ x e. rw (last-behind x (A .fields) (B .fields) (none-there p x e)) (heads-in q x))
       (λ x e. rw (← p .heads .events, ← q .heads .events) (sym (first-behind x (M .events) (N .events) e)))
 
   last : All (λ f. fieldIn (f .name) (B .fields) ≡ none) (A .fields)
@@ -112,11 +113,11 @@ module _ {M N A B : Model} (p : Half N M A) (q : Half M N B) where
     where
       go : {fs gs : List Field} → Forall₂ (HeadForeign N) fs gs → All (λ g. fieldIn (g .name) (B .fields) ≡ none) gs
       go nil₂ = tt
-      go (cons₂ {a = f} h r) = (rw (← h .head .name) (none-there (f .name) (h .foreign)), go r)
+      go (cons₂ {a = f} h r) = (rw (← h .head .name) (none-there q (f .name) (h .foreign)), go r)
 
-  apart : (x : Name) → isKeyed M x ≡ true → isKeyed N x ≡ true → ⊥
+  disjoint : (x : Name) → isKeyed M x ≡ true → isKeyed N x ≡ true → ⊥
   unfolding fieldNamed
-  apart x h k = go (found (λ x. fieldNamed N x ≡ none) x (M .fields) (foreign (p .heads .fields)))
+  disjoint x h k = go (found (λ x. fieldNamed N x ≡ none) x (M .fields) (foreign (p .heads .fields)))
     where
       foreign : {fs gs : List Field} → Forall₂ (HeadForeign N) fs gs → All (λ f. fieldNamed N (f .name) ≡ none) fs
       foreign nil₂ = tt
@@ -127,28 +128,26 @@ module _ {M N A B : Model} (p : Half N M A) (q : Half M N B) where
       go (inr e) = let z : _≡_ {A = ℕ} 0 1 = cc (keyed-none N x e, k) in omega arith
 
   joined-passes : Passes (check M) → Passes (check N) → Passes (check J)
-  joined-passes = check-joined M N A B part₁ part₂ last apart
+  joined-passes = check-joined M N A B part₁ part₂ last disjoint
 
 -- ------------------------------------------------------------ the sheets
 
--- The sheets s₁ and s₂ have the lines L₁ and L₂ behind their first ones; the sheet s has a first line l, which tells the items of both, and all of them behind it.
-module _ (s₁ s₂ s : List ℕ) (types₁ scratch₁ message₁ types₂ scratch₂ message₂ types scratch message : ℕ) (l₁ l₂ l : List ℕ) (L₁ L₂ : List (List ℕ))
-    (c₁ c₂ c : Line) (r₁ r₂ : List Line)
-    (lines₁ : linesOf s₁ ≡ l₁ ∷ L₁) (lines₂ : linesOf s₂ ≡ l₂ ∷ L₂) (all : linesOf s ≡ l ∷ (L₁ ++ L₂))
-    (read₁ : load s₁ types₁ scratch₁ ≡ lines (c₁ ∷ r₁)) (read₂ : load s₂ types₂ scratch₂ ≡ lines (c₂ ∷ r₂))
-    (not-early : early s types scratch ≡ 0) (first : readLine grammar.Contract 0 l ≡ good c) (count : sorts (c .parts) ≡ sorts (c₁ .parts) ++ sorts (c₂ .parts)) where
-  -- where both are accepted, and the names of one are no state or event names of the other, it is accepted
+-- two sheets, and one with the lines of both
+module _ {s₁ s₂ s : List ℕ} {types₁ scratch₁ types₂ scratch₂ types scratch : ℕ} {l₁ l₂ l : List ℕ} {L₁ L₂ : List (List ℕ)} {c₁ c₂ c : Line} {r₁ r₂ : List Line}
+    (one : Reads s₁ types₁ scratch₁ l₁ L₁ c₁ r₁) (two : Reads s₂ types₂ scratch₂ l₂ L₂ c₂ r₂) (both : Joins c₁ c₂ (L₁ ++ L₂) s types scratch l c)
+    (message₁ message₂ message : ℕ) where
+  -- where both are accepted, and the lines of each are foreign to the other, it is accepted
   pub joined-number : All (Foreign (modelOf (c₂ ∷ r₂))) r₁ → All (Foreign (modelOf (c₁ ∷ r₁))) r₂
       → verdict s₁ types₁ scratch₁ message₁ .number ≡ 0 → verdict s₂ types₂ scratch₂ message₂ .number ≡ 0 → verdict s types scratch message .number ≡ 0
   joined-number f g h k =
-      let t = joined-read s₁ s₂ s types₁ scratch₁ types₂ scratch₂ types scratch l₁ l₂ l L₁ L₂ c₁ c₂ c r₁ r₂ lines₁ lines₂ all read₁ read₂ not-early first count in
+      let t = joined-read one two both in
       let a = t .0 in
       let b = t .1 in
-      let p = half s₁ types₁ scratch₁ c₁ r₁ a 1 (modelOf (c₂ ∷ r₂)) read₁ (t .3) f in
-      let q = half s₂ types₂ scratch₂ c₂ r₂ b (1 + length a) (modelOf (c₁ ∷ r₁)) read₂ (t .4) g in
+      let p = half s₁ types₁ scratch₁ c₁ r₁ a 1 (modelOf (c₂ ∷ r₂)) (one .read) (t .3) f in
+      let q = half s₂ types₂ scratch₂ c₂ r₂ b (1 + length a) (modelOf (c₁ ∷ r₁)) (two .read) (t .4) g in
       let e : modelOf (c ∷ (a ++ b)) ≡ joined (itemsOf (trees 1 a)) (itemsOf (trees (1 + length a) b)) =
-      items-read s types scratch c (a ++ b) (t .2) .2 ∙ ap itemsOf (trees-behind 1 b (due-same (rest-due s₁ types₁ scratch₁ c₁ r₁ read₁) (t .3))) ∙ items-before (trees 1 a) (trees (1 + length a) b)
+      items-read s types scratch c (a ++ b) (t .2) .2 ∙ ap itemsOf (trees-behind 1 b (due-same (rest-due s₁ types₁ scratch₁ c₁ r₁ (one .read)) (t .3))) ∙ items-before (trees 1 a) (trees (1 + length a) b)
       in
       passed-zero s types scratch message (c ∷ (a ++ b)) (t .2)
       (rw e
-      (joined-passes p q (record { passed = zero-passed s₁ types₁ scratch₁ message₁ (c₁ ∷ r₁) read₁ h }) (record { passed = zero-passed s₂ types₂ scratch₂ message₂ (c₂ ∷ r₂) read₂ k }) .passed))
+      (joined-passes p q (record { passed = zero-passed s₁ types₁ scratch₁ message₁ (c₁ ∷ r₁) (one .read) h }) (record { passed = zero-passed s₂ types₂ scratch₂ message₂ (c₂ ∷ r₂) (two .read) k }) .passed))

@@ -7,7 +7,7 @@ use mathlib.Core.Option.{Option, none, some}
 use Prim.Native.Nat.{ℕ}
 use Prim.Native.String.{String}
 use Rattle.text.specs.Text.{same}
-use Rattle.sheet.proofs.Paired.{Opt, o-none, o-some}
+use Rattle.sheet.proofs.Paired.{Opt, o-none, o-some, opt-either}
 use Rattle.rules.specs.Text.{Name, lastNamed}
 use Rattle.rules.specs.Ast.{UnaryOp, BinOp, Leaf, int, id, Wrap, Expr, leaf, unary, binary, field, call, wrap, Exprs, nil, more, Field, span, line, leafOf, list}
 use Rattle.rules.specs.Asking.{Ty}
@@ -34,21 +34,21 @@ pub data LeafLike (S : Setting) : Leaf → Leaf → Type 0 where
   l-same : {k : Leaf} → ((x : Name) → identLeaf k ≡ some x → SameField S x) → LeafLike S k k
 
 mutual
-  pub data Like (S : Setting) : Expr → Expr → Type 0 where
-    leaf~ : {l k s : ℕ} {a b : Leaf} → S .Lines l k → LeafLike S a b → Like S (leaf l s a) (leaf k s b)
-    unary~ : {l k s : ℕ} {o : UnaryOp} {e f : Expr} → S .Lines l k → Like S e f → Like S (unary l s o e) (unary k s o f)
-    binary~ : {l k s : ℕ} {o : BinOp} {a b c d : Expr} → S .Lines l k → Like S a c → Like S b d → Like S (binary l s o a b) (binary k s o c d)
-    field~ : {l k s m : ℕ} {x : Name} {e f : Expr} → S .Lines l k → Like S e f → Like S (field l s e x m) (field k s f x m)
-    call~ : {l k s : ℕ} {c d : Expr} {es fs : Exprs} → S .Lines l k → Like S c d → Likes S es fs → Like S (call l s c es) (call k s d fs)
-    wrap~ : {l k s : ℕ} {w : Wrap} {e f : Expr} → S .Lines l k → Like S e f → Like S (wrap l s w e) (wrap k s w f)
+  pub data ExprLike (S : Setting) : Expr → Expr → Type 0 where
+    leaf~ : {l k s : ℕ} {a b : Leaf} → S .Lines l k → LeafLike S a b → ExprLike S (leaf l s a) (leaf k s b)
+    unary~ : {l k s : ℕ} {o : UnaryOp} {e f : Expr} → S .Lines l k → ExprLike S e f → ExprLike S (unary l s o e) (unary k s o f)
+    binary~ : {l k s : ℕ} {o : BinOp} {a b c d : Expr} → S .Lines l k → ExprLike S a c → ExprLike S b d → ExprLike S (binary l s o a b) (binary k s o c d)
+    field~ : {l k s m : ℕ} {x : Name} {e f : Expr} → S .Lines l k → ExprLike S e f → ExprLike S (field l s e x m) (field k s f x m)
+    call~ : {l k s : ℕ} {c d : Expr} {es fs : Exprs} → S .Lines l k → ExprLike S c d → ExprsLike S es fs → ExprLike S (call l s c es) (call k s d fs)
+    wrap~ : {l k s : ℕ} {w : Wrap} {e f : Expr} → S .Lines l k → ExprLike S e f → ExprLike S (wrap l s w e) (wrap k s w f)
 
-  pub data Likes (S : Setting) : Exprs → Exprs → Type 0 where
-    nil~ : Likes S nil nil
-    more~ : {e f : Expr} {es fs : Exprs} → Like S e f → Likes S es fs → Likes S (more e es) (more f fs)
+  pub data ExprsLike (S : Setting) : Exprs → Exprs → Type 0 where
+    nil~ : ExprsLike S nil nil
+    more~ : {e f : Expr} {es fs : Exprs} → ExprLike S e f → ExprsLike S es fs → ExprsLike S (more e es) (more f fs)
 
 -- ------------------------------------------------------------ views
 
-pub span-like : {S : Setting} {e f : Expr} → Like S e f → span e ≡ span f
+pub span-like : {S : Setting} {e f : Expr} → ExprLike S e f → span e ≡ span f
 unfolding span
 span-like (leaf~ l h) = refl
 span-like (unary~ l h) = refl
@@ -57,7 +57,7 @@ span-like (field~ l h) = refl
 span-like (call~ l h k) = refl
 span-like (wrap~ l h) = refl
 
-pub line-like : {S : Setting} {e f : Expr} → Like S e f → S .Lines (line e) (line f)
+pub line-like : {S : Setting} {e f : Expr} → ExprLike S e f → S .Lines (line e) (line f)
 unfolding line
 line-like (leaf~ l h) = l
 line-like (unary~ l h) = l
@@ -66,7 +66,7 @@ line-like (field~ l h) = l
 line-like (call~ l h k) = l
 line-like (wrap~ l h) = l
 
-pub leaf-like : {S : Setting} {e f : Expr} → Like S e f → Opt (LeafLike S) (leafOf e) (leafOf f)
+pub leaf-like : {S : Setting} {e f : Expr} → ExprLike S e f → Opt (LeafLike S) (leafOf e) (leafOf f)
 unfolding leafOf
 leaf-like (leaf~ l h) = o-some h
 leaf-like (unary~ l h) = o-none
@@ -76,11 +76,11 @@ leaf-like (call~ l h k) = o-none
 leaf-like (wrap~ l h) = o-none
 
 pub record DotLike (S : Setting) (a b : Dot) : Type 0 where
-  pub base : Like S (a .base) (b .base)
+  pub base : ExprLike S (a .base) (b .base)
   pub name : a .name ≡ b .name
   pub nspan : a .nspan ≡ b .nspan
 
-pub dot-like : {S : Setting} {e f : Expr} → Like S e f → Opt (DotLike S) (dotOf e) (dotOf f)
+pub dot-like : {S : Setting} {e f : Expr} → ExprLike S e f → Opt (DotLike S) (dotOf e) (dotOf f)
 unfolding dotOf
 dot-like (leaf~ l h) = o-none
 dot-like (unary~ l h) = o-none
@@ -90,10 +90,10 @@ dot-like (call~ l h k) = o-none
 dot-like (wrap~ l h) = o-none
 
 pub record CallLike (S : Setting) (a b : Call) : Type 0 where
-  pub callee : Like S (a .callee) (b .callee)
-  pub args : Likes S (a .args) (b .args)
+  pub callee : ExprLike S (a .callee) (b .callee)
+  pub args : ExprsLike S (a .args) (b .args)
 
-pub call-like : {S : Setting} {e f : Expr} → Like S e f → Opt (CallLike S) (callOf e) (callOf f)
+pub call-like : {S : Setting} {e f : Expr} → ExprLike S e f → Opt (CallLike S) (callOf e) (callOf f)
 unfolding callOf
 call-like (leaf~ l h) = o-none
 call-like (unary~ l h) = o-none
@@ -102,7 +102,7 @@ call-like (field~ l h) = o-none
 call-like (call~ l h k) = o-some (record { callee = h; args = k })
 call-like (wrap~ l h) = o-none
 
-pub list-like : {S : Setting} {es fs : Exprs} → Likes S es fs → Forall₂ (Like S) (list es) (list fs)
+pub list-like : {S : Setting} {es fs : Exprs} → ExprsLike S es fs → Forall₂ (ExprLike S) (list es) (list fs)
 unfolding list
 list-like nil~ = nil₂
 list-like (more~ h k) = cons₂ h (list-like k)
@@ -118,7 +118,7 @@ ident-leaf {S} (l-same {k = k} h) = go (identLeaf k) h
     go none f = b-none
     go (some x) f = b-some (f x refl)
 
-pub ident-like : {S : Setting} {e f : Expr} → Like S e f → Both (SameField S) (identOf e) (identOf f)
+pub ident-like : {S : Setting} {e f : Expr} → ExprLike S e f → Both (SameField S) (identOf e) (identOf f)
 unfolding identOf
 ident-like {S} {e} {f} h = go (leaf-like h)
   where
@@ -130,14 +130,14 @@ both-same : {A : Type 0} {P : A → Type 0} {o u : Option A} → Both P o u → 
 both-same b-none = refl
 both-same (b-some p) = refl
 
-pub ident-same : {S : Setting} {e f : Expr} → Like S e f → identOf e ≡ identOf f
+pub ident-same : {S : Setting} {e f : Expr} → ExprLike S e f → identOf e ≡ identOf f
 ident-same h = both-same (ident-like h)
 
 pub has-leaf : {S : Setting} {a b : Leaf} (xs : List Name) → LeafLike S a b → leafHas xs a ≡ leafHas xs b
 unfolding leafHas
 has-leaf xs h = rw (leafHas, both-same (ident-leaf h))
 
-pub is-like : {S : Setting} {e f : Expr} (w : String) → Like S e f → identIs e w ≡ identIs f w
+pub is-like : {S : Setting} {e f : Expr} (w : String) → ExprLike S e f → identIs e w ≡ identIs f w
 unfolding identIs
 is-like w h = rw (identIs, ident-same h)
 
@@ -157,12 +157,8 @@ unfolding lastNamed
 last-like f g n x nil₂ = o-none
 last-like {R = R} f g n x (cons₂ {a = a} {b = b} h k) = go (last-like f g n x k) (alike (ap (same x) (n a b h)))
   where
-    here : (t : Bool) → Opt R (elim t [ true ↦ some a | false ↦ none ]) (elim t [ true ↦ some b | false ↦ none ])
-    here true = o-some h
-    here false = o-none
-
     alike : {t u : Bool} → t ≡ u → Opt R (elim t [ true ↦ some a | false ↦ none ]) (elim u [ true ↦ some b | false ↦ none ])
-    alike {u = u} e = rw e (here u)
+    alike {u = u} e = rw e (opt-either u (o-some h) o-none)
 
     go : {o u : Option _} {p q : Option _} → Opt R o u → Opt R p q → Opt R (elim o [ some b ↦ some b | none ↦ p ]) (elim u [ some b ↦ some b | none ↦ q ])
     go o-none q = q

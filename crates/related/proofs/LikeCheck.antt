@@ -12,15 +12,15 @@ use Rattle.rules.specs.Assets.{narrowWrapping}
 use Rattle.rules.specs.Check.{clausePredicate, checkLocal, checkBody, clauseAssets, paramTypes, checkEntry, madeUp, checkDefault, checkField, checkGenesis, beforeEntries, check}
 use Rattle.related.proofs.Alike.{Setting, a-ret, Alike, a-same, a-bind, a-then, a-some, a-each}
 use Rattle.rules.proofs.Pure.{pure-declared}
-use Rattle.related.proofs.Like.{Head, SameField, Like, leaf~, span-like, id-like, last-like, SameEnv, same-new, same-genesis, same-bound}
+use Rattle.related.proofs.Like.{Head, SameField, ExprLike, leaf~, span-like, id-like, last-like, SameEnv, same-new, same-genesis, same-bound}
 use Rattle.related.proofs.LikeTyping.{AskedLike, name-like, a-ask-of, a-tyOf}
 use Rattle.related.proofs.LikeStatements.{StmtLike, guard~, bind~, emit~, assign~, do~, a-emit, a-assign, a-stmt-types, a-predicate, a-recipient, a-no-asset, a-assets, a-narrow-all}
-use Rattle.related.proofs.LikeEntries.{ClauseLike, limits~, denies~, mints~, after~, Idle, idle, a-clauses, EntryLike, a-sums, a-key-kinds}
+use Rattle.related.proofs.LikeEntries.{ClauseLike, limits~, denies~, mints~, after~, IdleClause, idle, a-clauses, EntryLike, a-sums, a-key-kinds}
 
 pub record FieldLike (S : Setting) (f g : Field) : Type 0 where
   pub head : Head f g
   pub nspan : f .nspan ≡ g .nspan
-  pub default : Opt (Like S) (f .default) (g .default)
+  pub default : Opt (ExprLike S) (f .default) (g .default)
   pub same-field : SameField S (f .name)
 
 -- two models, of whose fields, expressions, statements and entries this holds one by one
@@ -33,7 +33,7 @@ pub record ModelBy (F : Field → Field → Type 0) (E : Expr → Expr → Type 
 
 -- two models, the names of which are looked up in those of the setting
 abbrev pub PartLike : Setting → Model → Model → Type 0
-PartLike S = ModelBy (FieldLike S) (Like S) (StmtLike S) (EntryLike S)
+PartLike S = ModelBy (FieldLike S) (ExprLike S) (StmtLike S) (EntryLike S)
 
 -- the models of the setting themselves
 abbrev pub ModelLike : Setting → Type 0
@@ -49,7 +49,7 @@ module _ {S : Setting} where
   a-clause e mints~ = a-ret tt
   a-clause e (after~ h k) = a-ret tt
 
-  a-local : {e f : Expr} (t : Ty) → Like S e f → Alike S (checkLocal e t) (checkLocal f t)
+  a-local : {e f : Expr} (t : Ty) → ExprLike S e f → Alike S (checkLocal e t) (checkLocal f t)
   unfolding checkLocal
   a-local t h = rw (span-like h) (a-same (search pure-declared))
 
@@ -69,11 +69,11 @@ module _ {S : Setting} where
   a-clause-assets mints~ = a-ret tt
   a-clause-assets (after~ h k) = a-then (a-some h (λ e f r. a-no-asset r)) (a-some k (λ e f r. a-no-asset r))
 
-  idle-clause : (Γ : Env) (c : Clause) → Idle c → Alike S (clausePredicate Γ c) (ret tt)
+  idle-clause : (Γ : Env) (c : Clause) → IdleClause c → Alike S (clausePredicate Γ c) (ret tt)
   unfolding clausePredicate
   idle-clause Γ c idle = a-ret tt
 
-  idle-assets : (c : Clause) → Idle c → Alike S (clauseAssets c) (ret tt)
+  idle-assets : (c : Clause) → IdleClause c → Alike S (clauseAssets c) (ret tt)
   unfolding clauseAssets ifSome _>>_ _>>=_
   idle-assets c idle = a-ret tt
 
@@ -93,11 +93,11 @@ module _ {S : Setting} where
   a-made-up : {Γ Δ : Env} {f g : Field} → SameEnv S Γ Δ → FieldLike S f g → AskedLike S (madeUp Γ f) (madeUp Δ g)
   unfolding madeUp
   a-made-up {f = f} e h = record {
-    expr = rw (h .nspan, ← h .head .name) (leaf~ (S .line-itself 0) (id-like (f .name) (h .same-field)));
+    expr = rw (h .nspan, ← h .head .name) (leaf~ (S .line-zero) (id-like (f .name) (h .same-field)));
     ty = rw (← h .head .name, name-like e (f .name) (h .same-field)) (a-ret _);
   }
 
-  a-default : {Γ Δ : Env} {f g : Field} {v w : Expr} → SameEnv S Γ Δ → FieldLike S f g → Like S v w → Alike S (checkDefault Γ f v) (checkDefault Δ g w)
+  a-default : {Γ Δ : Env} {f g : Field} {v w : Expr} → SameEnv S Γ Δ → FieldLike S f g → ExprLike S v w → Alike S (checkDefault Γ f v) (checkDefault Δ g w)
   unfolding checkDefault
   a-default e h k = a-then (rw (h .head .ty, span-like k) (a-same (search pure-declared))) (a-assign e Set (a-made-up e h) (a-ask-of e k))
 

@@ -4,7 +4,7 @@ use mathlib.Core.List.{List, [], _∷_, _++_, map, Forall₂, Forall₂·nil as 
 use mathlib.Core.Bool.{Bool, true, false, not, _&&_, _||_}
 use mathlib.Core.Option.{Option, none, some, Option·map}
 use Rattle.text.specs.Text.{same}
-use Rattle.sheet.proofs.Paired.{Opt, o-none, o-some, append₂}
+use Rattle.sheet.proofs.Paired.{Opt, o-none, o-some, opt-either, append₂}
 use Rattle.rules.specs.Text.{Name, is, isOne, among}
 use Rattle.rules.specs.Ast.{Add, AssignOp, Set, AddTo, SubFrom, Leaf, Expr, Exprs, Param, Clause, limits, denies, mints, after, Entry, Stmt, span, typeName}
 use Rattle.rules.specs.Asking.{Ty, Rule, ret, _>>=_, forEach}
@@ -14,38 +14,38 @@ use Rattle.rules.specs.Arithmetic.{any, isOp, acknowledged, amountOf, isMintedA
 use Rattle.rules.specs.KeyKinds.{Keyed, keyedHere, keyedCalls, keyedCallsAll, present, clauseExprs, bodyExprs, entryExprs, keyedIn, Use, nameParams, isKeyed, isNameKey, usesOf, uses, checkKeyKinds}
 use Rattle.related.proofs.Alike.{Setting, a-ret, Alike, a-same, a-bind, a-some, a-maybe, a-each}
 use Rattle.rules.proofs.Pure.{pure, p-uses}
-use Rattle.related.proofs.Like.{SameField, Both, b-none, b-some, LeafLike, l-text, l-same, Like, leaf~, unary~, binary~, field~, call~, wrap~, Likes, nil~, more~, span-like, leaf-like, DotLike, dot-like, ident-like, ident-same, has-leaf}
+use Rattle.related.proofs.Like.{SameField, Both, b-none, b-some, LeafLike, l-text, l-same, ExprLike, leaf~, unary~, binary~, field~, call~, wrap~, ExprsLike, nil~, more~, span-like, leaf-like, DotLike, dot-like, ident-like, ident-same, has-leaf}
 use Rattle.related.proofs.LikeTyping.{of-type}
 use Rattle.related.proofs.LikeStatements.{StmtLike, guard~, bind~, emit~, assign~, do~}
 
 pub data ClauseLike (S : Setting) : Clause → Clause → Type 0 where
-  limits~ : {e f : Expr} → Like S e f → ClauseLike S (limits e) (limits f)
-  denies~ : {e f : Expr} → Like S e f → ClauseLike S (denies e) (denies f)
+  limits~ : {e f : Expr} → ExprLike S e f → ClauseLike S (limits e) (limits f)
+  denies~ : {e f : Expr} → ExprLike S e f → ClauseLike S (denies e) (denies f)
   mints~ : ClauseLike S mints mints
-  after~ : {t u f g : Option Expr} → Opt (Like S) t u → Opt (Like S) f g → ClauseLike S (after t f) (after u g)
+  after~ : {t u f g : Option Expr} → Opt (ExprLike S) t u → Opt (ExprLike S) f g → ClauseLike S (after t f) (after u g)
 
 -- a clause that no rule reads
-pub data Idle : Clause → Type 0 where
-  idle : Idle (after none none)
+pub data IdleClause : Clause → Type 0 where
+  idle : IdleClause (after none none)
 
 -- clauses one by one, but for idle ones on the left
 pub data ClausesLike (S : Setting) : List Clause → List Clause → Type 0 where
   c-nil : ClausesLike S [] []
   c-cons : {c d : Clause} {cs ds : List Clause} → ClauseLike S c d → ClausesLike S cs ds → ClausesLike S (c ∷ cs) (d ∷ ds)
-  c-skip : {c : Clause} {cs ds : List Clause} → Idle c → ClausesLike S cs ds → ClausesLike S (c ∷ cs) ds
+  c-skip : {c : Clause} {cs ds : List Clause} → IdleClause c → ClausesLike S cs ds → ClausesLike S (c ∷ cs) ds
 
 pub each-clauses : {S : Setting} {cs ds : List Clause} → Forall₂ (ClauseLike S) cs ds → ClausesLike S cs ds
 each-clauses nil₂ = c-nil
 each-clauses (cons₂ h k) = c-cons h (each-clauses k)
 
 pub a-clauses : {S : Setting} {cs ds : List Clause} {f g : Clause → Rule Unit}
-    → ((c d : Clause) → ClauseLike S c d → Alike S (f c) (g d)) → ((c : Clause) → Idle c → Alike S (f c) (ret tt)) → ClausesLike S cs ds → Alike S (forEach cs f) (forEach ds g)
+    → ((c d : Clause) → ClauseLike S c d → Alike S (f c) (g d)) → ((c : Clause) → IdleClause c → Alike S (f c) (ret tt)) → ClausesLike S cs ds → Alike S (forEach cs f) (forEach ds g)
 unfolding forEach _>>=_
 a-clauses k i c-nil = a-ret tt
 a-clauses k i (c-cons h r) = a-bind (k _ _ h) (λ _. a-clauses k i r)
 a-clauses {f = f} {g = g} k i (c-skip {c = c} {cs = cs} {ds = ds} h r) = a-bind {p = f c} {q = ret tt} {f = λ _. forEach cs f} {g = λ _. forEach ds g} (i c h) (λ _. a-clauses k i r)
 
-any-clauses : {S : Setting} {cs ds : List Clause} (p : Clause → Bool) → ((c d : Clause) → ClauseLike S c d → p c ≡ p d) → ((c : Clause) → Idle c → p c ≡ false) → ClausesLike S cs ds → any p cs ≡ any p ds
+any-clauses : {S : Setting} {cs ds : List Clause} (p : Clause → Bool) → ((c d : Clause) → ClauseLike S c d → p c ≡ p d) → ((c : Clause) → IdleClause c → p c ≡ false) → ClausesLike S cs ds → any p cs ≡ any p ds
 unfolding any
 any-clauses p k i c-nil = refl
 any-clauses p k i (c-cons h r) = ap₂ _||_ (k _ _ h) (any-clauses p k i r)
@@ -60,33 +60,25 @@ pub record EntryLike (S : Setting) (a b : Entry) : Type 0 where
 record KeyedLike (S : Setting) (a b : Keyed) : Type 0 where
   map : a .0 ≡ b .0
   same-field : SameField S (a .0)
-  key : Like S (a .1) (b .1)
+  key : ExprLike S (a .1) (b .1)
 
 any-like : {A B : Type 0} {R : A → B → Type 0} {as' : List A} {bs : List B} (p : A → Bool) (q : B → Bool) → ((a : A) (b : B) → R a b → p a ≡ q b) → Forall₂ R as' bs → any p as' ≡ any q bs
 unfolding any
 any-like p q k nil₂ = refl
 any-like p q k (cons₂ r h) = ap₂ _||_ (k _ _ r) (any-like p q k h)
 
-idle-cap : (x : Name) (c : Clause) → Idle c → limitsCap x c ≡ false
+idle-cap : (x : Name) (c : Clause) → IdleClause c → limitsCap x c ≡ false
 unfolding limitsCap
 idle-cap x c idle = refl
 
-idle-mints : (c : Clause) → Idle c → isMints c ≡ false
+idle-mints : (c : Clause) → IdleClause c → isMints c ≡ false
 unfolding isMints
 idle-mints c idle = refl
-
-unless-like : {A B : Type 0} {R : A → B → Type 0} {o : Option A} {u : Option B} (b : Bool) → Opt R o u → Opt R (elim b [ true ↦ o | false ↦ none ]) (elim b [ true ↦ u | false ↦ none ])
-unless-like true h = h
-unless-like false h = o-none
-
-unless-not : {A B : Type 0} {R : A → B → Type 0} {o : Option A} {u : Option B} (b : Bool) → Opt R o u → Opt R (elim b [ true ↦ none | false ↦ o ]) (elim b [ true ↦ none | false ↦ u ])
-unless-not true h = o-none
-unless-not false h = h
 
 module _ {S : Setting} where
   -- ------------------------------------------------------------ terms
 
-  acknowledged-like : {e f : Expr} → Like S e f → acknowledged e ≡ acknowledged f
+  acknowledged-like : {e f : Expr} → ExprLike S e f → acknowledged e ≡ acknowledged f
   unfolding acknowledged
   acknowledged-like (leaf~ l h) = refl
   acknowledged-like (unary~ l h) = refl
@@ -95,7 +87,7 @@ module _ {S : Setting} where
   acknowledged-like (call~ l h k) = refl
   acknowledged-like (wrap~ l h) = refl
 
-  amount-like : {e f : Expr} (xs : List Name) → Like S e f → amountOf e xs ≡ amountOf f xs
+  amount-like : {e f : Expr} (xs : List Name) → ExprLike S e f → amountOf e xs ≡ amountOf f xs
   unfolding amountOf
   amount-like xs h = go (dot-like h)
     where
@@ -109,7 +101,7 @@ module _ {S : Setting} where
       go o-none = refl
       go (o-some r) = rw (r .name, ident-same (r .base))
 
-  is-int : {e f : Expr} → Like S e f → isSome (intOf e) ≡ isSome (intOf f)
+  is-int : {e f : Expr} → ExprLike S e f → isSome (intOf e) ≡ isSome (intOf f)
   unfolding intOf isSome literal
   is-int h = go (leaf-like h)
     where
@@ -124,13 +116,13 @@ module _ {S : Setting} where
       go o-none = refl
       go (o-some r) = leaf r
 
-  terms-like : {e f : Expr} → Like S e f → Forall₂ (Like S) (sumTerms e) (sumTerms f)
+  terms-like : {e f : Expr} → ExprLike S e f → Forall₂ (ExprLike S) (sumTerms e) (sumTerms f)
   unfolding sumTerms
   terms-like (leaf~ l h) = cons₂ (leaf~ l h) nil₂
   terms-like (unary~ l h) = cons₂ (unary~ l h) nil₂
   terms-like (binary~ {o = o} l h k) = go (isOp o Add) (append₂ (terms-like h) (terms-like k)) (cons₂ (binary~ l h k) nil₂)
     where
-      go : {as' bs : List Expr} {cs ds : List Expr} (b : Bool) → Forall₂ (Like S) as' bs → Forall₂ (Like S) cs ds → Forall₂ (Like S) (elim b [ true ↦ as' | false ↦ cs ]) (elim b [ true ↦ bs | false ↦ ds ])
+      go : {as' bs : List Expr} {cs ds : List Expr} (b : Bool) → Forall₂ (ExprLike S) as' bs → Forall₂ (ExprLike S) cs ds → Forall₂ (ExprLike S) (elim b [ true ↦ as' | false ↦ cs ]) (elim b [ true ↦ bs | false ↦ ds ])
       go true h k = h
       go false h k = k
   terms-like (field~ l h) = cons₂ (field~ l h) nil₂
@@ -142,7 +134,7 @@ module _ {S : Setting} where
   mutual
     unfolding mentions
 
-    mentions-like : {e f : Expr} (x : Name) → Like S e f → mentions e x ≡ mentions f x
+    mentions-like : {e f : Expr} (x : Name) → ExprLike S e f → mentions e x ≡ mentions f x
     mentions-like x (leaf~ l h) = has-leaf (x ∷ []) h
     mentions-like x (unary~ l h) = mentions-like x h
     mentions-like x (binary~ l h k) = rw (mentions-like x h, mentions-like x k)
@@ -150,11 +142,11 @@ module _ {S : Setting} where
     mentions-like x (call~ l h k) = rw (mentions-like x h, mentions-any x k)
     mentions-like x (wrap~ l h) = refl
 
-    mentions-any : {es fs : Exprs} (x : Name) → Likes S es fs → mentionsAny es x ≡ mentionsAny fs x
+    mentions-any : {es fs : Exprs} (x : Name) → ExprsLike S es fs → mentionsAny es x ≡ mentionsAny fs x
     mentions-any x nil~ = refl
     mentions-any x (more~ h k) = rw (mentions-like x h, mentions-any x k)
 
-  subtracts-like : {e f : Expr} (x : Name) → Like S e f → subtracts e x ≡ subtracts f x
+  subtracts-like : {e f : Expr} (x : Name) → ExprLike S e f → subtracts e x ≡ subtracts f x
   unfolding subtracts
   subtracts-like x (leaf~ l h) = refl
   subtracts-like x (unary~ l h) = refl
@@ -163,11 +155,11 @@ module _ {S : Setting} where
   subtracts-like x (call~ l h k) = refl
   subtracts-like x (wrap~ l h) = refl
 
-  bounds-like : {a b c d : Expr} (x : Name) → Like S a c → Like S b d → upperBounds a b x ≡ upperBounds c d x
+  bounds-like : {a b c d : Expr} (x : Name) → ExprLike S a c → ExprLike S b d → upperBounds a b x ≡ upperBounds c d x
   unfolding upperBounds
   bounds-like x h k = rw (mentions-like x h, mentions-like x k, subtracts-like x k)
 
-  caps-like : {e f : Expr} (x : Name) → Like S e f → capsFromAbove e x ≡ capsFromAbove f x
+  caps-like : {e f : Expr} (x : Name) → ExprLike S e f → capsFromAbove e x ≡ capsFromAbove f x
   unfolding capsFromAbove
   caps-like x (leaf~ l h) = refl
   caps-like x (unary~ l h) = refl
@@ -189,25 +181,25 @@ module _ {S : Setting} where
 
   -- ------------------------------------------------------------ sums
 
-  target-like : {a b c d : Expr} → Like S a c → Like S b d → sameTarget a b ≡ sameTarget c d
+  target-like : {a b c d : Expr} → ExprLike S a c → ExprLike S b d → sameTarget a b ≡ sameTarget c d
   unfolding sameTarget
   target-like {c = c} h k = rw (sameTarget, ident-same h) (ap (λ (o : Option Name). elim (identOf c) [ none ↦ false | some x ↦ elim o [ none ↦ false | some y ↦ same x y ] ]) (ident-same k))
 
-  without-like : {t u : Expr} {es fs : List Expr} → Like S t u → Forall₂ (Like S) es fs → Opt (Forall₂ (Like S)) (without t es) (without u fs)
+  without-like : {t u : Expr} {es fs : List Expr} → ExprLike S t u → Forall₂ (ExprLike S) es fs → Opt (Forall₂ (ExprLike S)) (without t es) (without u fs)
   unfolding without
   without-like h nil₂ = o-none
   without-like {t} {u} h (cons₂ {a = a} {b = b} {l₁ = as'} {l₂ = bs} k r) = rw (without, target-like h k) (go (sameTarget u b) (without-like h r))
     where
-      others : {o v : Option (List Expr)} → Opt (Forall₂ (Like S)) o v → Opt (Forall₂ (Like S)) (Option·map (λ us. a ∷ us) o) (Option·map (λ us. b ∷ us) v)
+      others : {o v : Option (List Expr)} → Opt (Forall₂ (ExprLike S)) o v → Opt (Forall₂ (ExprLike S)) (Option·map (λ us. a ∷ us) o) (Option·map (λ us. b ∷ us) v)
       others o-none = o-none
       others (o-some q) = o-some (cons₂ k q)
 
-      go : (c : Bool) {o v : Option (List Expr)} → Opt (Forall₂ (Like S)) o v
-          → Opt (Forall₂ (Like S)) (elim c [ true ↦ some as' | false ↦ Option·map (λ us. a ∷ us) o ]) (elim c [ true ↦ some bs | false ↦ Option·map (λ us. b ∷ us) v ])
+      go : (c : Bool) {o v : Option (List Expr)} → Opt (Forall₂ (ExprLike S)) o v
+          → Opt (Forall₂ (ExprLike S)) (elim c [ true ↦ some as' | false ↦ Option·map (λ us. a ∷ us) o ]) (elim c [ true ↦ some bs | false ↦ Option·map (λ us. b ∷ us) v ])
       go true q = o-some r
       go false q = others q
 
-  sum-like : {e f : Expr} → Like S e f → isSum e ≡ isSum f
+  sum-like : {e f : Expr} → ExprLike S e f → isSum e ≡ isSum f
   unfolding isSum
   sum-like (leaf~ l h) = refl
   sum-like (unary~ l h) = refl
@@ -216,9 +208,9 @@ module _ {S : Setting} where
   sum-like (call~ l h k) = refl
   sum-like (wrap~ l h) = refl
 
-  addends-like : {t u v w : Expr} (o : AssignOp) → Like S t u → Like S v w → Opt (Forall₂ (Like S)) (addends o t v) (addends o u w)
+  addends-like : {t u v w : Expr} (o : AssignOp) → ExprLike S t u → ExprLike S v w → Opt (Forall₂ (ExprLike S)) (addends o t v) (addends o u w)
   unfolding addends
-  addends-like {w = w} Set h k = rw (addends, sum-like k) (unless-like (isSum w) (without-like h (terms-like k)))
+  addends-like {w = w} Set h k = rw (addends, sum-like k) (opt-either (isSum w) (without-like h (terms-like k)) o-none)
   addends-like AddTo h k = o-some (terms-like k)
   addends-like SubFrom h k = o-none
 
@@ -229,7 +221,7 @@ module _ {S : Setting} where
   is-mints mints~ = refl
   is-mints (after~ h k) = refl
 
-  bounded-like : {a b : Entry} {e f : Expr} → EntryLike S a b → Like S e f → bounded a e ≡ bounded b f
+  bounded-like : {a b : Entry} {e f : Expr} → EntryLike S a b → ExprLike S e f → bounded a e ≡ bounded b f
   unfolding bounded boundedAddend isMintedAmount
   bounded-like {b = b} h k = rw (is-int k, h .params, amount-like (assetParams (b .params)) k, amount-like (map (λ p. p .name) (b .params)) k, any-clauses isMints (λ c d q. is-mints q) idle-mints (h .clauses))
 
@@ -239,7 +231,7 @@ module _ {S : Setting} where
   a-sum ps q (bind~ h) = a-ret tt
   a-sum ps q (emit~ k h) = a-ret tt
   a-sum {a} {b} ps q (assign~ {o = o} {w = w} h k) =
-      a-some (rw (acknowledged-like k) (unless-not (acknowledged w) (addends-like o h k)))
+      a-some (rw (acknowledged-like k) (opt-either (acknowledged w) o-none (addends-like o h k)))
       (λ es fs r.
       let n : any (λ t. not (bounded a t)) es ≡ any (λ t. not (bounded b t)) fs = any-like _ _ (λ e f n. ap not (bounded-like q n)) r in
       rw n (a-maybe (ident-same h) (λ x. rw (bound-like x q) (a-same (search pure)))))
@@ -251,7 +243,7 @@ module _ {S : Setting} where
 
   -- ------------------------------------------------------------ the kinds of keys
 
-  here-like : {o u : Option Dot} {es fs : Exprs} → Opt (DotLike S) o u → Likes S es fs → Forall₂ (KeyedLike S) (keyedHere o es) (keyedHere u fs)
+  here-like : {o u : Option Dot} {es fs : Exprs} → Opt (DotLike S) o u → ExprsLike S es fs → Forall₂ (KeyedLike S) (keyedHere o es) (keyedHere u fs)
   unfolding keyedHere
   here-like o-none h = nil₂
   here-like (o-some r) nil~ = nil₂
@@ -268,7 +260,7 @@ module _ {S : Setting} where
   mutual
     unfolding keyedCalls
 
-    calls-like : {e f : Expr} → Like S e f → Forall₂ (KeyedLike S) (keyedCalls e) (keyedCalls f)
+    calls-like : {e f : Expr} → ExprLike S e f → Forall₂ (KeyedLike S) (keyedCalls e) (keyedCalls f)
     calls-like (leaf~ l h) = nil₂
     calls-like (unary~ l h) = calls-like h
     calls-like (binary~ l h k) = append₂ (calls-like h) (calls-like k)
@@ -276,16 +268,16 @@ module _ {S : Setting} where
     calls-like (call~ l h k) = append₂ (here-like (dot-like h) k) (append₂ (calls-like h) (calls-all k))
     calls-like (wrap~ l h) = calls-like h
 
-    calls-all : {es fs : Exprs} → Likes S es fs → Forall₂ (KeyedLike S) (keyedCallsAll es) (keyedCallsAll fs)
+    calls-all : {es fs : Exprs} → ExprsLike S es fs → Forall₂ (KeyedLike S) (keyedCallsAll es) (keyedCallsAll fs)
     calls-all nil~ = nil₂
     calls-all (more~ h k) = append₂ (calls-like h) (calls-all k)
 
-  present-like : {o u : Option Expr} → Opt (Like S) o u → Forall₂ (Like S) (present o) (present u)
+  present-like : {o u : Option Expr} → Opt (ExprLike S) o u → Forall₂ (ExprLike S) (present o) (present u)
   unfolding present
   present-like o-none = nil₂
   present-like (o-some h) = cons₂ h nil₂
 
-  clauses-like : {cs ds : List Clause} → ClausesLike S cs ds → Forall₂ (Like S) (clauseExprs cs) (clauseExprs ds)
+  clauses-like : {cs ds : List Clause} → ClausesLike S cs ds → Forall₂ (ExprLike S) (clauseExprs cs) (clauseExprs ds)
   unfolding clauseExprs present
   clauses-like c-nil = nil₂
   clauses-like (c-cons (limits~ h) k) = cons₂ h (clauses-like k)
@@ -294,7 +286,7 @@ module _ {S : Setting} where
   clauses-like (c-cons (after~ h j) k) = append₂ (present-like h) (append₂ (present-like j) (clauses-like k))
   clauses-like (c-skip idle k) = clauses-like k
 
-  body-like : {ss us : List Stmt} → Forall₂ (StmtLike S) ss us → Forall₂ (Like S) (bodyExprs ss) (bodyExprs us)
+  body-like : {ss us : List Stmt} → Forall₂ (StmtLike S) ss us → Forall₂ (ExprLike S) (bodyExprs ss) (bodyExprs us)
   unfolding bodyExprs
   body-like nil₂ = nil₂
   body-like (cons₂ (guard~ h) k) = cons₂ h (body-like k)
@@ -303,16 +295,16 @@ module _ {S : Setting} where
   body-like (cons₂ (assign~ h j) k) = cons₂ h (cons₂ j (body-like k))
   body-like (cons₂ (do~ h) k) = cons₂ h (body-like k)
 
-  entry-exprs : {a b : Entry} → EntryLike S a b → Forall₂ (Like S) (entryExprs a) (entryExprs b)
+  entry-exprs : {a b : Entry} → EntryLike S a b → Forall₂ (ExprLike S) (entryExprs a) (entryExprs b)
   unfolding entryExprs
   entry-exprs h = append₂ (clauses-like (h .clauses)) (body-like (h .body))
 
-  keyed-in : {es fs : List Expr} → Forall₂ (Like S) es fs → Forall₂ (KeyedLike S) (keyedIn es) (keyedIn fs)
+  keyed-in : {es fs : List Expr} → Forall₂ (ExprLike S) es fs → Forall₂ (KeyedLike S) (keyedIn es) (keyedIn fs)
   unfolding keyedIn
   keyed-in nil₂ = nil₂
   keyed-in (cons₂ h k) = append₂ (calls-like h) (keyed-in k)
 
-  name-key : {e f : Expr} (names : List Name) → Like S e f → isNameKey names e ≡ isNameKey names f
+  name-key : {e f : Expr} (names : List Name) → ExprLike S e f → isNameKey names e ≡ isNameKey names f
   unfolding isNameKey
   name-key names h = rw (isNameKey, ident-same h)
 

@@ -17,7 +17,7 @@ use Rattle.rules.specs.Statements.{emitMismatch, checkEmitField, checkEmitField
 use Rattle.rules.specs.Assets.{makesAsset, noAssetCall, noAssetCalls, consumedAssetCall, assetCallsConsumed, wraps, wrapsAny, reaches, narrowArg, narrowValues, narrowSet, narrowStmt, wrappedAfter, narrowStmts}
 use Rattle.rules.proofs.Pure.{pure}
 use Rattle.related.proofs.Alike.{Setting, a-ret, Alike, a-same, a-bind, a-then, a-when, a-some, a-maybe, a-else, a-each, a-for}
-use Rattle.related.proofs.Like.{Head, SameField, Both, b-none, b-some, Like, leaf~, unary~, binary~, field~, call~, wrap~, Likes, nil~, more~, span-like, DotLike, dot-like, call-like, list-like, ident-like, ident-same, has-leaf, is-like, SameEnv}
+use Rattle.related.proofs.Like.{Head, SameField, Both, b-none, b-some, ExprLike, leaf~, unary~, binary~, field~, call~, wrap~, ExprsLike, nil~, more~, span-like, DotLike, dot-like, call-like, list-like, ident-like, ident-same, has-leaf, is-like, SameEnv}
 use Rattle.related.proofs.LikeTyping.{TextOnly, t-ret, a-text, t-expect, of-type, AskedLike, field-in, param-like, a-keyed, int-like, a-typings, a-ask-of, a-tyOf}
 
 -- both models have the same event of this name
@@ -25,17 +25,17 @@ abbrev pub SameEvent : Setting → Name → Type 0
 SameEvent S x = eventNamed (S .left) x ≡ eventNamed (S .right) x
 
 pub data StmtLike (S : Setting) : Stmt → Stmt → Type 0 where
-  guard~ : {e f : Expr} → Like S e f → StmtLike S (guard e) (guard f)
-  bind~ : {x : Name} {e f : Expr} → Like S e f → StmtLike S (bind x e) (bind x f)
-  emit~ : {x : Name} {es fs : List Expr} → SameEvent S x → Forall₂ (Like S) es fs → StmtLike S (emit x es) (emit x fs)
-  assign~ : {s : ℕ} {o : AssignOp} {t u v w : Expr} → Like S t u → Like S v w → StmtLike S (assign s o t v) (assign s o u w)
-  do~ : {e f : Expr} → Like S e f → StmtLike S (do' e) (do' f)
+  guard~ : {e f : Expr} → ExprLike S e f → StmtLike S (guard e) (guard f)
+  bind~ : {x : Name} {e f : Expr} → ExprLike S e f → StmtLike S (bind x e) (bind x f)
+  emit~ : {x : Name} {es fs : List Expr} → SameEvent S x → Forall₂ (ExprLike S) es fs → StmtLike S (emit x es) (emit x fs)
+  assign~ : {s : ℕ} {o : AssignOp} {t u v w : Expr} → ExprLike S t u → ExprLike S v w → StmtLike S (assign s o t v) (assign s o u w)
+  do~ : {e f : Expr} → ExprLike S e f → StmtLike S (do' e) (do' f)
 
 -- an argument and its parameter
 abbrev ArgLike : Setting → Expr × Param → Expr × Param → Type 0
-ArgLike S a b = Like S (a .0) (b .0) × (a .1 ≡ b .1)
+ArgLike S a b = ExprLike S (a .0) (b .0) × (a .1 ≡ b .1)
 
-zip-like : {S : Setting} {es fs : List Expr} (ps : List Param) → Forall₂ (Like S) es fs → Forall₂ (ArgLike S) (zip es ps) (zip fs ps)
+zip-like : {S : Setting} {es fs : List Expr} (ps : List Param) → Forall₂ (ExprLike S) es fs → Forall₂ (ArgLike S) (zip es ps) (zip fs ps)
 unfolding zip
 zip-like ps nil₂ = nil₂
 zip-like [] (cons₂ h k) = nil₂
@@ -49,7 +49,7 @@ address-like : (m n : Model) (x : Name) → Opt Head (fieldNamed m x) (fieldName
 unfolding isAddressField
 address-like m n x h = of-type false (λ f. is (typeName (f .ty)) "Q_Address") (λ f g e. rw e) h
 
-wrapping-like : {S : Setting} {e f : Expr} → Like S e f → isWrapping e ≡ isWrapping f
+wrapping-like : {S : Setting} {e f : Expr} → ExprLike S e f → isWrapping e ≡ isWrapping f
 unfolding isWrapping
 wrapping-like (leaf~ l h) = refl
 wrapping-like (unary~ l h) = refl
@@ -59,7 +59,7 @@ wrapping-like (call~ l h k) = refl
 wrapping-like (wrap~ l h) = refl
 
 -- where the bare name of an expression is looked at
-a-name : {S : Setting} {e g : Expr} {f h : Name → Rule Unit} → Like S e g → ((x : Name) → SameField S x → Alike S (f x) (h x)) → Alike S (ifSome (identOf e) f) (ifSome (identOf g) h)
+a-name : {S : Setting} {e g : Expr} {f h : Name → Rule Unit} → ExprLike S e g → ((x : Name) → SameField S x → Alike S (f x) (h x)) → Alike S (ifSome (identOf e) f) (ifSome (identOf g) h)
 unfolding ifSome
 a-name {S} {e} {g} {f} {h} l k = go (ident-like l)
   where
@@ -79,29 +79,29 @@ t-literal Γ x v = t-some _ _ (λ t. t-some _ _ (λ m. t-some _ _ (λ n. t-expec
 module _ {S : Setting} {Γ Δ : Env} (same : SameEnv S Γ Δ) where
   -- ------------------------------------------------------------ emits
 
-  mismatch-like : {e f : Expr} (want got : Ty) → Like S e f → emitMismatch Γ e want got ≡ emitMismatch Δ f want got
+  mismatch-like : {e f : Expr} (want got : Ty) → ExprLike S e f → emitMismatch Γ e want got ≡ emitMismatch Δ f want got
   unfolding emitMismatch
   mismatch-like want got h = ap (λ (b : Bool). elim (eqTy want TName) [ true ↦ not (eqTy got TName) || not b | false ↦ isTy got (TName ∷ Collection ∷ []) || eqTy want Collection || (eqTy got Address && oneWord want) ]) (param-like same h)
 
-  a-emit-field : {e f : Expr} (p : Param) → Like S e f → Alike S (checkEmitField Γ e p) (checkEmitField Δ f p)
+  a-emit-field : {e f : Expr} (p : Param) → ExprLike S e f → Alike S (checkEmitField Γ e p) (checkEmitField Δ f p)
   unfolding checkEmitField
   a-emit-field p h = a-bind (a-tyOf same h) (λ t. rw (span-like h, mismatch-like _ t h) (a-same (search pure)))
 
-  pub a-emit : {es fs : List Expr} (x : Name) → SameEvent S x → Forall₂ (Like S) es fs → Alike S (checkEmitFields Γ x es) (checkEmitFields Δ x fs)
+  pub a-emit : {es fs : List Expr} (x : Name) → SameEvent S x → Forall₂ (ExprLike S) es fs → Alike S (checkEmitFields Γ x es) (checkEmitFields Δ x fs)
   unfolding checkEmitFields
   a-emit x q h = a-maybe (rw (same .left, same .right) q) (λ d. a-each (zip-like (d .params) h) (λ a b r. rw (r .1) (a-emit-field (b .1) (r .0))))
 
   -- ------------------------------------------------------------ assignments
 
-  a-address : {v w : Expr} (o : AssignOp) (x : Name) (slot given : Ty) → SameField S x → Like S v w → Alike S (nameIntoAddress Γ o x v slot given) (nameIntoAddress Δ o x w slot given)
+  a-address : {v w : Expr} (o : AssignOp) (x : Name) (slot given : Ty) → SameField S x → ExprLike S v w → Alike S (nameIntoAddress Γ o x v slot given) (nameIntoAddress Δ o x w slot given)
   unfolding nameIntoAddress
   a-address o x slot given n h = rw (span-like h, address-like _ _ x (field-in same x n)) (a-same (search pure))
 
-  a-wrap : {v w : Expr} (x : Name) → SameField S x → Like S v w → Alike S (wrappingIntoNarrow Γ x v) (wrappingIntoNarrow Δ x w)
+  a-wrap : {v w : Expr} (x : Name) → SameField S x → ExprLike S v w → Alike S (wrappingIntoNarrow Γ x v) (wrappingIntoNarrow Δ x w)
   unfolding wrappingIntoNarrow
   a-wrap x n h = rw (span-like h, narrow-like _ _ x (field-in same x n), wrapping-like h) (a-same (search pure))
 
-  a-literal : {v w : Expr} (x : Name) → SameField S x → Like S v w → Alike S (literalIntoNarrow Γ x v) (literalIntoNarrow Δ x w)
+  a-literal : {v w : Expr} (x : Name) → SameField S x → ExprLike S v w → Alike S (literalIntoNarrow Γ x v) (literalIntoNarrow Δ x w)
   unfolding literalIntoNarrow
   a-literal {v} {w} x n h = go (int-like h)
     where
@@ -109,7 +109,7 @@ module _ {S : Setting} {Γ Δ : Env} (same : SameEnv S Γ Δ) where
       go (inl e) = rw (e, narrow-like _ _ x (field-in same x n), span-like h) (a-same (search pure))
       go (inr f) = a-text f (t-literal Γ x v) (t-literal Δ x w)
 
-  params-like : {e f : Expr} → Like S e f → fromDeployParams Γ e ≡ fromDeployParams Δ f
+  params-like : {e f : Expr} → ExprLike S e f → fromDeployParams Γ e ≡ fromDeployParams Δ f
   unfolding fromDeployParams
   params-like h = ap₂ _&&_ (same .genesis) (go (dot-like h))
     where
@@ -120,13 +120,13 @@ module _ {S : Setting} {Γ Δ : Env} (same : SameEnv S Γ Δ) where
       go o-none = refl
       go (o-some r) = is-like "deploy_params" (r .base)
 
-  fits-like : {v w : Expr} (o : AssignOp) (slot given : Ty) → Like S v w → slotFits Γ o v slot given ≡ slotFits Δ o w slot given
+  fits-like : {v w : Expr} (o : AssignOp) (slot given : Ty) → ExprLike S v w → slotFits Γ o v slot given ≡ slotFits Δ o w slot given
   unfolding slotFits
   fits-like Set slot given h = rw (params-like h)
   fits-like AddTo slot given h = refl
   fits-like SubFrom slot given h = refl
 
-  a-judge-assign : {t u v w : Expr} (o : AssignOp) (slot given : Ty) → Like S t u → Like S v w → Alike S (judgeAssign Γ o t v slot given) (judgeAssign Δ o u w slot given)
+  a-judge-assign : {t u v w : Expr} (o : AssignOp) (slot given : Ty) → ExprLike S t u → ExprLike S v w → Alike S (judgeAssign Γ o t v slot given) (judgeAssign Δ o u w slot given)
   unfolding judgeAssign
   a-judge-assign o slot given h k =
       a-then (rw (span-like h) (a-same (search pure)))
@@ -140,7 +140,7 @@ module _ {S : Setting} {Γ Δ : Env} (same : SameEnv S Γ Δ) where
 
   -- ------------------------------------------------------------ statements
 
-  a-use : {e f : Expr} → Like S e f → Alike S (checkKeyedUse Γ e) (checkKeyedUse Δ f)
+  a-use : {e f : Expr} → ExprLike S e f → Alike S (checkKeyedUse Γ e) (checkKeyedUse Δ f)
   unfolding checkKeyedUse
   a-use h = a-some (call-like h) (λ c d r. a-keyed same (r .callee) (a-typings same (r .args)))
 
@@ -152,15 +152,15 @@ module _ {S : Setting} {Γ Δ : Env} (same : SameEnv S Γ Δ) where
   a-stmt-types (assign~ {o = o} h k) = a-assign o (a-ask-of same h) (a-ask-of same k)
   a-stmt-types (do~ h) = a-bind (a-tyOf same h) (λ _. a-use h)
 
-  pub a-predicate : {e f : Expr} → Like S e f → Alike S (expectPredicate Γ e) (expectPredicate Δ f)
+  pub a-predicate : {e f : Expr} → ExprLike S e f → Alike S (expectPredicate Γ e) (expectPredicate Δ f)
   unfolding expectPredicate
   a-predicate h = a-bind (a-tyOf same h) (λ t. rw (span-like h) (a-same (search pure)))
 
-  positions-like : {c d : Expr} → Like S c d → positions c ≡ positions d
+  positions-like : {c d : Expr} → ExprLike S c d → positions c ≡ positions d
   unfolding positions
   positions-like h = rw (positions, ident-same h)
 
-  pub a-recipient : {e f : Expr} → Like S e f → Alike S (refuseNameRecipient Γ e) (refuseNameRecipient Δ f)
+  pub a-recipient : {e f : Expr} → ExprLike S e f → Alike S (refuseNameRecipient Γ e) (refuseNameRecipient Δ f)
   unfolding refuseNameRecipient
   a-recipient h =
       a-some (call-like h)
@@ -168,7 +168,7 @@ module _ {S : Setting} {Γ Δ : Env} (same : SameEnv S Γ Δ) where
 
 -- ------------------------------------------------------------ assets
 
-makes-like : {S : Setting} {c d : Expr} → Like S c d → makesAsset c ≡ makesAsset d
+makes-like : {S : Setting} {c d : Expr} → ExprLike S c d → makesAsset c ≡ makesAsset d
 unfolding makesAsset
 makes-like {S} {c} {d} h = go (dot-like h)
   where
@@ -183,7 +183,7 @@ module _ {S : Setting} where
   mutual
     unfolding noAssetCall
 
-    pub a-no-asset : {e f : Expr} → Like S e f → Alike S (noAssetCall e) (noAssetCall f)
+    pub a-no-asset : {e f : Expr} → ExprLike S e f → Alike S (noAssetCall e) (noAssetCall f)
     a-no-asset (leaf~ l h) = a-ret tt
     a-no-asset (unary~ l h) = a-no-asset h
     a-no-asset (binary~ l h k) = a-then (a-no-asset h) (a-no-asset k)
@@ -191,11 +191,11 @@ module _ {S : Setting} where
     a-no-asset (call~ l h k) = a-then (a-then (rw (makes-like h) (a-same (search pure))) (a-no-asset h)) (a-no-assets k)
     a-no-asset (wrap~ l h) = a-no-asset h
 
-    a-no-assets : {es fs : Exprs} → Likes S es fs → Alike S (noAssetCalls es) (noAssetCalls fs)
+    a-no-assets : {es fs : Exprs} → ExprsLike S es fs → Alike S (noAssetCalls es) (noAssetCalls fs)
     a-no-assets nil~ = a-ret tt
     a-no-assets (more~ h k) = a-then (a-no-asset h) (a-no-assets k)
 
-  a-consumed : {e f : Expr} → Like S e f → Alike S (consumedAssetCall e) (consumedAssetCall f)
+  a-consumed : {e f : Expr} → ExprLike S e f → Alike S (consumedAssetCall e) (consumedAssetCall f)
   unfolding consumedAssetCall
   a-consumed h = a-else (call-like h) (λ c d r. a-then (a-no-asset (r .callee)) (a-no-assets (r .args))) (a-no-asset h)
 
@@ -212,7 +212,7 @@ module _ {S : Setting} where
   mutual
     unfolding wraps
 
-    wraps-like : {e f : Expr} (xs : List Name) → Like S e f → wraps xs e ≡ wraps xs f
+    wraps-like : {e f : Expr} (xs : List Name) → ExprLike S e f → wraps xs e ≡ wraps xs f
     wraps-like xs (leaf~ l h) = has-leaf xs h
     wraps-like xs (unary~ l h) = wraps-like xs h
     wraps-like xs (binary~ l h k) = rw (wraps-like xs h, wraps-like xs k)
@@ -221,11 +221,11 @@ module _ {S : Setting} where
     wraps-like xs (wrap~ {w = Checked} l h) = wraps-like xs h
     wraps-like xs (wrap~ {w = Wrapping} l h) = refl
 
-    wraps-any : {es fs : Exprs} (xs : List Name) → Likes S es fs → wrapsAny xs es ≡ wrapsAny xs fs
+    wraps-any : {es fs : Exprs} (xs : List Name) → ExprsLike S es fs → wrapsAny xs es ≡ wrapsAny xs fs
     wraps-any xs nil~ = refl
     wraps-any xs (more~ h k) = rw (wraps-like xs h, wraps-any xs k)
 
-  a-reaches : {v w : Expr} (xs : List Name) (o : Option ℕ) (ps : List Piece) → Like S v w → Alike S (reaches xs o v ps) (reaches xs o w ps)
+  a-reaches : {v w : Expr} (xs : List Name) (o : Option ℕ) (ps : List Piece) → ExprLike S v w → Alike S (reaches xs o v ps) (reaches xs o w ps)
   unfolding reaches
   a-reaches xs o ps h = rw (span-like h, wraps-like xs h) (a-same (search pure))
 
@@ -234,7 +234,7 @@ unfolding narrowValues
 narrow-values S x h = of-type none (λ f. narrowArg (getElem? (args (f .ty)) 1)) (λ f g e. rw e) h
 
 module _ (S : Setting) where
-  a-narrow-set : {e f : Expr} (xs : List Name) → Like S e f → Alike S (narrowSet (S .left) xs e) (narrowSet (S .right) xs f)
+  a-narrow-set : {e f : Expr} (xs : List Name) → ExprLike S e f → Alike S (narrowSet (S .left) xs e) (narrowSet (S .right) xs f)
   unfolding narrowSet
   a-narrow-set xs h =
       a-some (call-like h)

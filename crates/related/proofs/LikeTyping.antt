@@ -14,7 +14,7 @@ use Rattle.rules.specs.Model.{fieldNamed}
 use Rattle.rules.specs.Typing.{Env, identLeaf, Dot, identIs, Asked, isNameParam, fieldOf, keyedField, isPool, judgeKey, checkKeys, checkAmount, checkKeyedCall, expectKeyedOp, expectAssetReceiver, tyOfIdent, tyOfLeaf, tyOfGet, tyOfCall, askEach, typeCall, expectNumericOr, expectNumber, judgeUnary, logical, arithmetic, ordering, equality, judgeBinary, tyOfUnary, tyOfBinary, asked, typing, typings, askOf, tyOf}
 use Rattle.rules.proofs.Pure.{pure}
 use Rattle.related.proofs.Alike.{Setting, a-ret, a-left, a-right, a-ask, Alike, a-same, a-bind, a-then, a-when, a-some}
-use Rattle.related.proofs.Like.{Head, SameField, Both, b-none, b-some, LeafLike, l-text, l-same, Like, leaf~, unary~, binary~, field~, call~, wrap~, Likes, nil~, more~, span-like, line-like, leaf-like, DotLike, dot-like, ident-like, ident-same, is-like, SameEnv}
+use Rattle.related.proofs.Like.{Head, SameField, Both, b-none, b-some, LeafLike, l-text, l-same, ExprLike, leaf~, unary~, binary~, field~, call~, wrap~, ExprsLike, nil~, more~, span-like, line-like, leaf-like, DotLike, dot-like, ident-like, ident-same, is-like, SameEnv}
 
 -- a rule that gives tt, or refuses for the text of a literal
 pub data TextOnly : Rule Unit → Type 1 where
@@ -46,7 +46,7 @@ get-like (o-some h) = rw (h .ty)
 
 -- an expression and the asking of its type
 pub record AskedLike (S : Setting) (a b : Asked) : Type 1 where
-  pub expr : Like S (a .expr) (b .expr)
+  pub expr : ExprLike S (a .expr) (b .expr)
   pub ty : Alike S (a .ty) (b .ty)
 
 module _ {S : Setting} {Γ Δ : Env} (same : SameEnv S Γ Δ) where
@@ -55,14 +55,14 @@ module _ {S : Setting} {Γ Δ : Env} (same : SameEnv S Γ Δ) where
   pub field-in : (x : Name) → SameField S x → Opt Head (fieldNamed (Γ .model) x) (fieldNamed (Δ .model) x)
   field-in x k = rw (same .left, same .right) k
 
-  pub param-like : {e f : Expr} → Like S e f → isNameParam Γ e ≡ isNameParam Δ f
+  pub param-like : {e f : Expr} → ExprLike S e f → isNameParam Γ e ≡ isNameParam Δ f
   unfolding isNameParam
   param-like h = ap₂ by (same .params) (ident-same h)
     where
       by : List (Name × Ty) → Option Name → Bool
       by ps o = elim o [ none ↦ false | some x ↦ elim (get x ps) [ none ↦ false | some t ↦ eqTy t TName ] ]
 
-  field-like : {e f : Expr} → Like S e f → Opt Head (fieldOf Γ e) (fieldOf Δ f)
+  field-like : {e f : Expr} → ExprLike S e f → Opt Head (fieldOf Γ e) (fieldOf Δ f)
   unfolding fieldOf
   field-like h = go (ident-like h)
     where
@@ -80,7 +80,7 @@ module _ {S : Setting} {Γ Δ : Env} (same : SameEnv S Γ Δ) where
       go b-none = o-none
       go (b-some {a = x} k) = rw (same .params) (look x (get x (Δ .params)) k)
 
-  keyed-like : {e f : Expr} → Like S e f → Opt Head (keyedField Γ e) (keyedField Δ f)
+  keyed-like : {e f : Expr} → ExprLike S e f → Opt Head (keyedField Γ e) (keyedField Δ f)
   unfolding keyedField
   keyed-like h = go (field-like h)
     where
@@ -98,7 +98,7 @@ module _ {S : Setting} {Γ Δ : Env} (same : SameEnv S Γ Δ) where
       go o-none = o-none
       go (o-some k) = kind (ap isKeyed (k .ty)) k
 
-  pool-like : {e f : Expr} → Like S e f → isPool Γ e ≡ isPool Δ f
+  pool-like : {e f : Expr} → ExprLike S e f → isPool Γ e ≡ isPool Δ f
   unfolding isPool
   pool-like h = of-type false (λ f. is (typeName (f .ty)) "Q_Asset") (λ g k e. rw e) (field-like h)
 
@@ -132,7 +132,7 @@ module _ {S : Setting} {Γ Δ : Env} (same : SameEnv S Γ Δ) where
       go inasset f = refl
       go now f = refl
 
-  call-type : {c d : Expr} → Like S c d → tyOfCall Γ c ≡ tyOfCall Δ d
+  call-type : {c d : Expr} → ExprLike S c d → tyOfCall Γ c ≡ tyOfCall Δ d
   unfolding tyOfCall
   call-type {c} {d} h = go (dot-like h)
     where
@@ -151,15 +151,15 @@ module _ {S : Setting} {Γ Δ : Env} (same : SameEnv S Γ Δ) where
 
   -- ------------------------------------------------------------ keyed calls
 
-  a-receiver : {c d : Expr} → Like S c d → Alike S (expectAssetReceiver Γ c) (expectAssetReceiver Δ d)
+  a-receiver : {c d : Expr} → ExprLike S c d → Alike S (expectAssetReceiver Γ c) (expectAssetReceiver Δ d)
   unfolding expectAssetReceiver
   a-receiver h = a-some (dot-like h) (λ a b r. rw (r .name, pool-like (r .base), span-like (r .base)) (a-same (search pure)))
 
-  a-op : {c d : Expr} → Like S c d → Alike S (expectKeyedOp Γ c) (expectKeyedOp Δ d)
+  a-op : {c d : Expr} → ExprLike S c d → Alike S (expectKeyedOp Γ c) (expectKeyedOp Δ d)
   unfolding expectKeyedOp
   a-op h = a-some (dot-like h) (λ a b r. a-some (keyed-like (r .base)) (λ f g k. rw (r .name, r .nspan, k .name, k .ty) (a-same (search pure))))
 
-  a-key : {e f : Expr} (x : Name) (first : Bool) (want got : Ty) → Like S e f → Alike S (judgeKey Γ x first e want got) (judgeKey Δ x first f want got)
+  a-key : {e f : Expr} (x : Name) (first : Bool) (want got : Ty) → ExprLike S e f → Alike S (judgeKey Γ x first e want got) (judgeKey Δ x first f want got)
   unfolding judgeKey
   a-key x first want got h = rw (span-like h, param-like h) (a-same (search pure))
 
@@ -175,7 +175,7 @@ module _ {S : Setting} {Γ Δ : Env} (same : SameEnv S Γ Δ) where
   a-amount x (cons₂ h nil₂) = a-ret tt
   a-amount x (cons₂ h (cons₂ k r)) = a-bind (k .ty) (λ t. rw (span-like (k .expr)) (a-same (search pure)))
 
-  pub a-keyed : {c d : Expr} {as' bs : List Asked} → Like S c d → Forall₂ (AskedLike S) as' bs → Alike S (checkKeyedCall Γ c as') (checkKeyedCall Δ d bs)
+  pub a-keyed : {c d : Expr} {as' bs : List Asked} → ExprLike S c d → Forall₂ (AskedLike S) as' bs → Alike S (checkKeyedCall Γ c as') (checkKeyedCall Δ d bs)
   unfolding checkKeyedCall
   a-keyed h k = a-some (dot-like h) (λ a b r. a-some (keyed-like (r .base)) (λ f g q. rw (r .name, q .name, q .ty) (a-then (a-when _ (a-amount _ k)) (a-keys _ true _ k))))
 
@@ -184,17 +184,17 @@ module _ {S : Setting} {Γ Δ : Env} (same : SameEnv S Γ Δ) where
   a-ask-each nil₂ = a-ret tt
   a-ask-each (cons₂ h k) = a-bind (h .ty) (λ t. a-ask-each k)
 
-  a-call : {c d : Expr} {as' bs : List Asked} → Like S c d → Forall₂ (AskedLike S) as' bs → Alike S (typeCall Γ c as') (typeCall Δ d bs)
+  a-call : {c d : Expr} {as' bs : List Asked} → ExprLike S c d → Forall₂ (AskedLike S) as' bs → Alike S (typeCall Γ c as') (typeCall Δ d bs)
   unfolding typeCall
   a-call h k = a-then (a-receiver h) (a-then (a-op h) (a-then (a-ask-each k) (a-then (a-keyed h k) (rw (call-type h) (a-ret _)))))
 
 -- ------------------------------------------------------------ operators
 
-abbrev Judges : Setting → (Expr → Expr → Ty → Ty → Rule Ty) → Type 1
-Judges S j = (a b c d : Expr) (t u : Ty) → Like S a c → Like S b d → Alike S (j a b t u) (j c d t u)
+abbrev AlikeJudge : Setting → (Expr → Expr → Ty → Ty → Rule Ty) → Type 1
+AlikeJudge S j = (a b c d : Expr) (t u : Ty) → ExprLike S a c → ExprLike S b d → Alike S (j a b t u) (j c d t u)
 
 module _ {S : Setting} where
-  a-judge-unary : {e f : Expr} (o : UnaryOp) (t : Ty) → Like S e f → Alike S (judgeUnary o e t) (judgeUnary o f t)
+  a-judge-unary : {e f : Expr} (o : UnaryOp) (t : Ty) → ExprLike S e f → Alike S (judgeUnary o e t) (judgeUnary o f t)
   unfolding judgeUnary expectNumericOr
   a-judge-unary Not t h = rw (span-like h) (a-same (search pure))
   a-judge-unary Neg t h = rw (span-like h) (a-same (search pure))
@@ -204,7 +204,7 @@ module _ {S : Setting} where
   int-leaf (l-same h) = inl refl
 
   -- the texts of literals are free, or these are the same
-  pub int-like : {e f : Expr} → Like S e f → (intOf e ≡ intOf f) ⊎ S .Free
+  pub int-like : {e f : Expr} → ExprLike S e f → (intOf e ≡ intOf f) ⊎ S .Free
   unfolding intOf
   int-like h = go (leaf-like h)
     where
@@ -215,7 +215,7 @@ module _ {S : Setting} where
       go o-none = inl refl
       go (o-some r) = int-leaf r
 
-  zero-like : {e f : Expr} → Like S e f → (isZeroLiteral e ≡ isZeroLiteral f) ⊎ S .Free
+  zero-like : {e f : Expr} → ExprLike S e f → (isZeroLiteral e ≡ isZeroLiteral f) ⊎ S .Free
   unfolding isZeroLiteral
   zero-like {e} {f} h = go (int-like h)
     where
@@ -223,7 +223,7 @@ module _ {S : Setting} where
       go (inl q) = inl (rw (isZeroLiteral, q))
       go (inr x) = inr x
 
-  a-equality : Judges S equality
+  a-equality : AlikeJudge S equality
   unfolding equality
   a-equality a b c d t u h k = go (zero-like h) (zero-like k)
     where
@@ -235,19 +235,19 @@ module _ {S : Setting} where
       go (inl p) (inr f) = free f
       go (inr f) q = free f
 
-  a-logical : Judges S logical
+  a-logical : AlikeJudge S logical
   unfolding logical expectNumericOr
   a-logical a b c d t u h k = rw (span-like h, span-like k) (a-same (search pure))
 
-  a-arithmetic : Judges S arithmetic
+  a-arithmetic : AlikeJudge S arithmetic
   unfolding arithmetic expectNumber
   a-arithmetic a b c d t u h k = rw (span-like h, span-like k) (a-same (search pure))
 
-  a-ordering : Judges S ordering
+  a-ordering : AlikeJudge S ordering
   unfolding ordering expectNumber
   a-ordering a b c d t u h k = rw (span-like h, span-like k) (a-same (search pure))
 
-  a-judge-binary : (o : BinOp) → Judges S (judgeBinary o)
+  a-judge-binary : (o : BinOp) → AlikeJudge S (judgeBinary o)
   unfolding judgeBinary
   a-judge-binary Or = a-logical
   a-judge-binary And = a-logical
@@ -275,14 +275,14 @@ module _ {S : Setting} where
 -- ------------------------------------------------------------ the asking
 
 module _ {S : Setting} {Γ Δ : Env} (same : SameEnv S Γ Δ) where
-  a-asked : {e f : Expr} {p q : Rule Ty} → Like S e f → Alike S p q → AskedLike S (asked Γ e p) (asked Δ f q)
+  a-asked : {e f : Expr} {p q : Rule Ty} → ExprLike S e f → Alike S p q → AskedLike S (asked Γ e p) (asked Δ f q)
   unfolding asked
   a-asked h k = record { expr = h; ty = a-ask (line-like h) k a-ret }
 
   mutual
     unfolding typing
 
-    a-typing : {e f : Expr} → Like S e f → Alike S (typing Γ e) (typing Δ f)
+    a-typing : {e f : Expr} → ExprLike S e f → Alike S (typing Γ e) (typing Δ f)
     a-typing (leaf~ l h) = rw (leaf-type same h) (a-ret _)
     a-typing (unary~ {o = o} l h) = a-unary o (a-asked h (a-typing h))
     a-typing (binary~ {o = o} l h k) = a-binary o (a-asked h (a-typing h)) (a-asked k (a-typing k))
@@ -290,14 +290,14 @@ module _ {S : Setting} {Γ Δ : Env} (same : SameEnv S Γ Δ) where
     a-typing (call~ l h k) = a-call same h (a-typings k)
     a-typing (wrap~ l h) = a-asked h (a-typing h) .ty
 
-    pub a-typings : {es fs : Exprs} → Likes S es fs → Forall₂ (AskedLike S) (typings Γ es) (typings Δ fs)
+    pub a-typings : {es fs : Exprs} → ExprsLike S es fs → Forall₂ (AskedLike S) (typings Γ es) (typings Δ fs)
     a-typings nil~ = nil₂
     a-typings (more~ h k) = cons₂ (a-asked h (a-typing h)) (a-typings k)
 
-  pub a-ask-of : {e f : Expr} → Like S e f → AskedLike S (askOf Γ e) (askOf Δ f)
+  pub a-ask-of : {e f : Expr} → ExprLike S e f → AskedLike S (askOf Γ e) (askOf Δ f)
   unfolding askOf
   a-ask-of h = a-asked h (a-typing h)
 
-  pub a-tyOf : {e f : Expr} → Like S e f → Alike S (tyOf Γ e) (tyOf Δ f)
+  pub a-tyOf : {e f : Expr} → ExprLike S e f → Alike S (tyOf Γ e) (tyOf Δ f)
   unfolding tyOf
   a-tyOf h = a-ask-of h .ty

@@ -1,5 +1,5 @@
 -- Lookups by name in two lists one behind the other. Assumes nothing.
-use mathlib.Core.Path.{_≡_, refl, ap, _∙_}
+use mathlib.Core.Path.{_≡_, refl, sym, ap, _∙_}
 use mathlib.Core.Logic.{_⊎_, inl, inr}
 use mathlib.Core.List.{List, [], _∷_, _++_}
 use mathlib.Core.Bool.{Bool, true, false}
@@ -8,36 +8,24 @@ use Prim.Native.Nat.{ℕ}
 use native.Mathlib.Omega.{arith}
 use Rattle.text.specs.Text.{same}
 use Rattle.text.proofs.Words.{same-is}
-use Rattle.rules.specs.Text.{Name, firstNamed, lastNamed}
+use Rattle.rules.specs.Text.{Name, firstNamed, lastNamed, orElse}
 use Rattle.rules.specs.Ast.{Event, Field}
 use Rattle.rules.proofs.All.{All}
+use Rattle.rules.proofs.Lookups.{or-none, last-append}
 
 abbrev pub fieldIn : Name → List Field → Option Field
 fieldIn x fs = lastNamed (λ f. f .name) x fs
 
+in-two : (x : Name) (fs gs : List Field) → fieldIn x (fs ++ gs) ≡ orElse (fieldIn x gs) (orElse (fieldIn x fs) none)
+in-two x fs gs = sym (or-none _) ∙ last-append (λ f. f .name) x fs gs none
+
 pub last-before : (x : Name) (fs gs : List Field) → fieldIn x gs ≡ none → fieldIn x (fs ++ gs) ≡ fieldIn x fs
-unfolding lastNamed
-last-before x [] gs e = e
-last-before x (f ∷ fs) gs e = rw (last-before x fs gs e)
-
-abbrev orElse : {A : Type 0} → Option A → Option A → Option A
-orElse o h = elim o [ some g ↦ some g | none ↦ h ]
-
-else-none : {A : Type 0} (o h : Option A) → orElse o h ≡ none → (o ≡ none) × (h ≡ none)
-else-none none h e = (refl, e)
-else-none (some g) h e = absurd (let z : _≡_ {A = ℕ} 0 1 = cc in omega arith)
-
-else-same : {A : Type 0} (o h : Option A) → h ≡ none → orElse o h ≡ o
-else-same none h e = e
-else-same (some g) h e = refl
+unfolding orElse
+last-before x fs gs e = in-two x fs gs ∙ rw e (or-none _)
 
 pub last-behind : (x : Name) (fs gs : List Field) → fieldIn x fs ≡ none → fieldIn x (fs ++ gs) ≡ fieldIn x gs
-unfolding lastNamed
-last-behind x [] gs e = refl
-last-behind x (f ∷ fs) gs e =
-    let here : Option Field = elim (same x (f .name)) [ true ↦ some f | false ↦ none ] in
-    let q = else-none (fieldIn x fs) here e in
-    ap (λ (o : Option Field). orElse o here) (last-behind x fs gs (q .0)) ∙ else-same (fieldIn x gs) here (q .1)
+unfolding orElse
+last-behind x fs gs e = in-two x fs gs ∙ rw e (or-none _)
 
 abbrev eventIn : Name → List Event → Option Event
 eventIn x es = firstNamed (λ e. e .name) x es
@@ -65,7 +53,7 @@ unfolding lastNamed
 found Q x [] h = inl refl
 found Q x (f ∷ fs) h = go (found Q x fs (h .1)) (same x (f .name)) refl
   where
-    go : (fieldIn x fs ≡ none) ⊎ Q x → (b : Bool) → same x (f .name) ≡ b → (orElse (fieldIn x fs) (elim (same x (f .name)) [ true ↦ some f | false ↦ none ]) ≡ none) ⊎ Q x
+    go : (fieldIn x fs ≡ none) ⊎ Q x → (b : Bool) → same x (f .name) ≡ b → (_≡_ {A = Option Field} (elim (fieldIn x fs) [ some g ↦ some g | none ↦ elim (same x (f .name)) [ true ↦ some f | false ↦ none ] ]) none) ⊎ Q x
     go (inr q) b e = inr q
     go (inl n) true e = inr (rw (same-is x (f .name) e) (h .0))
     go (inl n) false e = inl (rw (n, e))

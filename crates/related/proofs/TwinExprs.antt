@@ -16,11 +16,11 @@ use Rattle.sheet.specs.Same.{SameRecord}
 use Rattle.sheet.proofs.Paired.{Opt, take₂, drop₂, at₂, map₂, opt-map}
 use Rattle.sheet.proofs.Twins.{Twin, twin, Twins, no-twin, and-twin}
 use Rattle.rules.specs.Text.{Name}
-use Rattle.rules.specs.Ast.{Leaf, int, date, str, caller, native, inasset, now, Expr, leaf, Exprs, nil, more, spanOf, exprKinds, exprOf, exprsOf, nodes, blankNode, clauseOf, stmtOf}
+use Rattle.rules.specs.Ast.{Leaf, int, date, str, caller, native, inasset, now, Expr, leaf, Exprs, spanOf, first, rest, exprKinds, exprOf, exprsOf, nodes, blankNode, clauseOf, stmtOf}
 use Rattle.rules.specs.Typing.{identLeaf}
 use Rattle.rules.proofs.Parts.{Each as Numbers, stop, _also_, pick}
 use Rattle.related.proofs.Alike.{Setting}
-use Rattle.related.proofs.Like.{SameField, LeafLike, l-text, l-same, Like, leaf~, unary~, binary~, field~, call~, wrap~, Likes, nil~, more~, id-like}
+use Rattle.related.proofs.Like.{SameField, LeafLike, l-text, l-same, ExprLike, leaf~, unary~, binary~, field~, call~, wrap~, ExprsLike, nil~, more~, id-like}
 use Rattle.related.proofs.LikeStatements.{SameEvent, StmtLike, guard~, bind~, emit~, assign~, do~}
 use Rattle.related.proofs.LikeEntries.{ClauseLike, limits~, denies~, mints~, after~}
 
@@ -51,20 +51,12 @@ same-name {Free} {l} {k} h f = go (h .name)
 plain : {S : Setting} (k : Leaf) → identLeaf k ≡ none → LeafLike S k k
 plain {S} k e = l-same {k = k} (λ x q. absurd (let z : _≡_ {A = ℕ} 0 1 = cc (e, q) in omega arith))
 
-abbrev first : Exprs → Expr
-first nil = leaf 0 0 now
-first (more e es) = e
-
-abbrev rest : Exprs → Exprs
-rest nil = nil
-rest (more e es) = es
-
-first-like : {S : Setting} {es fs : Exprs} → Likes S es fs → Like S (first es) (first fs)
+first-like : {S : Setting} {es fs : Exprs} → ExprsLike S es fs → ExprLike S (first es) (first fs)
 unfolding identLeaf
-first-like {S} nil~ = leaf~ (S .line-itself 0) (plain now refl)
+first-like {S} nil~ = leaf~ (S .line-zero) (plain now refl)
 first-like (more~ h k) = h
 
-rest-like : {S : Setting} {es fs : Exprs} → Likes S es fs → Likes S (rest es) (rest fs)
+rest-like : {S : Setting} {es fs : Exprs} → ExprsLike S es fs → ExprsLike S (rest es) (rest fs)
 rest-like nil~ = nil~
 rest-like (more~ h k) = k
 
@@ -73,9 +65,9 @@ unfolding identLeaf
 text-like {y = y} (inl e) = rw e (plain (int y) refl)
 text-like (inr f) = l-text (f .0)
 
-module _ (S : Setting) (i j : ℕ) (n : S .Lines i j) (l k : Line) (h : SameNamed S l k) (ps qs : Nodes) (es : Likes S (exprsOf ps) (exprsOf qs)) where
+module _ (S : Setting) (i j : ℕ) (n : S .Lines i j) (l k : Line) (h : SameNamed S l k) (ps qs : Nodes) (es : ExprsLike S (exprsOf ps) (exprsOf qs)) where
   abbrev Made : ℕ → Type 0
-  Made d = l .kind - 20 ≡ d → Like S (exprOf (node i l ps)) (exprOf (node j k qs))
+  Made d = l .kind - 20 ≡ d → ExprLike S (exprOf (node i l ps)) (exprOf (node j k qs))
 
   side : (d : ℕ) → l .kind - 20 ≡ d → k .kind - 20 ≡ d
   side d e = ap (λ (n : ℕ). n - 20) (sym (h .same .kind)) ∙ e
@@ -100,16 +92,16 @@ module _ (S : Setting) (i j : ℕ) (n : S .Lines i j) (l k : Line) (h : SameName
       also stop
 
   -- no expression's kind
-  other : 14 ≤ l .kind - 20 → Like S (exprOf (node i l ps)) (exprOf (node j k qs))
+  other : 14 ≤ l .kind - 20 → ExprLike S (exprOf (node i l ps)) (exprOf (node j k qs))
   unfolding exprOf identLeaf
   other e =
       let d : ℕ → Line → Exprs → Expr = λ i l es. leaf i (spanOf l) now in
       rw (← h .same .kind, h .same .spans, List·getD-eq-default exprKinds d {n = l .kind - 20} e) (leaf~ n (plain now refl))
 
-  expr-made : Like S (exprOf (node i l ps)) (exprOf (node j k qs))
+  expr-made : ExprLike S (exprOf (node i l ps)) (exprOf (node j k qs))
   expr-made = go (ltb (l .kind - 20) 14) refl
     where
-      go : (b : Bool) → ltb (l .kind - 20) 14 ≡ b → Like S (exprOf (node i l ps)) (exprOf (node j k qs))
+      go : (b : Bool) → ltb (l .kind - 20) 14 ≡ b → ExprLike S (exprOf (node i l ps)) (exprOf (node j k qs))
       go true e = pick (l .kind - 20) made (omega arith) (ltb-true _ _ e) refl
       go false e = other (ltb-false _ _ e)
 
@@ -117,20 +109,20 @@ module _ {S : Setting} where
   mutual
     unfolding exprsOf
 
-    expr-twin : {t u : Node} → SettingTwin S t u → Like S (exprOf t) (exprOf u)
+    expr-twin : {t u : Node} → SettingTwin S t u → ExprLike S (exprOf t) (exprOf u)
     expr-twin (twin {ps = ps} {qs = qs} n h r) = expr-made S _ _ n _ _ h ps qs (exprs-twin r)
 
-    exprs-twin : {ns ms : Nodes} → Twins (S .Lines) (SameNamed S) ns ms → Likes S (exprsOf ns) (exprsOf ms)
+    exprs-twin : {ns ms : Nodes} → Twins (S .Lines) (SameNamed S) ns ms → ExprsLike S (exprsOf ns) (exprsOf ms)
     exprs-twin no-twin = nil~
     exprs-twin (and-twin h k) = more~ (expr-twin h) (exprs-twin k)
 
-  pub at-twin : {ns ms : List Node} (n : ℕ) → Forall₂ (SettingTwin S) ns ms → Like S (exprOf (getD ns n blankNode)) (exprOf (getD ms n blankNode))
+  pub at-twin : {ns ms : List Node} (n : ℕ) → Forall₂ (SettingTwin S) ns ms → ExprLike S (exprOf (getD ns n blankNode)) (exprOf (getD ms n blankNode))
   unfolding exprOf identLeaf
-  at-twin n nil₂ = leaf~ (S .line-itself 0) (plain (int []) refl)
+  at-twin n nil₂ = leaf~ (S .line-zero) (plain (int []) refl)
   at-twin zero (cons₂ h k) = expr-twin h
   at-twin (suc n) (cons₂ h k) = at-twin n k
 
-  pub maybe-twin : {ns ms : List Node} (n : ℕ) → Forall₂ (SettingTwin S) ns ms → Opt (Like S) (Option·map exprOf (getElem? ns n)) (Option·map exprOf (getElem? ms n))
+  pub maybe-twin : {ns ms : List Node} (n : ℕ) → Forall₂ (SettingTwin S) ns ms → Opt (ExprLike S) (Option·map exprOf (getElem? ns n)) (Option·map exprOf (getElem? ms n))
   maybe-twin n h = opt-map exprOf exprOf (λ t u k. expr-twin k) (at₂ n h)
 
 -- ------------------------------------------------------------ statements and clauses
@@ -143,7 +135,7 @@ module _ (S : Setting) (i j : ℕ) (n : S .Lines i j) (l k : Line) (h : SameName
   stmt-made (suc (suc zero)) e f = rw (e, f, ← same-name (h .same) (λ q. omega arith)) (emit~ (h .event (omega arith)) (map₂ exprOf exprOf (λ t u q. expr-twin q) r))
   stmt-made (suc (suc (suc zero))) e f = rw (e, f, h .same .spans, h .same .op) (assign~ (at-twin 0 r) (at-twin 1 r))
   stmt-made (suc (suc (suc (suc zero)))) e f = rw (e, f) (do~ (at-twin 0 r))
-  stmt-made (suc (suc (suc (suc (suc d))))) e f = rw (e, f) (do~ (leaf~ (S .line-itself 0) (plain now refl)))
+  stmt-made (suc (suc (suc (suc (suc d))))) e f = rw (e, f) (do~ (leaf~ (S .line-zero) (plain now refl)))
 
   clause-made : (d : ℕ) → l .kind - 11 ≡ d → k .kind - 11 ≡ d → ClauseLike S (clauseOf (node i l ps)) (clauseOf (node j k qs))
   unfolding clauseOf

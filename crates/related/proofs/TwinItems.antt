@@ -19,7 +19,7 @@ use Rattle.rules.specs.Model.{Model, itemModel, joined, build, fieldNamed, even
 use Rattle.rules.proofs.All.{All}
 use Rattle.rules.proofs.Parts.{Each as Numbers, stop, _also_, pick, parts}
 use Rattle.related.proofs.Alike.{Setting, settingOf}
-use Rattle.related.proofs.Like.{Head, SameField, Like, last-like}
+use Rattle.related.proofs.Like.{Head, SameField, ExprLike, last-like}
 use Rattle.related.proofs.LikeStatements.{SameEvent, StmtLike}
 use Rattle.related.proofs.LikeEntries.{each-clauses, EntryLike}
 use Rattle.related.proofs.LikeCheck.{FieldLike, ModelBy, PartLike, ModelLike}
@@ -57,46 +57,46 @@ arg-made i j l k ps qs (suc zero) e f n s as' = rw (e, f, n)
 arg-made i j l k ps qs (suc (suc zero)) e f n s as' = rw (e, f)
 arg-made i j l k ps qs (suc (suc (suc d))) e f n s as' = rw (e, f)
 
-module _ {L : ℕ → ℕ → Type 0} {F : Type 0} where
+module _ {L : ℕ → ℕ → Type 0} {Free : Type 0} where
   mutual
     unfolding argsOf
 
-    arg-same : {s : grammar.Sort} {t u : Node} → Formed s t → TypeSort s → Twin L (SameRecord F) t u → argOf t ≡ argOf u
+    arg-same : {s : grammar.Sort} {t u : Node} → Formed s t → TypeSort s → Twin L (SameRecord Free) t u → argOf t ≡ argOf u
     arg-same {s} (formed {l = l} a p fs) y (twin {i = i} {j = j} {k = k} {ps = ps} {qs = qs} n h r) =
         let b = in-type s (l .kind) y a in
         arg-made i j l k ps qs (l .kind - 8) refl (ap (λ (n : ℕ). n - 8) (sym (h .kind))) (same-name h (λ q. omega arith)) (h .spans) (args-same fs (type-parts l p b) r)
 
-    args-same : {ss : List grammar.Sort} {ns ms : Nodes} → FormedAll ss ns → All TypeSort ss → Twins L (SameRecord F) ns ms → argsOf ns ≡ argsOf ms
+    args-same : {ss : List grammar.Sort} {ns ms : Nodes} → FormedAll ss ns → All TypeSort ss → Twins L (SameRecord Free) ns ms → argsOf ns ≡ argsOf ms
     args-same none-due y no-twin = refl
     args-same (one-due f fs) y (and-twin h r) = rw (arg-same f (y .0) h, args-same fs (y .1) r)
 
-  type-same : {s : grammar.Sort} {t u : Node} → Formed s t → TypeSort s → Twin L (SameRecord F) t u → typeOf t ≡ typeOf u
+  type-same : {s : grammar.Sort} {t u : Node} → Formed s t → TypeSort s → Twin L (SameRecord Free) t u → typeOf t ≡ typeOf u
   unfolding typeOf
   type-same {s} (formed {l = l} a p fs) y (twin n h r) =
       let b = in-type s (l .kind) y a in
       rw (h .spans, same-name h (λ q. omega arith), args-same fs (type-parts l p b) r)
 
-  first-type : {ss : List grammar.Sort} {ns ms : Nodes} → FormedAll (grammar.Ty ∷ ss) ns → Twins L (SameRecord F) ns ms → typeOf (getD (nodes ns) 0 blankNode) ≡ typeOf (getD (nodes ms) 0 blankNode)
+  first-type : {ss : List grammar.Sort} {ns ms : Nodes} → FormedAll (grammar.Ty ∷ ss) ns → Twins L (SameRecord Free) ns ms → typeOf (getD (nodes ns) 0 blankNode) ≡ typeOf (getD (nodes ms) 0 blankNode)
   unfolding nodes
   first-type (one-due f fs) (and-twin h r) = type-same f (inl refl) h
 
-  param-same : {t u : Node} → Formed grammar.Param t → Twin L (SameRecord F) t u → paramOf t ≡ paramOf u
+  param-same : {t u : Node} → Formed grammar.Param t → Twin L (SameRecord Free) t u → paramOf t ≡ paramOf u
   unfolding paramOf sorts times
   param-same (formed {l = l} a p fs) (twin n h r) =
       rw (same-name h (λ q. omega arith), first-type (rw (parts l 7 p (omega (arith, a))) at fs) r)
 
-  pub head-same : {t u : Node} → Formed grammar.Field t → Twin L (SameRecord F) t u → Head (fieldOf t) (fieldOf u)
+  pub head-same : {t u : Node} → Formed grammar.Field t → Twin L (SameRecord Free) t u → Head (fieldOf t) (fieldOf u)
   unfolding fieldOf sorts times
   head-same (formed {l = l} a p fs) (twin n h r) =
       let m = parts l 6 p (omega (arith, a)) in
       record { name = same-name h (λ q. omega arith); ty = first-type (rw (m .1) at fs) r }
 
-  params-same : {ns ms : Nodes} (ss : List grammar.Sort) (n : ℕ) → FormedAll (times n grammar.Param ++ ss) ns → Twins L (SameRecord F) ns ms → map paramOf (take n (nodes ns)) ≡ map paramOf (take n (nodes ms))
+  params-same : {ns ms : Nodes} (ss : List grammar.Sort) (n : ℕ) → FormedAll (times n grammar.Param ++ ss) ns → Twins L (SameRecord Free) ns ms → map paramOf (take n (nodes ns)) ≡ map paramOf (take n (nodes ms))
   unfolding nodes times
   params-same ss zero f h = refl
   params-same ss (suc n) (one-due f fs) (and-twin h r) = ap₂ _∷_ (param-same f h) (params-same ss n fs r)
 
-  pub all-params : {ns ms : Nodes} (n : ℕ) → FormedAll (times n grammar.Param) ns → Twins L (SameRecord F) ns ms → map paramOf (nodes ns) ≡ map paramOf (nodes ms)
+  pub all-params : {ns ms : Nodes} (n : ℕ) → FormedAll (times n grammar.Param) ns → Twins L (SameRecord Free) ns ms → map paramOf (nodes ns) ≡ map paramOf (nodes ms)
   unfolding nodes times
   all-params zero none-due no-twin = refl
   all-params (suc n) (one-due f fs) (and-twin h r) = ap₂ _∷_ (param-same f h) (all-params n fs r)
@@ -130,7 +130,7 @@ event-same : {x y : Name} {ps qs : List Param} → x ≡ y → ps ≡ qs → _�
 event-same e f = rw (e, f)
 
 -- what is to be shown of fields, expressions, statements and entries, and that it holds of those of two trees
-module _ {L : ℕ → ℕ → Type 0} {R : Line → Line → Type 0} {X : Type 0} (same : (l k : Line) → R l k → SameRecord X l k)
+module _ {L : ℕ → ℕ → Type 0} {R : Line → Line → Type 0} {Free : Type 0} (same : (l k : Line) → R l k → SameRecord Free l k)
     (F : Field → Field → Type 0) (E : Expr → Expr → Type 0) (B : Stmt → Stmt → Type 0) (N : Entry → Entry → Type 0)
     (field : (t u : Node) → Formed grammar.Field t → Twin L R t u → F (fieldOf t) (fieldOf u))
     (expr : (ns ms : List Node) → Forall₂ (Twin L R) ns ms → E (exprOf (getD ns 0 blankNode)) (exprOf (getD ms 0 blankNode)))
@@ -157,10 +157,12 @@ module _ {L : ℕ → ℕ → Type 0} {R : Line → Line → Type 0} {X : Type 0
   item-twin (formed {l = l} a p fs) (twin {i = i} {j = j} {k = k} {ps = ps} {qs = qs} n h r) =
       item-made i j l k ps qs (l .kind - 1) refl (ap (λ (n : ℕ). n - 1) (sym (same l k h .kind))) p a fs h r
 
-  items-by : {ns ms : Nodes} (n : ℕ) → FormedAll (times n grammar.Item) ns → Twins L R ns ms → Forall₂ (ItemBy F E B N) (map itemOf (nodes ns)) (map itemOf (nodes ms))
-  unfolding nodes times
-  items-by zero none-due no-twin = nil₂
-  items-by (suc n) (one-due f fs) (and-twin h r) = cons₂ (item-twin f h) (items-by n fs r)
+-- what holds of items one by one
+items-by : {L : ℕ → ℕ → Type 0} {R : Line → Line → Type 0} {Q : Item → Item → Type 0} {ns ms : Nodes} → ((t u : Node) → Formed grammar.Item t → Twin L R t u → Q (itemOf t) (itemOf u))
+    → (n : ℕ) → FormedAll (times n grammar.Item) ns → Twins L R ns ms → Forall₂ Q (map itemOf (nodes ns)) (map itemOf (nodes ms))
+unfolding nodes times
+items-by item zero none-due no-twin = nil₂
+items-by item (suc n) (one-due f fs) (and-twin h r) = cons₂ (item _ _ f h) (items-by item n fs r)
 
 -- ------------------------------------------------------------ models
 
@@ -178,13 +180,13 @@ ItemHeads F = ItemBy F AnyPair AnyPair AnyPair
 abbrev pub Heads : (Field → Field → Type 0) → Model → Model → Type 0
 Heads F = ModelBy F AnyPair AnyPair AnyPair
 
-module _ {L : ℕ → ℕ → Type 0} {R : Line → Line → Type 0} {X : Type 0} (same : (l k : Line) → R l k → SameRecord X l k) (F : Field → Field → Type 0)
+module _ {L : ℕ → ℕ → Type 0} {R : Line → Line → Type 0} {Free : Type 0} (same : (l k : Line) → R l k → SameRecord Free l k) (F : Field → Field → Type 0)
     (field : (t u : Node) → Formed grammar.Field t → Twin L R t u → F (fieldOf t) (fieldOf u)) where
   pub item-heads : {t u : Node} → Formed grammar.Item t → Twin L R t u → ItemHeads F (itemOf t) (itemOf u)
   item-heads = item-twin same F AnyPair AnyPair AnyPair field (λ ns ms q. tt) (λ t u q. tt) (λ i j l k ps qs e p fs q r. tt)
 
   pub heads-of : {ns ms : Nodes} (n : ℕ) → FormedAll (times n grammar.Item) ns → Twins L R ns ms → Heads F (itemsOf ns) (itemsOf ms)
-  heads-of n f h = build-by (items-by same F AnyPair AnyPair AnyPair field (λ ns ms q. tt) (λ t u q. tt) (λ i j l k ps qs e p fs q r. tt) n f h)
+  heads-of n f h = build-by (items-by (λ t u f q. item-heads f q) n f h)
 
 -- where the fields have the same heads and the events are the same, both models tell the same of every name
 pub every-field : (S : Setting) → Forall₂ Head (S .left .fields) (S .right .fields) → (x : Name) → SameField S x
@@ -222,12 +224,11 @@ module _ {S : Setting} where
         body = map₂ stmtOf stmtOf (λ t u h. stmt-twin h) (drop₂ (m .0 + m .1 .0) (nodes-twins r));
       })
 
-  pub item-like : {t u : Node} → Formed grammar.Item t → SettingTwin S t u → ItemBy (FieldLike S) (Like S) (StmtLike S) (EntryLike S) (itemOf t) (itemOf u)
-  item-like = item-twin (λ l k q. q .same) (FieldLike S) (Like S) (StmtLike S) (EntryLike S) field-twin (λ ns ms q. at-twin 0 q) (λ t u q. stmt-twin q) entry-twin
+  pub item-like : {t u : Node} → Formed grammar.Item t → SettingTwin S t u → ItemBy (FieldLike S) (ExprLike S) (StmtLike S) (EntryLike S) (itemOf t) (itemOf u)
+  item-like = item-twin (λ l k q. q .same) (FieldLike S) (ExprLike S) (StmtLike S) (EntryLike S) field-twin (λ ns ms q. at-twin 0 q) (λ t u q. stmt-twin q) entry-twin
 
   pub part-of : {ns ms : Nodes} (n : ℕ) → FormedAll (times n grammar.Item) ns → Twins (S .Lines) (SameNamed S) ns ms → PartLike S (itemsOf ns) (itemsOf ms)
-  part-of n f h =
-      build-by (items-by (λ l k q. q .same) (FieldLike S) (Like S) (StmtLike S) (EntryLike S) field-twin (λ ns ms q. at-twin 0 q) (λ t u q. stmt-twin q) entry-twin n f h)
+  part-of n f h = build-by (items-by (λ t u f q. item-like f q) n f h)
 
 -- the parts of a contract are its items
 pub contract-parts : {i : ℕ} {l : Line} {ps : Nodes} → Formed grammar.Contract (node i l ps) → (n : ℕ) × FormedAll (times n grammar.Item) ps
@@ -235,10 +236,10 @@ unfolding sorts
 contract-parts (formed {l = l} a p fs) = let m = parts l 0 p (omega (arith, a)) in (m .0, rw (m .1, append-nil) at fs)
 
 -- the items of two contracts
-pub model-like : (L : ℕ → ℕ → Type 0) (line-itself : (l : ℕ) → L l l) (X : Type 0) {i : ℕ} {l : Line} {ps qs : Nodes}
-    → Formed grammar.Contract (node i l ps) → Twins L (SameRecord X) ps qs → ModelLike (settingOf L line-itself X (itemsOf ps) (itemsOf qs))
-model-like L line-itself X {ps = ps} {qs = qs} f h =
-    let S = settingOf L line-itself X (itemsOf ps) (itemsOf qs) in
+pub model-like : (L : ℕ → ℕ → Type 0) (line-zero : L 0 0) (Free : Type 0) {i : ℕ} {l : Line} {ps qs : Nodes}
+    → Formed grammar.Contract (node i l ps) → Twins L (SameRecord Free) ps qs → ModelLike (settingOf L line-zero Free (itemsOf ps) (itemsOf qs))
+model-like L line-zero Free {ps = ps} {qs = qs} f h =
+    let S = settingOf L line-zero Free (itemsOf ps) (itemsOf qs) in
     let c = contract-parts f in
     let q = heads-of (λ l k q. q) Head (λ t u f q. head-same f q) (c .0) (c .1) h in
     part-of (c .0) (c .1) (twins-map (all-named S (every-field S (q .fields)) (every-event S (q .events))) h)

@@ -18,3 +18,4 @@ pub mod Exprs
 pub mod Forest
 pub mod Records
 pub mod Places
+pub mod Lookups

@@ -163,11 +163,11 @@ nspanOf l = getD (l .spans) 1 0
 abbrev blank : Expr
 blank = leaf 0 0 now
 
-abbrev first : Exprs → Expr
+abbrev pub first : Exprs → Expr
 first nil = blank
 first (more e es) = e
 
-abbrev rest : Exprs → Exprs
+abbrev pub rest : Exprs → Exprs
 rest nil = nil
 rest (more e es) = es
 

@@ -40,6 +40,11 @@ lastNamed f x [] = none
 lastNamed f x (a ∷ as') =
     elim (lastNamed f x as') [ some b ↦ some b | none ↦ elim (same x (f a)) [ true ↦ some a | false ↦ none ] ]
 
+-- the first, or else the second
+unfoldable pub orElse : {A : Type 0} → Option A → Option A → Option A
+orElse none o = o
+orElse (some a) o = some a
+
 -- what a map has that was filled in this order
 unfoldable pub get : {A : Type 0} → Name → List (Name × A) → Option A
 get x es = elim (lastNamed (λ e. e .0) x es) [ none ↦ none | some e ↦ some (e .1) ]

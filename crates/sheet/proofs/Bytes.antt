@@ -27,11 +27,11 @@ bytesUpto (suc k) [] = 0
 bytesUpto (suc k) (f ∷ fs) = length f + 1 + bytesUpto k fs
 
 -- ... are not more than there are
-upto-most : (p : ℕ → Bool) (w l : List ℕ) (k : ℕ) → bytesUpto k (ended p w l) ≤ length w + length l
+bytes-most : (p : ℕ → Bool) (w l : List ℕ) (k : ℕ) → bytesUpto k (ended p w l) ≤ length w + length l
 unfolding ended
-upto-most p w l zero = omega arith
-upto-most p w [] (suc k) = omega arith
-upto-most p w (b ∷ bs) (suc k) = go (p b) (upto-most p [] bs k) (upto-most p (w ++ (b ∷ [])) bs (suc k))
+bytes-most p w l zero = omega arith
+bytes-most p w [] (suc k) = omega arith
+bytes-most p w (b ∷ bs) (suc k) = go (p b) (bytes-most p [] bs k) (bytes-most p (w ++ (b ∷ [])) bs (suc k))
   where
     go : (t : Bool) → bytesUpto k (ended p [] bs) ≤ 0 + length bs → bytesUpto (suc k) (ended p (w ++ (b ∷ [])) bs) ≤ length (w ++ (b ∷ [])) + length bs
         → bytesUpto (suc k) (elim t [ true ↦ w ∷ ended p [] bs | false ↦ ended p (w ++ (b ∷ [])) bs ]) ≤ length w + suc (length bs)
@@ -39,7 +39,7 @@ upto-most p w (b ∷ bs) (suc k) = go (p b) (upto-most p [] bs k) (upto-most p (
     go false h g = omega (arith, length-append w (b ∷ []))
 
 pub lines-most : (s : List ℕ) (k : ℕ) → bytesUpto k (linesOf s) ≤ length s
-lines-most s k = omega (arith, upto-most (either 10 10) [] s k)
+lines-most s k = omega (arith, bytes-most (either 10 10) [] s k)
 
 -- ------------------------------------------------------------ a line
 
@@ -100,11 +100,11 @@ pieces-least σ at (w ∷ fs) l e =
 line-least : (σ : Sort) (at : ℕ) (y : List ℕ) (l : Line) → readLine σ at y ≡ good l → length (l .name) + 3 ≤ length y + 1
 unfolding readLine fieldsOf
 line-least σ at y l e =
-    omega (arith, pieces-least σ at (fieldsOf y) l e, upto-most (either 44 10) [] (y ++ (10 ∷ [])) (length (fieldsOf y)), length-append y (10 ∷ []))
+    omega (arith, pieces-least σ at (fieldsOf y) l e, bytes-most (either 44 10) [] (y ++ (10 ∷ [])) (length (fieldsOf y)), length-append y (10 ∷ []))
 
 -- ------------------------------------------------------------ all lines
 
--- line k of the lines ls
+-- line k of the lines ls takes, with its LF, at least three bytes more than the name of l
 abbrev pub Takes : List (List ℕ) → ℕ → Line → Type 0
 Takes ls k l = length (l .name) + 3 + bytesUpto k ls ≤ bytesUpto (suc k) ls
 

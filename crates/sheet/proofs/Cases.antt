@@ -9,7 +9,7 @@ use Rattle.text.specs.Word.{place}
 use Rattle.text.specs.Field.{isName, isDecimal, valueFrom, numberOf}
 use Rattle.grammar.specs.Grammar.{kindFor}
 use Rattle.sheet.specs.Line.{when, onNumber, andThen, orTen, readField, readFields, readAs, fieldsOf, readPieces, readLine}
-use Rattle.sheet.specs.Load.{Loaded, lines, refused, times, sorts, due, judged, scan, firstTrue, tests, early, loadFrom, load}
+use Rattle.sheet.specs.Load.{Loaded, lines, refused, times, sorts, due, judged, scan, firstTrue, early, loadFrom, load}
 
 -- lines of text as the bytes of a sheet
 sheet : List String → List ℕ

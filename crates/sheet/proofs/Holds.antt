@@ -8,7 +8,7 @@ use lib.ListN.{length, getD, length-append}
 use Rattle.grammar.specs.Grammar.{Sort}
 use Rattle.sheet.specs.Line.{Line, Read, good, bad}
 use Rattle.sheet.specs.Load.{Loaded, lines, refused, after, judged, scan}
-use Rattle.sheet.specs.Tree.{Node, node, Nodes, nil, more, total, takeNodes, dropNodes, grow, build}
+use Rattle.sheet.specs.Tree.{Node, node, Nodes, nil, more, total, takeNodes, dropNodes, grow, build, treeCount}
 use Rattle.sheet.specs.Step.{told}
 use Rattle.grammar.specs.Table.{numbersIn}
 use Rattle.sheet.specs.Scratch.{entry, put, putLine, kindAt, opAt, endAt, partsAt, written, skip, closed}
@@ -27,6 +27,17 @@ unfolding judged
 judged-lines true r i f xs e = absurd (let z : _≡_ {A = ℕ} 0 1 = cc in omega arith)
 judged-lines false (bad n) i f xs e = absurd (let z : _≡_ {A = ℕ} 0 1 = cc in omega arith)
 judged-lines false (good x) i f xs e = let r = after-lines x (f x) xs e in (x, r .0, refl, r .1, r .2)
+
+-- ... at a depth that is allowed
+pub judged-shallow : (i : ℕ) (b : Bool) (r : Read) (f : Line → Loaded) (xs : List Line) → judged i b r f ≡ lines xs → b ≡ false
+unfolding judged
+judged-shallow i true r f xs e = absurd (let z : _≡_ {A = ℕ} 0 1 = cc in omega arith)
+judged-shallow i false r f xs e = refl
+
+-- conversely, where a line is read at such a depth and lines follow, the turn gives lines
+pub judged-good : (j : ℕ) (b : Bool) (r : Read) (f : Line → Loaded) (y : Line) (ys : List Line) → b ≡ false → r ≡ good y → f y ≡ lines ys → judged j b r f ≡ lines (y ∷ ys)
+unfolding judged
+judged-good j b r f y ys e g h = rw (e, g, h)
 
 pub scan-due : (ls : List (List ℕ)) (i at : ℕ) (ds : List (ℕ × Sort)) (xs : List Line) → scan i at ds ls ≡ lines xs → Due (length ds) xs
 unfolding scan
@@ -75,26 +86,21 @@ mutual
   all-put no-tree j v g = no-tree
   all-put (tree {i} h r) j v g = tree (held-put h j v g) (rw (← end-put _ i j v g) at (all-put r j v (omega (arith, held-less h))))
 
--- how many trees
-abbrev pub count : Nodes → ℕ
-count nil = 0
-count (more t ns) = suc (count ns)
-
-count-drop : (k : ℕ) (ns : Nodes) → k ≤ count ns → count (dropNodes k ns) + k ≡ count ns
+count-drop : (k : ℕ) (ns : Nodes) → k ≤ treeCount ns → treeCount (dropNodes k ns) + k ≡ treeCount ns
 unfolding dropNodes
 count-drop zero ns h = omega arith
 count-drop (suc k) nil h = absurd (omega arith)
 count-drop (suc k) (more t ns) h = omega (arith, count-drop k ns (omega arith))
 
 -- as many trees are built as are due
-pub due-count : {k : ℕ} {ls : List Line} → Due k ls → (i : ℕ) → count (build i ls) ≡ k
+pub due-count : {k : ℕ} {ls : List Line} → Due k ls → (i : ℕ) → treeCount (build i ls) ≡ k
 unfolding build grow
 due-count done i = refl
 due-count (next {k} {l} {ls} d) i =
     let e = due-count d (suc i) in omega (arith, count-drop (total (l .parts)) (build (suc i) ls) (omega arith))
 
 -- the first k trees and those behind them
-split : (k : ℕ) {S : List ℕ} {n i j : ℕ} {ns : Nodes} → HeldAll S n i j ns → k ≤ count ns
+split : (k : ℕ) {S : List ℕ} {n i j : ℕ} {ns : Nodes} → HeldAll S n i j ns → k ≤ treeCount ns
     → HeldAll S n i (skip S k i) (takeNodes k ns) × HeldAll S n (skip S k i) j (dropNodes k ns)
 unfolding skip takeNodes dropNodes
 split zero h g = (no-tree, h)
@@ -170,7 +176,7 @@ stand h s e p r = tree (held h s (rw (← e) at p)) (rw (← e) at r)
 
 -- to put the line after its parts to a line makes it a tree, with the first of the trees behind it
 grown : {S : List ℕ} {n i : ℕ} {l : Line} {ns : Nodes} → i < n → 8 * n ≤ length S → Sound l → Says S i l
-    → HeldAll S n (suc i) n ns → total (l .parts) ≤ count ns
+    → HeldAll S n (suc i) n ns → total (l .parts) ≤ treeCount ns
     → HeldAll (put S i 2 (skip S (partsAt S i) (suc i))) n i n (grow i l ns)
 unfolding grow
 grown {S} {i} {l} h g o s r e =
@@ -216,7 +222,7 @@ holds {ls} {n} S g e o d =
 pub one-tree : {ls : List Line} → Due 1 ls → (t : Node) × (build 0 ls ≡ more t nil)
 one-tree {ls} d = single (build 0 ls) (due-count d 0)
   where
-    single : (ns : Nodes) → count ns ≡ 1 → (t : Node) × (ns ≡ more t nil)
+    single : (ns : Nodes) → treeCount ns ≡ 1 → (t : Node) × (ns ≡ more t nil)
     single nil e = absurd (omega arith)
     single (more t nil) e = (t, refl)
     single (more t (more u ns)) e = absurd (omega arith)
@@ -227,10 +233,6 @@ all-none no-tree = refl
 
 pub all-first : {S : List ℕ} {n i j : ℕ} {t : Node} {ns : Nodes} → HeldAll S n i j (more t ns) → Held S n i t × HeldAll S n (endAt S i) j ns
 all-first (tree h r) = (h, r)
-
-pub held-line : {S : List ℕ} {n i j : ℕ} {l : Line} {ps : Nodes} → Held S n i (node j l ps)
-    → (j ≡ i) × (i < n) × Says S i l × HeldAll S n (suc i) (endAt S i) ps
-held-line (held h s r) = (refl, h, s, r)
 
 -- a tree ends in the first n lines
 mutual

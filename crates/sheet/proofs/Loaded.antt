@@ -21,8 +21,8 @@ use Rattle.sheet.specs.Scan.{Whole, linesFrom, scanAll}
 use Rattle.sheet.specs.Promise.{answer, laid, scratchAfter}
 use Rattle.sheet.specs.declared.loader.Answer.the-variants.{Lines}
 use Rattle.sheet.proofs.ReadAs.{ReadAs, read-sound, sound-small, piece-within, stands-within, SpanAt}
-use Rattle.sheet.proofs.Holds.{judged-lines, scan-due, holds, one-tree, all-first, all-none, length-written, length-closed}
-use Rattle.sheet.proofs.Forms.{scan-formed, formed-one}
+use Rattle.sheet.proofs.Holds.{judged-lines, scan-due, holds, all-first, all-none, length-written, length-closed}
+use Rattle.sheet.proofs.Trees.{tree-of}
 use Rattle.sheet.proofs.Scanning.{line-part}
 use Rattle.sheet.proofs.Loading.{scan-length, passed, loads, loaded-whole}
 
@@ -148,12 +148,10 @@ module _ (s : List ℕ) (types : ℕ) (S : List ℕ) (ls : List Line) (e : load 
   -- it holds its tree
   pub loaded : (t : Node) × (build 0 ls ≡ more t nil) × Holding s (take (8 * length ls) (scratchAfter s types S)) (length ls) t
   loaded =
-      let d = scan-due (linesOf s) 1 0 _ ls (whole .1) in
-      let q = one-tree d in
+      let q = tree-of s types (length S) ls e in
       let r = lines-read s (passes .ended) (passes .small) (linesOf s) 1 0 0 _ ls refl (whole .1) in
-      let h = all-first (rw (q .1) at (holds T size refl (sounds r) d)) in
-      let f = formed-one (rw (q .1) at (scan-formed (linesOf s) 1 0 0 _ ls (whole .1))) in
-      (q .0, q .1, rw left (record { formed = f; held = h .0; all = all-none (h .1); spells = spelt (h .0) (every-first (rw (q .1) at (built r)) .0) }))
+      let h = all-first (rw (q .1) at (holds T size refl (sounds r) (scan-due (linesOf s) 1 0 _ ls (whole .1)))) in
+      (q .0, q .1, rw left (record { formed = q .2; held = h .0; all = all-none (h .1); spells = spelt (h .0) (every-first (rw (q .1) at (built r)) .0) }))
 
 -- where the answer is the number of lines, there are lines
 pub answer-lines : {n : ℕ} (r : Read) → Lines n ≡ answer r → (ls : List Line) × (r ≡ lines ls) × (n ≡ length ls)

@@ -1,6 +1,7 @@
 -- Options and lists whose values are related one by one. Assumes nothing.
 use mathlib.Core.Path.{_≡_, refl, ap}
 use mathlib.Core.List.{List, [], _∷_, _++_, map, Forall₂, Forall₂·nil as nil₂, Forall₂·cons as cons₂}
+use mathlib.Core.Bool.{Bool, true, false}
 use mathlib.Core.Option.{Option, none, some, Option·map}
 use Prim.Native.Nat.{ℕ, zero, suc}
 use native.Mathlib.Omega.{arith}
@@ -14,6 +15,10 @@ module _ {A B : Type 0} {R : A → B → Type 0} where
   pub opt-none : {o : Option A} {u : Option B} → Opt R o u → o ≡ none → u ≡ none
   opt-none o-none e = refl
   opt-none (o-some h) e = absurd (let z : _≡_ {A = ℕ} 0 1 = cc in omega arith)
+
+  pub opt-either : {o p : Option A} {u q : Option B} (b : Bool) → Opt R o u → Opt R p q → Opt R (elim b [ true ↦ o | false ↦ p ]) (elim b [ true ↦ u | false ↦ q ])
+  opt-either true h k = h
+  opt-either false h k = k
 
   pub append₂ : {as' cs : List A} {bs ds : List B} → Forall₂ R as' bs → Forall₂ R cs ds → Forall₂ R (as' ++ cs) (bs ++ ds)
   append₂ nil₂ k = k

@@ -10,38 +10,38 @@ use Rattle.grammar.specs.Grammar.{Sort, Contract, rowOf, none, kindFor}
 use Rattle.sheet.specs.Line.{Line, Read, good, bad, orTen, readAs, fieldsOf, readPieces, readLine}
 use Rattle.sheet.specs.Load.{Loaded, lines, refused, linesOf, after, sorts, due, judged, scan, early, loadFrom, load}
 
-abbrev Counted : Read → Type 0
-Counted (good l) = Unit
-Counted (bad n) = 1 ≤ n
+abbrev ReadFromOne : Read → Type 0
+ReadFromOne (good l) = Unit
+ReadFromOne (bad n) = 1 ≤ n
 
 abbrev pub FromOne : Loaded → Type 0
 FromOne (lines ls) = Unit
 FromOne (refused n i) = 1 ≤ n
 
-either-counted : (b : Bool) (p q : Read) → Counted p → Counted q → Counted (cond b p q)
-either-counted true p q h k = h
-either-counted false p q h k = k
+either-one : (b : Bool) (p q : Read) → ReadFromOne p → ReadFromOne q → ReadFromOne (cond b p q)
+either-one true p q h k = h
+either-one false p q h k = k
 
-ten-counted : (o : Option Line) → Counted (orTen o)
+ten-one : (o : Option Line) → ReadFromOne (orTen o)
 unfolding orTen
-ten-counted (some l) = tt
-ten-counted nothing = omega arith
+ten-one (some l) = tt
+ten-one nothing = omega arith
 
-line-counted : (s : Sort) (at : ℕ) (l : List ℕ) → Counted (readLine s at l)
+line-one : (s : Sort) (at : ℕ) (l : List ℕ) → ReadFromOne (readLine s at l)
 unfolding readLine readPieces readAs
-line-counted s at l = go (fieldsOf l)
+line-one s at l = go (fieldsOf l)
   where
-    go : (fs : List (List ℕ)) → Counted (readPieces s at fs)
+    go : (fs : List (List ℕ)) → ReadFromOne (readPieces s at fs)
     go [] = omega arith
     go (w ∷ fs) =
-        either-counted (eqb (kindFor s w) none) _ _ (omega arith)
-        (either-counted (eqb (length fs) (length (rowOf (kindFor s w) .rules))) _ _ (ten-counted _) (omega arith))
+        either-one (eqb (kindFor s w) none) _ _ (omega arith)
+        (either-one (eqb (length fs) (length (rowOf (kindFor s w) .rules))) _ _ (ten-one _) (omega arith))
 
 after-one : (l : Line) (r : Loaded) → FromOne r → FromOne (after l r)
 after-one l (lines ls) h = tt
 after-one l (refused n i) h = h
 
-judged-one : (i : ℕ) (b : Bool) (r : Read) (f : Line → Loaded) → Counted r → ((l : Line) → FromOne (f l)) → FromOne (judged i b r f)
+judged-one : (i : ℕ) (b : Bool) (r : Read) (f : Line → Loaded) → ReadFromOne r → ((l : Line) → FromOne (f l)) → FromOne (judged i b r f)
 unfolding judged
 judged-one i true r f h k = omega arith
 judged-one i false (bad n) f h k = h
@@ -53,7 +53,7 @@ scan-one i at [] [] = tt
 scan-one i at (d ∷ ds) [] = omega arith
 scan-one i at [] (l ∷ ls) = omega arith
 scan-one i at (d ∷ ds) (l ∷ ls) =
-    judged-one i (ltb 64 (d .0)) (readLine (d .1) at l) _ (line-counted (d .1) at l) (λ x. scan-one (suc i) (at + length l + 1) (due (suc (d .0)) (sorts (x .parts)) ++ ds) ls)
+    judged-one i (ltb 64 (d .0)) (readLine (d .1) at l) _ (line-one (d .1) at l) (λ x. scan-one (suc i) (at + length l + 1) (due (suc (d .0)) (sorts (x .parts)) ++ ds) ls)
 
 pub load-one : (s : List ℕ) (types scratch : ℕ) → FromOne (load s types scratch)
 unfolding load loadFrom

@@ -15,42 +15,42 @@ use Rattle.text.specs.declared.field.Number.{Number}
 use Rattle.text.specs.declared.field.Number.the-variants.{Is, Bad}
 use Rattle.grammar.specs.Grammar.{Sort, Contract, Item, Field, Param, Ty, Arg, Clause, Stmt, Expr, Rule, span, name, text, assignOp, unOp, binOp, count, flag, rowOf, none, kindFor}
 use Rattle.sheet.specs.Line.{Line, begun, withSpan, withOp, withName, withParts, when, onNumber, readField, andThen, readFields, Read, good, bad, orTen, readAs, fieldsOf, readPieces, readLine}
-use Rattle.sheet.specs.Load.{Loaded, lines, sorts, due, judged, scan}
-use Rattle.sheet.specs.Same.{SameRecord, SameLine, TextApart, LineApart, same-bytes, int-texts}
-use Rattle.sheet.proofs.Holds.{judged-lines}
+use Rattle.sheet.specs.Load.{Loaded, lines, sorts, due, scan}
+use Rattle.sheet.specs.Same.{SameRecord, SameLine, SameButText, LineSameButText, same-bytes, int-texts}
+use Rattle.sheet.proofs.Holds.{judged-lines, judged-shallow, judged-good}
 use Rattle.sheet.proofs.Paired.{Opt, o-none, o-some}
 
 -- ------------------------------------------------------------ one line, elsewhere
 
-pub data SameRead (X : Type 0) : Read → Read → Type 0 where
-  same-good : {x y : Line} → SameRecord X x y → SameRead X (good x) (good y)
-  same-bad : {n : ℕ} → SameRead X (bad n) (bad n)
+pub data SameRead (Free : Type 0) : Read → Read → Type 0 where
+  same-good : {x y : Line} → SameRecord Free x y → SameRead Free (good x) (good y)
+  same-bad : {n : ℕ} → SameRead Free (bad n) (bad n)
 
-module _ {X : Type 0} where
-  when-same : {x y : Line} (b : Bool) → SameRecord X x y → Opt (SameRecord X) (when b x) (when b y)
+module _ {Free : Type 0} where
+  when-same : {x y : Line} (b : Bool) → SameRecord Free x y → Opt (SameRecord Free) (when b x) (when b y)
   unfolding when
   when-same true h = o-some h
   when-same false h = o-none
 
-  number-same : (v : Number) (f g : ℕ → Line) → ((n : ℕ) → SameRecord X (f n) (g n)) → Opt (SameRecord X) (onNumber v f) (onNumber v g)
+  number-same : (v : Number) (f g : ℕ → Line) → ((n : ℕ) → SameRecord Free (f n) (g n)) → Opt (SameRecord Free) (onNumber v f) (onNumber v g)
   unfolding onNumber
   number-same (Is v) f g h = o-some (h v)
   number-same Bad f g h = o-none
 
-  module _ {l k : Line} (h : SameRecord X l k) where
-    span-same : (v : ℕ) → SameRecord X (withSpan l v) (withSpan k v)
+  module _ {l k : Line} (h : SameRecord Free l k) where
+    span-same : (v : ℕ) → SameRecord Free (withSpan l v) (withSpan k v)
     span-same v = record { kind = h .kind; op = h .op; spans = ap (λ s. s ++ (v ∷ [])) (h .spans); parts = h .parts; name = h .name }
 
-    parts-same : (n : ℕ) (s : Sort) → SameRecord X (withParts l n s) (withParts k n s)
+    parts-same : (n : ℕ) (s : Sort) → SameRecord Free (withParts l n s) (withParts k n s)
     parts-same n s = record { kind = h .kind; op = h .op; spans = h .spans; parts = ap (λ p. p ++ ((n, s) ∷ [])) (h .parts); name = h .name }
 
-    name-same : (a b : ℕ) (f : List ℕ) → SameRecord X (withName l a f) (withName k b f)
+    name-same : (a b : ℕ) (f : List ℕ) → SameRecord Free (withName l a f) (withName k b f)
     name-same a b f = record { kind = h .kind; op = h .op; spans = h .spans; parts = h .parts; name = inl refl }
 
-    op-same : (o : ℕ) → SameRecord X (withOp l o) (withOp k o)
+    op-same : (o : ℕ) → SameRecord Free (withOp l o) (withOp k o)
     op-same o = record { kind = h .kind; op = refl; spans = h .spans; parts = h .parts; name = h .name }
 
-    field-same : (r : Rule) (a b : ℕ) (f : List ℕ) → Opt (SameRecord X) (readField r a f l) (readField r b f k)
+    field-same : (r : Rule) (a b : ℕ) (f : List ℕ) → Opt (SameRecord Free) (readField r a f l) (readField r b f k)
     unfolding readField
     field-same span a b f = number-same _ _ _ span-same
     field-same name a b f = when-same _ (name-same a b f)
@@ -61,53 +61,44 @@ module _ {X : Type 0} where
     field-same unOp a b f = when-same _ (op-same _)
     field-same binOp a b f = when-same _ (op-same _)
 
-  then-same : {o u : Option Line} {f g : Line → Option Line} → Opt (SameRecord X) o u → ((x y : Line) → SameRecord X x y → Opt (SameRecord X) (f x) (g y))
-      → Opt (SameRecord X) (andThen o f) (andThen u g)
+  then-same : {o u : Option Line} {f g : Line → Option Line} → Opt (SameRecord Free) o u → ((x y : Line) → SameRecord Free x y → Opt (SameRecord Free) (f x) (g y))
+      → Opt (SameRecord Free) (andThen o f) (andThen u g)
   unfolding andThen
   then-same o-none k = o-none
   then-same (o-some h) k = k _ _ h
 
-  fields-same : (rs : List Rule) (a b : ℕ) (fs : List (List ℕ)) {l k : Line} → SameRecord X l k → Opt (SameRecord X) (readFields rs a fs l) (readFields rs b fs k)
+  fields-same : (rs : List Rule) (a b : ℕ) (fs : List (List ℕ)) {l k : Line} → SameRecord Free l k → Opt (SameRecord Free) (readFields rs a fs l) (readFields rs b fs k)
   unfolding readFields
   fields-same [] a b fs h = o-some h
   fields-same (r ∷ rs) a b [] h = o-none
   fields-same (r ∷ rs) a b (f ∷ fs) h = then-same (field-same h r a b f) (λ x y q. fields-same rs _ _ fs q)
 
-  ten-same : {o u : Option Line} → Opt (SameRecord X) o u → SameRead X (orTen o) (orTen u)
+  ten-same : {o u : Option Line} → Opt (SameRecord Free) o u → SameRead Free (orTen o) (orTen u)
   unfolding orTen
   ten-same o-none = same-bad
   ten-same (o-some h) = same-good h
 
-  either-same : {o u p q : Read} (b : Bool) → SameRead X o u → SameRead X p q → SameRead X (cond b o p) (cond b u q)
+  either-same : {o u p q : Read} (b : Bool) → SameRead Free o u → SameRead Free p q → SameRead Free (cond b o p) (cond b u q)
   either-same true h k = h
   either-same false h k = k
 
   -- a line of the same bytes, wherever it starts
-  line-same : (s : Sort) (at to : ℕ) (l : List ℕ) → SameRead X (readLine s at l) (readLine s to l)
+  line-same : (s : Sort) (at to : ℕ) (l : List ℕ) → SameRead Free (readLine s at l) (readLine s to l)
   unfolding readLine readPieces readAs
   line-same s at to l = go (fieldsOf l)
     where
-      go : (fs : List (List ℕ)) → SameRead X (readPieces s at fs) (readPieces s to fs)
+      go : (fs : List (List ℕ)) → SameRead Free (readPieces s at fs) (readPieces s to fs)
       go [] = same-bad
       go (w ∷ fs) =
           either-same (eqb (kindFor s w) none) same-bad
           (either-same (eqb (length fs) (length (rowOf (kindFor s w) .rules)))
           (ten-same (fields-same (rowOf (kindFor s w) .rules) _ _ fs (record { kind = refl; op = refl; spans = refl; parts = refl; name = inl refl }))) same-bad)
 
-  good-same : {r q : Read} {x : Line} → SameRead X r q → r ≡ good x → (y : Line) × (q ≡ good y) × SameRecord X x y
+  good-same : {r q : Read} {x : Line} → SameRead Free r q → r ≡ good x → (y : Line) × (q ≡ good y) × SameRecord Free x y
   good-same {x = w} (same-good {x = x} {y = y} h) e = (y, refl, let z : x ≡ w = cc in rw z at h)
   good-same same-bad e = absurd (let z : _≡_ {A = ℕ} 0 1 = cc in omega arith)
 
 -- ------------------------------------------------------------ many lines, elsewhere
-
-shallow : (i : ℕ) (b : Bool) (r : Read) (f : Line → Loaded) (xs : List Line) → judged i b r f ≡ lines xs → b ≡ false
-unfolding judged
-shallow i true r f xs e = absurd (let z : _≡_ {A = ℕ} 0 1 = cc in omega arith)
-shallow i false r f xs e = refl
-
-pub turned : (j : ℕ) (b : Bool) (r : Read) (f : Line → Loaded) (y : Line) (ys : List Line) → b ≡ false → r ≡ good y → f y ≡ lines ys → judged j b r f ≡ lines (y ∷ ys)
-unfolding judged
-turned j b r f y ys e g h = rw (e, g, h)
 
 -- the lines xs, read elsewhere
 pub record Reread (xs : List Line) (r : Loaded) : Type 0 where
@@ -127,7 +118,7 @@ scan-joined (l ∷ L) K (d ∷ ds) es i at j to xs zs e k =
     let from : Line → List (ℕ × Sort) = λ x. due (suc (d .0)) (sorts (x .parts)) ++ ds in
     let f : Line → Loaded = λ x. scan (suc i) (at + length l + 1) (from x) L in
     let r = judged-lines deep (readLine (d .1) at l) i f xs e in
-    let g = good-same {X = ⊥} (line-same (d .1) at to l) (r .2) in
+    let g = good-same {Free = ⊥} (line-same (d .1) at to l) (r .2) in
     let y = g .0 in
     let q : scan (suc i) (at + length l + 1) (from y) L ≡ lines (r .1) = rw (g .2 .parts) at (r .3) in
     let t = scan-joined L K (from y) es _ _ (suc j) (to + length l + 1) (r .1) zs q k in
@@ -135,7 +126,7 @@ scan-joined (l ∷ L) K (d ∷ ds) es i at j to xs zs e k =
     rw (r .4)
     (record {
       ys = y ∷ t .ys;
-      read = turned j deep (readLine (d .1) to l) (λ x. scan (suc j) (to + length l + 1) (due (suc (d .0)) (sorts (x .parts)) ++ (ds ++ es)) (L ++ K)) y (t .ys) (shallow i deep (readLine (d .1) at l) f xs e) (g .1) u;
+      read = judged-good j deep (readLine (d .1) to l) (λ x. scan (suc j) (to + length l + 1) (due (suc (d .0)) (sorts (x .parts)) ++ (ds ++ es)) (L ++ K)) y (t .ys) (judged-shallow i deep (readLine (d .1) at l) f xs e) (g .1) u;
       same = cons₂ (g .2) (t .same);
     })
 
@@ -173,8 +164,8 @@ int-says Expr at sp t x e = go (numberOf 4294967295 sp) (isText t) e
     go (Is n) false e = absurd (let z : _≡_ {A = ℕ} 0 1 = cc in omega arith)
     go Bad b e = absurd (let z : _≡_ {A = ℕ} 0 1 = cc in omega arith)
 
-ints-apart : {v : Number} {x y : Line} → SaysInt v x → SaysInt v y → TextApart x y
-ints-apart h k =
+ints-but-text : {v : Number} {x y : Line} → SaysInt v x → SaysInt v y → SameButText x y
+ints-but-text h k =
     let p : h .spans .0 ≡ k .spans .0 = cc (h .spans .1, k .spans .1) in
     record {
       kind = h .kind ∙ sym (k .kind);
@@ -184,19 +175,19 @@ ints-apart h k =
       name = inr (tt, h .kind);
     }
 
-read-apart : {l k : List ℕ} {x y : Line} (s : Sort) (at to : ℕ) → LineApart l k → readLine s at l ≡ good x → readLine s to k ≡ good y → TextApart x y
+read-but-text : {l k : List ℕ} {x y : Line} (s : Sort) (at to : ℕ) → LineSameButText l k → readLine s at l ≡ good x → readLine s to k ≡ good y → SameButText x y
 unfolding readLine
-read-apart {l} {y = y} s at to same-bytes e f = let g = good-same {X = Unit} (line-same s at to l) e in let q : g .0 ≡ y = cc (g .1, f) in rw q at (g .2)
-read-apart {x = x} {y = y} s at to (int-texts sp t u p q) e f = ints-apart (int-says s at sp t x (rw p at e)) (int-says s to sp u y (rw q at f))
+read-but-text {l} {y = y} s at to same-bytes e f = let g = good-same {Free = Unit} (line-same s at to l) e in let q : g .0 ≡ y = cc (g .1, f) in rw q at (g .2)
+read-but-text {x = x} {y = y} s at to (int-texts sp t u p q) e f = ints-but-text (int-says s at sp t x (rw p at e)) (int-says s to sp u y (rw q at f))
 
-pub scan-apart : (L K : List (List ℕ)) → Forall₂ LineApart L K → (ds : List (ℕ × Sort)) (i at j to : ℕ) (xs ys : List Line)
-    → scan i at ds L ≡ lines xs → scan j to ds K ≡ lines ys → Forall₂ TextApart xs ys
+pub scan-but-text : (L K : List (List ℕ)) → Forall₂ LineSameButText L K → (ds : List (ℕ × Sort)) (i at j to : ℕ) (xs ys : List Line)
+    → scan i at ds L ≡ lines xs → scan j to ds K ≡ lines ys → Forall₂ SameButText xs ys
 unfolding scan
-scan-apart L K nil₂ [] i at j to xs ys e f = let p : xs ≡ [] = cc in let q : ys ≡ [] = cc in rw (p, q) nil₂
-scan-apart L K nil₂ (d ∷ ds) i at j to xs ys e f = absurd (let z : _≡_ {A = ℕ} 0 1 = cc e in omega arith)
-scan-apart L K (cons₂ h r) [] i at j to xs ys e f = absurd (let z : _≡_ {A = ℕ} 0 1 = cc e in omega arith)
-scan-apart L K (cons₂ {l₁ = L'} {l₂ = K'} h r) (d ∷ ds) i at j to xs ys e f =
+scan-but-text L K nil₂ [] i at j to xs ys e f = let p : xs ≡ [] = cc in let q : ys ≡ [] = cc in rw (p, q) nil₂
+scan-but-text L K nil₂ (d ∷ ds) i at j to xs ys e f = absurd (let z : _≡_ {A = ℕ} 0 1 = cc e in omega arith)
+scan-but-text L K (cons₂ h r) [] i at j to xs ys e f = absurd (let z : _≡_ {A = ℕ} 0 1 = cc e in omega arith)
+scan-but-text L K (cons₂ {l₁ = L'} {l₂ = K'} h r) (d ∷ ds) i at j to xs ys e f =
     let p = judged-lines _ _ i _ xs e in
     let q = judged-lines _ _ j _ ys f in
-    let a = read-apart (d .1) at to h (p .2) (q .2) in
-    rw (p .4, q .4) (cons₂ a (scan-apart L' K' r (due (suc (d .0)) (sorts (q .0 .parts)) ++ ds) _ _ _ _ (p .1) (q .1) (rw (a .parts) at (p .3)) (q .3)))
+    let a = read-but-text (d .1) at to h (p .2) (q .2) in
+    rw (p .4, q .4) (cons₂ a (scan-but-text L' K' r (due (suc (d .0)) (sorts (q .0 .parts)) ++ ds) _ _ _ _ (p .1) (q .1) (rw (a .parts) at (p .3)) (q .3)))

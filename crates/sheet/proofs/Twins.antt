@@ -1,9 +1,10 @@
 -- Two trees whose records are related one by one, and so are their lines. Assumes nothing.
-use mathlib.Core.Path.{_≡_, ap}
+use mathlib.Core.Path.{_≡_, refl, ap}
 use mathlib.Core.List.{List, Forall₂, Forall₂·nil as nil₂, Forall₂·cons as cons₂}
 use Prim.Native.Nat.{ℕ, zero, suc}
 use Rattle.sheet.specs.Line.{Line}
 use Rattle.sheet.specs.Tree.{Node, node, Nodes, nil, more, total, takeNodes, dropNodes, grow, build}
+use Rattle.sheet.specs.Same.{SameLine}
 
 -- L of the lines' numbers, R of what the lines say
 mutual
@@ -48,3 +49,16 @@ module _ {L : ℕ → ℕ → Type 0} {R : Line → Line → Type 0} where
   unfolding build
   trees-twins next parts i j n nil₂ = no-twin
   trees-twins next parts i j n (cons₂ h r) = grown i j _ _ (parts _ _ h) n h (trees-twins next parts (suc i) (suc j) (next i j n) r)
+
+  pub one-twin : {t : Node} {ns : Nodes} → Twins L R (more t nil) ns → (u : Node) × (ns ≡ more u nil) × Twin L R t u
+  one-twin (and-twin {u = u} h no-twin) = (u, refl, h)
+
+-- trees with the same records, wherever they stand
+abbrev pub MovedTwin : Node → Node → Type 0
+MovedTwin = Twin (λ i j. Unit) SameLine
+
+abbrev pub MovedTwins : Nodes → Nodes → Type 0
+MovedTwins = Twins (λ i j. Unit) SameLine
+
+pub moved : {ls ks : List Line} (i j : ℕ) → Forall₂ SameLine ls ks → MovedTwins (build i ls) (build j ks)
+moved i j h = trees-twins (λ i j n. tt) (λ l k q. q .parts) i j tt h

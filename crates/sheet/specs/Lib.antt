@@ -2,6 +2,7 @@ pub mod Line
 pub mod Load
 pub mod Tree
 pub mod Same
+pub mod Joined
 pub mod Field
 pub mod Step
 pub mod Scratch

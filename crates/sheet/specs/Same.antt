@@ -14,15 +14,15 @@ pub record SameRecord (Free : Type 0) (l k : Line) : Type 0 where
   pub parts : l .parts ≡ k .parts
   pub name : (l .name ≡ k .name) ⊎ (Free × (l .kind ≡ 20))
 
--- the same in all
+-- the same record, its text too
 abbrev pub SameLine : Line → Line → Type 0
 SameLine = SameRecord ⊥
 
 -- the same but for the text of an `int`
-abbrev pub TextApart : Line → Line → Type 0
-TextApart = SameRecord Unit
+abbrev pub SameButText : Line → Line → Type 0
+SameButText = SameRecord Unit
 
 -- the bytes of two such lines: the same, or two `int` records with the same SPAN
-pub data LineApart : List ℕ → List ℕ → Type 0 where
-  same-bytes : {l : List ℕ} → LineApart l l
-  int-texts : {l k : List ℕ} (span t u : List ℕ) → fieldsOf l ≡ bytes "int" ∷ span ∷ t ∷ [] → fieldsOf k ≡ bytes "int" ∷ span ∷ u ∷ [] → LineApart l k
+pub data LineSameButText : List ℕ → List ℕ → Type 0 where
+  same-bytes : {l : List ℕ} → LineSameButText l l
+  int-texts : {l k : List ℕ} (span t u : List ℕ) → fieldsOf l ≡ bytes "int" ∷ span ∷ t ∷ [] → fieldsOf k ≡ bytes "int" ∷ span ∷ u ∷ [] → LineSameButText l k

@@ -41,3 +41,8 @@ build i (l ∷ ls) = grow i l (build (suc i) ls)
 unfoldable pub before : Nodes → Nodes → Nodes
 before nil ns = ns
 before (more t ts) ns = more t (before ts ns)
+
+-- how many trees
+abbrev pub treeCount : Nodes → ℕ
+treeCount nil = 0
+treeCount (more t ns) = suc (treeCount ns)

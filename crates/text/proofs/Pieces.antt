@@ -21,15 +21,6 @@ module _ (p : ℕ → Bool) where
       go true h = refl
       go false h = ap (λ l. b ∷ l) h
 
-  pub upto-length : (l : List ℕ) → length (upto p l) ≤ length l
-  unfolding upto
-  upto-length [] = omega arith
-  upto-length (b ∷ bs) = go (p b) (upto-length bs)
-    where
-      go : (t : Bool) → length (upto p bs) ≤ length bs → length (cond t [] (b ∷ upto p bs)) ≤ suc (length bs)
-      go true h = omega arith
-      go false h = omega arith
-
   -- the pieces of b ∷ bs, where t says whether b ends one
   abbrev ended-at : List ℕ → ℕ → List ℕ → Bool → List (List ℕ)
   ended-at w b bs t = elim t [ true ↦ w ∷ ended p [] bs | false ↦ ended p (w ++ (b ∷ [])) bs ]
@@ -70,6 +61,24 @@ module _ (p : ℕ → Bool) where
           → length (ended-at w b bs t) ≡ length (ended-at [] b bs t)
       go true h k = refl
       go false h k = h ∙ sym k
+
+-- a, behind the start w of a piece, stops where a piece ends
+abbrev pub AllEnded : (ℕ → Bool) → List ℕ → List ℕ → Type 0
+AllEnded p [] [] = Unit
+AllEnded p (x ∷ w) [] = ⊥
+AllEnded p w (b ∷ bs) = AllEnded p (elim (p b) [ true ↦ [] | false ↦ w ++ (b ∷ []) ]) bs
+
+-- the pieces of a text with another behind it, where the first stops at the end of a piece
+pub ended-append : (p : ℕ → Bool) (w a b : List ℕ) → AllEnded p w a → ended p w (a ++ b) ≡ ended p w a ++ ended p [] b
+unfolding ended
+ended-append p [] [] b h = refl
+ended-append p (x ∷ w) [] b h = absurd h
+ended-append p w (c ∷ a) b h = go (p c) h (λ v q. ended-append p v a b q)
+  where
+    go : (t : Bool) → AllEnded p (elim t [ true ↦ [] | false ↦ w ++ (c ∷ []) ]) a → ((v : List ℕ) → AllEnded p v a → ended p v (a ++ b) ≡ ended p v a ++ ended p [] b)
+        → ended-at p w c (a ++ b) t ≡ ended-at p w c a t ++ ended p [] b
+    go true q k = ap (λ l. w ∷ l) (k [] q)
+    go false q k = k (w ++ (c ∷ [])) q
 
 -- a piece ends where a byte passes the test, or before
 pub upto-most : (p : ℕ → Bool) (l : List ℕ) (k : ℕ) → k < length l → p (getD l k 0) ≡ true → length (upto p l) ≤ k

@@ -1,4 +1,4 @@
--- `sheet::grammar::kind_for` meets its contract: each arm looks the word up among those of its sort. Assumes nothing.
+-- `grammar::kinds::kind_for` meets its contract: each arm looks the word up among those of its sort. Assumes nothing.
 use borrow.Author.Needs.{needs}
 use Rattle.grammar.specs.Grammar.{Contract, Item, Field, Param, Ty, Arg, Clause, Stmt, Expr}
 use Rattle.grammar.proofs.KindLaws.{kind-at, kind-arm, other-sort}

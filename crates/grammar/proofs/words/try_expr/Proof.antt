@@ -1,4 +1,4 @@
--- `sheet::words::try_expr` meets its contract: the word that is tried stands at its place. Assumes nothing.
+-- `grammar::words::try_expr` meets its contract: the word that is tried stands at its place. Assumes nothing.
 use borrow.Author.Needs.{needs}
 use native.Mathlib.Omega.{arith}
 use Rattle.grammar.proofs.KindLaws.{tried-expr}

@@ -1,0 +1,34 @@
+-- The last of a name in a list, and in two lists one behind the other. Assumes nothing.
+use mathlib.Core.Path.{_≡_, refl, sym, ap, _∙_}
+use mathlib.Core.List.{List, [], _∷_, _++_}
+use mathlib.Core.Bool.{Bool, true, false, cond}
+use mathlib.Core.Option.{Option, none, some}
+use Rattle.text.specs.Text.{same}
+use Rattle.rules.specs.Text.{Name, lastNamed, orElse}
+
+pub or-none : {A : Type 0} (o : Option A) → orElse o none ≡ o
+unfolding orElse
+or-none none = refl
+or-none (some a) = refl
+
+-- the last of a list, or else o: the first of the list is a new such o
+pub last-turn : {A : Type 0} (f : A → Name) (x : Name) (a : A) (as' : List A) (o : Option A)
+    → orElse (lastNamed f x (a ∷ as')) o ≡ orElse (lastNamed f x as') (cond (same x (f a)) (some a) o)
+unfolding lastNamed orElse
+last-turn f x a as' o = go (lastNamed f x as') (same x (f a))
+  where
+    go : (l : Option _) (b : Bool)
+        → orElse (elim l as (λ _. Option _) [ some y ↦ some y | none ↦ elim b as (λ _. Option _) [ true ↦ some a | false ↦ none ] ]) o
+        ≡ orElse l (cond b (some a) o)
+    go (some y) b = refl
+    go none true = refl
+    go none false = refl
+
+pub last-append : {A : Type 0} (f : A → Name) (x : Name) (as' bs : List A) (o : Option A)
+    → orElse (lastNamed f x (as' ++ bs)) o ≡ orElse (lastNamed f x bs) (orElse (lastNamed f x as') o)
+unfolding lastNamed orElse
+last-append f x [] bs o = refl
+last-append f x (a ∷ as') bs o =
+    last-turn f x a (as' ++ bs) o
+    ∙ last-append f x as' bs (cond (same x (f a)) (some a) o)
+    ∙ ap (orElse (lastNamed f x bs)) (sym (last-turn f x a as' o))
