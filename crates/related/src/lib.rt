@@ -1,1 +1,1 @@
-// Theorems that compare the rules on two sheets: specs/ and proofs/. There is no code.
+// Theorems about the rules on whole sheets, most of which compare two: specs/ and proofs/. There is no code.

@@ -1,4 +1,4 @@
--- `message::literal::add_digits` meets its contract. Assumes nothing.
+-- `pieces::literal::add_digits` meets its contract. Assumes nothing.
 use Prim.Native.Nat.{_-_}
 use borrow.Author.Needs.{needs}
 use lib.ListN.{length, take}

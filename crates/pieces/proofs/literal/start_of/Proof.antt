@@ -1,4 +1,4 @@
--- `message::literal::start_of` meets its contract. Assumes nothing.
+-- `pieces::literal::start_of` meets its contract. Assumes nothing.
 use mathlib.Core.Path.{_≡_, refl, sym, _∙_}
 use Prim.Native.Nat.{_≤_, _-_}
 use borrow.Author.Needs.{needs}

@@ -1,4 +1,4 @@
--- `message::number::decimal_of` meets its contract. The invariant: the digits of what is left, and then those in the array. Assumes nothing.
+-- `pieces::number::decimal_of` meets its contract. The invariant: the digits of what is left, and then those in the array. Assumes nothing.
 use mathlib.Core.Path.{_≡_, refl}
 use mathlib.Core.List.{_++_}
 use Prim.Native.Nat.{_≤_}

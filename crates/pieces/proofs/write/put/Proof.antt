@@ -1,4 +1,4 @@
--- `message::write::put` meets its contract. Assumes nothing.
+-- `pieces::write::put` meets its contract. Assumes nothing.
 use mathlib.Core.Path.{_≡_}
 use Prim.Native.Nat.{_-_}
 use borrow.Author.Needs.{needs}
