@@ -1,6 +1,6 @@
 /*
  * Tests of the call: test SHEETS EXPECTED, the stored answers of the Rust, whose format is in
- * reference/README.md. Document 01's cases P1 to P10 are the first of them.
+ * reference/README.md. The cases P1 to P10 of reference/cases are the first.
  */
 #include "quanta_check.h"
 

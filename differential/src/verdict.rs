@@ -27,7 +27,8 @@ pub fn run(case: &Case, rng: &mut Rng) -> Outcome {
     Outcome { answer, sheet, scratch, types, message }
 }
 
-/// Where the outcome isn't what the reference and document 01 say.
+/// Where the outcome isn't what the reference answers, or a buffer doesn't hold what docs/ARCHITECTURE.md
+/// says of it in 'Loaded lines'.
 pub fn differences(case: &Case, wanted: &Answer, got: &Outcome) -> Vec<String> {
     let zeros = match wanted.number {
         1..=5 => vec![],

@@ -93,7 +93,7 @@ fn guards<T: Element>(lent: &mut Lent<T>, before: bool) -> bool {
     true
 }
 
-/// What a right library answers and leaves, as document 01 states it.
+/// What a right library answers and leaves.
 fn right(case: &Case, answer: &Answer, rng: &mut Rng) -> Outcome {
     let mut right = Outcome {
         answer: ffi::Answer {

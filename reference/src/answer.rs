@@ -1,4 +1,4 @@
-//! The answer of the verdict call, as document 01 states it.
+//! The answer of the verdict call: its numbers, places, message and type table.
 
 use crate::askings::{listed, Asking, REFUSED};
 use crate::numbers;

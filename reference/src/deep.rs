@@ -1,5 +1,5 @@
 //! An accepted sheet with keyed calls nested deeper than the Rust can answer: it doubles its askings for each level. The answer here
-//! is document 01's rules applied by hand. A test compares it with the Rust's where that is quick.
+//! is the rules applied by hand. A test compares it with the Rust's where that is quick.
 
 use crate::answer::Answer;
 use crate::case::Case;

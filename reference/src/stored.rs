@@ -63,8 +63,8 @@ pub fn answer_lines(case: &Case, answer: &Answer) -> Vec<String> {
     places.iter().map(|place| format!("{number},{place},{count},{length};{held}")).collect()
 }
 
-/// What document 01 says of the lent buffers afterwards: the zeros in the scratch, how much of each buffer is untouched up to its
-/// end, and what stands before that in type table and message.
+/// What the lent buffers hold afterwards (docs/ARCHITECTURE.md, 'Loaded lines'): the zeros in the scratch, how much of each
+/// buffer is untouched up to its end, and what stands before that in type table and message.
 fn held(case: &Case, answer: &Answer) -> String {
     let zeros = match answer.number {
         1..=5 => 0,

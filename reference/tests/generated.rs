@@ -64,7 +64,7 @@ fn codes_of_the_table() {
     }
 }
 
-/// Document 01's exception to the kept types, a `let` that was bound since the line's statement began, never comes in `check`:
+/// The exception to the kept types, a `let` that was bound since the line's statement began, never comes in `check`:
 /// all askings of a line have one type.
 #[test]
 fn a_line_has_one_type() {

@@ -1,4 +1,4 @@
-//! The program's output on sheets of document 01.
+//! The program's output on the worked example and a few other sheets.
 
 use std::io::Write;
 use std::process::{Command, Output, Stdio};

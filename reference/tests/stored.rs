@@ -133,7 +133,7 @@ fn parsed(line: &str, case: &Case) -> (Answer, usize) {
     (answer, zeros)
 }
 
-/// Every stored line says the four numbers, all of each lent buffer, the count of its marks, and the zeros of document 01.
+/// Every stored line says the four numbers, all of each lent buffer, the count of its marks, and the zeros of the scratch.
 #[test]
 fn answers_parse() {
     for (case, line) in cases("crates/replay/stdin").iter().zip(expected("crates/replay/stdout")) {

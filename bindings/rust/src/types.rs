@@ -1,4 +1,4 @@
-/// The type of the expression on a line of a sheet. `ty as u8` is its code in document 01.
+/// The type of the expression on a line of a sheet. `ty as u8` is its code in the type table.
 #[derive(Clone, Copy, Debug, PartialEq, Eq, Hash)]
 #[repr(u8)]
 pub enum Type {

@@ -1,4 +1,4 @@
-//! The cases written by hand in reference/cases, from document 01 and the Rust.
+//! The cases written by hand in reference/cases.
 
 #[path = "../../../reference/src/cases.rs"]
 mod cases;

@@ -13,11 +13,11 @@ use lib.ListN.{length}
 use borrow.Author.Tests.{eq-eqb, ne-eqb, not-true, not-false}
 use Rattle.text.specs.Text.{bytes, same}
 use Rattle.grammar.specs.Grammar as grammar
-use Rattle.sheet.specs.Scratch.{kindAt, nameAt, entry}
+use Rattle.sheet.specs.Scratch.{kindAt, nameAt, paramCount}
 use Rattle.rules.specs.Text.{Name, is, among, lastNamed, get}
 use Rattle.rules.specs.Ast.{Entry, Param, paramOf, typeName}
 use Rattle.rules.specs.Asking.{Ty}
-use Rattle.rules.specs.Declared.{tyOfDecl}
+use Rattle.rules.specs.Types.{tyOfDecl}
 use Rattle.rules.specs.Model.{isAssetParam}
 use Rattle.rules.specs.Typing.{isSome, identOf}
 use Rattle.rules.specs.Arithmetic.{any, amountOf, isMintedAmount, boundedAddend, isMints, assetParams, bounded}
@@ -26,16 +26,17 @@ use Rattle.rules.specs.Standing.{nodeName, nodesAt, exprAt, paramAt, paramsAt, 
 use Rattle.rules.proofs.Exprs.{int-at, ident-at, is-dot-at, dot-at}
 use Rattle.rules.proofs.Standing.{row-first}
 use Rattle.rules.proofs.Records.{param-at}
-use Rattle.declared.specs.Found.{foundNode, Stretch, Last, ofKind}
-use Rattle.declared.specs.Lines.{Typed, EntryAt, ExprAt, RecordAt}
-use Rattle.declared.specs.declared.model.Found.{Found}
-use Rattle.declared.specs.declared.model.Found.the-variants.{At, Nothing}
-use Rattle.declared.proofs.Fields.{last-map, all-kind, param-name}
-use Rattle.declared.proofs.Finding.{among-last}
-use Rattle.declared.proofs.Types.{named-word}
+use Rattle.lookups.specs.Found.{foundNode, Stretch, Last, ofKind}
+use Rattle.lookups.specs.Lines.{TypeAt, EntryAt, ExprAt, RecordAt}
+use Rattle.lookups.specs.declared.model.Found.{Found}
+use Rattle.lookups.specs.declared.model.Found.the-variants.{At, Nothing}
+use Rattle.lookups.proofs.Fields.{last-map, all-kind, param-name}
+use Rattle.lookups.proofs.Finding.{among-last}
+use Rattle.lookups.proofs.Types.{named-word}
 use Rattle.arithmetic.specs.Tests.{names, amountBounded}
 use Rattle.arithmetic.proofs.Ops.{fits-next}
 use Rattle.arithmetic.proofs.Rows.{parts-of}
+use Rattle.grammar.specs.Kinds as kinds
 
 both-not : (a b : Bool) → b ≡ false → (a && b) ≡ false
 both-not true b e = e
@@ -57,25 +58,25 @@ pub typed-names : (x : Name) (ps : List Param) → isSome (get x (paramTypes ps)
 unfolding get paramTypes isSome
 typed-names x ps =
     rw (get, last-map {B = Name × Ty} (λ p. (p .name, tyOfDecl (p .ty))) (λ e. e .0) (λ p. p .name) x (λ p. refl) ps)
-    (go (lastNamed (λ p. p .name) x ps) ∙ sym (among-last (λ p. p .name) x ps))
+    (by-cases (lastNamed (λ p. p .name) x ps) ∙ sym (among-last (λ p. p .name) x ps))
   where
-    go : (o : Option Param)
+    by-cases : (o : Option Param)
         → isSome {A = Ty} (elim (Option·map {B = Name × Ty} (λ p. (p .name, tyOfDecl (p .ty))) o) as (λ _. Option Ty) [ none ↦ none | some e ↦ some (e .1) ]) ≡ isSome o
-    go none = refl
-    go (some p) = refl
+    by-cases none = refl
+    by-cases (some p) = refl
 
 -- What `is_param` meets: m parameters.
-module _ (s S : List ℕ) (i m : ℕ) (h : EntryAt s S i) (c : m ≡ entry S i 5) where
+module _ (s S : List ℕ) (i m : ℕ) (h : EntryAt s S i) (c : m ≡ paramCount S i) where
   pub params-stretch : Stretch s S m (i + 1)
   params-stretch = rw (c, add-one i) (record { loaded = h .loaded; sort = grammar.Param; row = parts-of s S i h .params })
 
-  module _ (x : Name) (r : Found) (l : Last s S 7 x m (i + 1) r) where
+  module _ (x : Name) (r : Found) (l : Last s S kinds.param x m (i + 1) r) where
     by-search : among x (names (entryAt s i .params)) ≡ isSome (foundNode s r)
     unfolding paramsAt
     by-search =
         let q = parts-of s S i h in
-        let ns = nodesAt s (entry S i 5) (suc i) in
-        let all : ofKind 7 ns ≡ ns = all-kind 7 (λ i a. omega (arith, a .kind .0, a .kind .1)) (h .loaded) (q .params) in
+        let ns = nodesAt s (paramCount S i) (suc i) in
+        let all : ofKind kinds.param ns ≡ ns = all-kind kinds.param (λ i a. omega (arith, a .kind .0, a .kind .1)) (h .loaded) (q .params) in
         rw (q .is)
         (among-last (λ p. p .name) x (map paramOf ns)
         ∙ ap isSome (last-map paramOf (λ p. p .name) nodeName x param-name ns)
@@ -94,7 +95,7 @@ module _ (s S : List ℕ) (i m : ℕ) (h : EntryAt s S i) (c : m ≡ entry S i 5
 
 -- What `is_asset` meets: a parameter of the name n.
 module _ (s S : List ℕ) (i : ℕ) (x n : Name) (b : Bool) (h : RecordAt grammar.Param s S i) (e : n ≡ nameAt s S i) (q : b ≡ same x n) where
-  the-param : (paramAt s i ≡ record { name = nameAt s S i; ty = typeAt s (suc i) }) × Typed s S (suc i)
+  the-param : (paramAt s i ≡ record { name = nameAt s S i; ty = typeAt s (suc i) }) × TypeAt s S (suc i)
   the-param =
       let p = param-at (h .loaded) (h .here .within) (omega (arith, h .here .kind .0, h .here .kind .1)) in
       (p .0, record { loaded = h .loaded; here = p .1 })
@@ -129,42 +130,42 @@ module _ (E : Entry) (x : Name) (a : Bool) (e : a ≡ among x (assetParams (E .p
 
 -- What `bounded` meets: a term of the kind k.
 module _ (s S : List ℕ) (E : Entry) (i k : ℕ) (h : ExprAt s S i) (e : k ≡ kindAt S i) where
-  pub literal : k ≡ 20 → true ≡ bounded E (exprAt s i)
+  pub literal : k ≡ kinds.int → true ≡ bounded E (exprAt s i)
   unfolding bounded boundedAddend isSome
-  literal q = rw (bounded, boundedAddend, int-at (h .loaded) (h .here), ← e, eq-eqb k 20 q) refl
+  literal q = rw (bounded, boundedAddend, int-at (h .loaded) (h .here), ← e, eq-eqb k kinds.int q) refl
 
-  module _ (n : k ≢ 20) where
+  module _ (n : k ≢ kinds.int) where
     -- a term that is no literal is bounded as an amount
     by-amount : bounded E (exprAt s i) ≡ (amountOf (exprAt s i) (assetParams (E .params)) || (any isMints (E .clauses) && amountOf (exprAt s i) (names (E .params))))
     unfolding bounded boundedAddend isMintedAmount isSome
-    by-amount = rw (bounded, boundedAddend, int-at (h .loaded) (h .here), ← e, ne-eqb k 20 n) refl
+    by-amount = rw (bounded, boundedAddend, int-at (h .loaded) (h .here), ← e, ne-eqb k kinds.int n) refl
 
     no-amount : ((xs : List Name) → amountOf (exprAt s i) xs ≡ false) → false ≡ bounded E (exprAt s i)
     no-amount f = sym (by-amount ∙ rw (f (assetParams (E .params))) (both-not (any isMints (E .clauses)) (amountOf (exprAt s i) (names (E .params))) (f (names (E .params)))))
 
-    pub no-dot : k ≢ 30 → false ≡ bounded E (exprAt s i)
+    pub no-dot : k ≢ kinds.dot → false ≡ bounded E (exprAt s i)
     unfolding amountOf
-    no-dot m = no-amount (λ xs. rw (amountOf, is-dot-at (h .loaded) (h .here), ← e, ne-eqb k 30 m) refl)
+    no-dot m = no-amount (λ xs. rw (amountOf, is-dot-at (h .loaded) (h .here), ← e, ne-eqb k kinds.dot m) refl)
 
-    module _ (q : k ≡ 30) (y : Name) (b : Bool) (f : y ≡ nameAt s S i) (g : b ≡ same y (bytes "amount")) where
+    module _ (q : k ≡ kinds.dot) (y : Name) (b : Bool) (f : y ≡ nameAt s S i) (g : b ≡ same y (bytes "amount")) where
       base : ExprAt s S (suc i)
       base = record { loaded = h .loaded; here = row-first (dot-at (h .loaded) (h .here) (sym e ∙ q) .1) }
 
       the-dot : (xs : List Name) → amountOf (exprAt s i) xs ≡ (b && elim (identOf (exprAt s (i + 1))) [ none ↦ false | some x ↦ among x xs ])
       unfolding amountOf is
-      the-dot xs = rw (amountOf, is-dot-at (h .loaded) (h .here), ← e, eq-eqb k 30 q, ← f, ← g, add-one i) refl
+      the-dot xs = rw (amountOf, is-dot-at (h .loaded) (h .here), ← e, eq-eqb k kinds.dot q, ← f, ← g, add-one i) refl
 
       pub no-amount-name : not b ≡ true → false ≡ bounded E (exprAt s i)
       no-amount-name z = no-amount (λ xs. the-dot xs ∙ rw (not-true b z) refl)
 
       module _ (z : not b ≡ false) (l : ℕ) (t : l ≡ kindAt S (i + 1)) where
-        pub no-ident : l ≢ 21 → false ≡ bounded E (exprAt s i)
+        pub no-ident : l ≢ kinds.id → false ≡ bounded E (exprAt s i)
         no-ident m =
-            no-amount (λ xs. the-dot xs ∙ rw (not-false b z, add-one i, ident-at (base .loaded) (base .here), ← add-one i, ← t, ne-eqb l 21 m) refl)
+            no-amount (λ xs. the-dot xs ∙ rw (not-false b z, add-one i, ident-at (base .loaded) (base .here), ← add-one i, ← t, ne-eqb l kinds.id m) refl)
 
-        pub ident-amount : (x : Name) (r : Bool) → l ≡ 21 → x ≡ nameAt s S (i + 1) → r ≡ amountBounded E x → r ≡ bounded E (exprAt s i)
+        pub ident-amount : (x : Name) (r : Bool) → l ≡ kinds.id → x ≡ nameAt s S (i + 1) → r ≡ amountBounded E x → r ≡ bounded E (exprAt s i)
         unfolding amountBounded
         ident-amount x r m u v =
             let w : (xs : List Name) → amountOf (exprAt s i) xs ≡ among x xs =
-            λ xs. the-dot xs ∙ rw (not-false b z, add-one i, ident-at (base .loaded) (base .here), ← add-one i, ← t, ← u, eq-eqb l 21 m) refl in
+            λ xs. the-dot xs ∙ rw (not-false b z, add-one i, ident-at (base .loaded) (base .here), ← add-one i, ← t, ← u, eq-eqb l kinds.id m) refl in
             v ∙ sym (by-amount ∙ rw (w (assetParams (E .params)), w (names (E .params))) refl)

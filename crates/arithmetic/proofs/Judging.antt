@@ -12,7 +12,7 @@ use mir.Val.{Fits}
 use lib.ListN.{length, getD}
 use borrow.Author.Tests.{eq-eqb, ne-eqb, not-true, not-false}
 use Rattle.grammar.specs.Grammar as grammar
-use Rattle.sheet.specs.Scratch.{kindAt, opAt, nameAt, endAt, entry, skip}
+use Rattle.sheet.specs.Scratch.{kindAt, opAt, nameAt, endAt, skip, clauseCount, paramCount, bodyCount}
 use Rattle.rules.specs.Text.{Name, among, get}
 use Rattle.rules.specs.Ast.{AssignOp, Set, assignOps, Expr, Entry, Stmt, assign}
 use Rattle.rules.specs.Asking.{Ty, Rule, Res, ok, refused, expect, ifSome, forEach}
@@ -24,18 +24,19 @@ use Rattle.rules.proofs.Parts.{stop, _also_, pick}
 use Rattle.rules.proofs.Exprs.{ident-at}
 use Rattle.rules.proofs.Standing.{row-first, row-rest}
 use Rattle.rules.proofs.Records.{named, guard-at, let-at, emit-at, assign-at, do-at}
-use Rattle.declared.specs.Answers.{Answers}
-use Rattle.declared.specs.Lines.{EntryAt, ExprAt, RecordAt}
-use Rattle.declared.specs.Refusal.{refusalOf, doneOf}
-use Rattle.declared.specs.declared.refusal.Refusal.the-variants.{Overflow}
-use Rattle.declared.specs.declared.refusal.Done.{Done}
-use Rattle.declared.specs.declared.refusal.Done.the-variants.{Fine, Refused}
-use Rattle.declared.proofs.Rows.{Turn}
-use Rattle.declared.proofs.Answers.{gives, fits, misfits}
+use Rattle.refusals.specs.Answers.{Answers}
+use Rattle.lookups.specs.Lines.{EntryAt, ExprAt, RecordAt}
+use Rattle.refusals.specs.Refusal.{refusalOf, doneOf}
+use Rattle.refusals.specs.declared.refusal.Refusal.the-variants.{Overflow}
+use Rattle.refusals.specs.declared.refusal.Done.{Done}
+use Rattle.refusals.specs.declared.refusal.Done.the-variants.{Fine, Refused}
+use Rattle.lookups.proofs.Rows.{Turn}
+use Rattle.refusals.proofs.Answers.{gives, fits, misfits}
 use Rattle.arithmetic.specs.Tests.{names, added, addsUnbounded}
 use Rattle.arithmetic.proofs.Ops.{fits-next}
 use Rattle.arithmetic.proofs.Rows.{parts-of}
 use Rattle.arithmetic.proofs.Bounds.{typed-names}
+use Rattle.grammar.specs.Kinds as kinds
 
 -- ------------------------------------------------------------ an assignment
 
@@ -86,7 +87,7 @@ module _ (s S : List ℕ) (i k : ℕ) (h : RecordAt grammar.Stmt s S i) (e : k �
   pub stmt-next : length S < 18446744073709551616 → Fits w64 (i + 1)
   stmt-next l = fits-next S i (h .here .within) l
 
-  module _ (q : k ≡ 18) where
+  module _ (q : k ≡ kinds.assign) where
     pub target-expr : ExprAt s S (i + 1)
     target-expr = rw (add-one i) (record { loaded = h .loaded; here = row-first (assign-at (h .loaded) (h .here) (sym e ∙ q) .1) })
 
@@ -98,10 +99,10 @@ module _ (s S : List ℕ) (E : Entry) (i k : ℕ) (h : RecordAt grammar.Stmt s S
   abbrev Judged : Done → Type 0
   Judged r = Answers (checkSum E (paramTypes (E .params)) (stmtAt s i)) (doneOf s r)
 
-  pub other-stmt : k ≢ 18 → Answers (checkSum E (paramTypes (E .params)) (stmtAt s i)) (doneOf s Fine)
+  pub other-stmt : k ≢ kinds.assign → Answers (checkSum E (paramTypes (E .params)) (stmtAt s i)) (doneOf s Fine)
   unfolding checkSum doneOf
   other-stmt n =
-      pick {P = λ k. k ≢ 18 → kindAt S i ≡ k → Judged Fine} {i = 15} {n = 5} (kindAt S i)
+      pick {P = λ k. k ≢ kinds.assign → kindAt S i ≡ k → Judged Fine} {i = kinds.guard} {n = 5} (kindAt S i)
       ((λ _ q. rw (guard-at (h .loaded) (h .here) q .0) (gives tt))
       also (λ _ q. rw (let-at (h .loaded) (h .here) q .0) (gives tt))
       also (λ _ q. rw (emit-at (h .loaded) (h .here) q .0) (gives tt))
@@ -110,7 +111,7 @@ module _ (s S : List ℕ) (E : Entry) (i k : ℕ) (h : RecordAt grammar.Stmt s S
       also stop)
       (h .here .kind .0) (h .here .kind .1) (rw (← e) n) refl
 
-  module _ (q : k ≡ 18) where
+  module _ (q : k ≡ kinds.assign) where
     abbrev target : ExprAt s S (i + 1)
     target = target-expr s S i k h e q
 
@@ -129,15 +130,15 @@ module _ (s S : List ℕ) (E : Entry) (i k : ℕ) (h : RecordAt grammar.Stmt s S
         rw (assign-at (h .loaded) (h .here) (sym e ∙ q) .0, ← add-one i) (by-judge E (paramTypes (E .params)) (placeAt s i) op T W r (rw f a))
 
     module _ (l : ℕ) (t : l ≡ kindAt S (i + 1)) where
-      pub no-bare : l ≢ 21 → Answers (checkSum E (paramTypes (E .params)) (stmtAt s i)) (doneOf s Fine)
+      pub no-bare : l ≢ kinds.id → Answers (checkSum E (paramTypes (E .params)) (stmtAt s i)) (doneOf s Fine)
       unfolding doneOf
       no-bare n =
-          the-sum none (ok tt) (ident-at (target .loaded) (target .here) ∙ rw (← t, ne-eqb l 21 n) refl)
+          the-sum none (ok tt) (ident-at (target .loaded) (target .here) ∙ rw (← t, ne-eqb l kinds.id n) refl)
           (judge-none E (paramTypes (E .params)) (placeAt s i) (termsOf op T W))
 
-      module _ (y : l ≡ 21) (o j : ℕ) (b : Bool) (f : o ≡ opAt S i) (g : j ≡ endAt S (i + 1)) (a : b ≡ addsUnbounded E (getD assignOps o Set) (exprAt s (i + 1)) (exprAt s j)) where
+      module _ (y : l ≡ kinds.id) (o j : ℕ) (b : Bool) (f : o ≡ opAt S i) (g : j ≡ endAt S (i + 1)) (a : b ≡ addsUnbounded E (getD assignOps o Set) (exprAt s (i + 1)) (exprAt s j)) where
         the-name : identOf T ≡ some (nameAt s S (i + 1))
-        the-name = ident-at (target .loaded) (target .here) ∙ rw (← t, eq-eqb l 21 y) refl
+        the-name = ident-at (target .loaded) (target .here) ∙ rw (← t, eq-eqb l kinds.id y) refl
 
         adds : added E (termsOf op T W) ≡ b
         adds = sym (a ∙ rw (f, g) (is-added E op T W))
@@ -174,10 +175,10 @@ module _ (s S : List ℕ) (E : Entry) (i k : ℕ) (h : RecordAt grammar.Stmt s S
 
 -- ------------------------------------------------------------ check_arithmetic
 
-pub sums-start : (s S : List ℕ) (i left at : ℕ) → EntryAt s S i → at ≡ skip S (entry S i 6) (skip S (entry S i 5) (suc i)) → left ≡ entry S i 7
+pub sums-start : (s S : List ℕ) (i left at : ℕ) → EntryAt s S i → at ≡ skip S (clauseCount S i) (skip S (paramCount S i) (suc i)) → left ≡ bodyCount S i
     → Turn grammar.Stmt stmtsAt (checkSum (entryAt s i) (paramTypes (entryAt s i .params))) (checkArithmetic (entryAt s i) (paramTypes (entryAt s i .params))) s S left at
 unfolding checkArithmetic
 sums-start s S i left at h e l =
     let q = parts-of s S i h in
     let b : entryAt s i .body ≡ stmtsAt s left at = rw (q .is, e, l) refl in
-    record { loaded = h .loaded; row = rw (e, l) (q .body); rest = λ r a. subst (λ ss. Answers (forEach ss (checkSum (entryAt s i) (paramTypes (entryAt s i .params)))) (doneOf s r)) (sym b) a }
+    record { loaded = h .loaded; row = rw (e, l) (q .body); known = λ r a. subst (λ ss. Answers (forEach ss (checkSum (entryAt s i) (paramTypes (entryAt s i .params)))) (doneOf s r)) (sym b) a }

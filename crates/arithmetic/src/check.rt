@@ -2,21 +2,22 @@
 use crate::limits::limits_bound;
 use crate::sums::adds_unbounded;
 use crate::sums::is_param;
-use declared::Done;
-use declared::Refusal;
-use declared::body_line;
+use grammar::kinds;
+use lookups::body_line;
+use refusals::Done;
+use refusals::Refusal;
+use sheet::body_count;
 use sheet::end;
 use sheet::kind;
 use sheet::name;
 use sheet::op;
-use sheet::third;
 ghost use Rattle.grammar.specs.Grammar.{Stmt};
 ghost use Rattle.rules.specs.Arithmetic.{checkArithmetic, checkSum};
 ghost use Rattle.rules.specs.Check.{paramTypes};
 ghost use Rattle.rules.specs.Standing.{entryAt, stmtAt};
-ghost use Rattle.declared.specs.Answers.{Answers};
-ghost use Rattle.declared.specs.Lines.{EntryAt, RecordAt};
-ghost use Rattle.declared.specs.Refusal.{doneOf};
+ghost use Rattle.refusals.specs.Answers.{Answers};
+ghost use Rattle.lookups.specs.Lines.{EntryAt, RecordAt};
+ghost use Rattle.refusals.specs.Refusal.{doneOf};
 
 // The statement at line stmt of an entry.
 fn check_sum(sheet: &[u8], lines: &[u16], entry: usize, stmt: usize) -> Done
@@ -24,11 +25,11 @@ fn check_sum(sheet: &[u8], lines: &[u16], entry: usize, stmt: usize) -> Done
     requires { ⌜ RecordAt Stmt (now sheet) (now lines) stmt ⌝ }
     ensures { λ r. ⌜ Answers (checkSum (entryAt (now (sheet .entry)) entry) (paramTypes (entryAt (now (sheet .entry)) entry .params)) (stmtAt (now (sheet .entry)) stmt)) (doneOf (now (sheet .entry)) r) ⌝ }
 {
-    if kind(lines, stmt) != 18 {
+    if kind(lines, stmt) != kinds::ASSIGN {
         return Done::Fine;
     }
     let target = stmt + 1;
-    if kind(lines, target) != 21 {
+    if kind(lines, target) != kinds::ID {
         return Done::Fine;
     }
     if !adds_unbounded(
@@ -57,7 +58,7 @@ pub fn check_arithmetic(sheet: &[u8], lines: &[u16], i: usize) -> Done
     ensures { λ r. ⌜ Answers (checkArithmetic (entryAt (now (sheet .entry)) i) (paramTypes (entryAt (now (sheet .entry)) i .params))) (doneOf (now (sheet .entry)) r) ⌝ }
 {
     let mut at = body_line(lines, i);
-    let mut left = third(lines, i);
+    let mut left = body_count(lines, i);
     while 0 < left {
         let judged = check_sum(sheet, lines, i, at);
         if let Done::Refused(why) = judged {

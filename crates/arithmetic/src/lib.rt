@@ -1,4 +1,4 @@
-// `check_arithmetic` over loaded lines: module 6.
+// `check_arithmetic` over loaded lines: sums that may overflow unchecked.
 mod check;
 mod limits;
 mod lines;

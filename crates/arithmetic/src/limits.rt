@@ -1,11 +1,14 @@
 // `limits_bound`: whether a `limits` clause caps a name from above.
+use crate::lines::acknowledged;
 use crate::lines::is_op;
-use declared::clauses_line;
+use grammar::kinds;
+use grammar::ops;
+use lookups::clauses_line;
+use sheet::clause_count;
 use sheet::end;
 use sheet::kind;
 use sheet::name;
 use sheet::op;
-use sheet::second;
 use text::is_word;
 ghost use mathlib.Core.Bool.{_&&_};
 ghost use mathlib.Core.Path.{_≡_};
@@ -16,14 +19,15 @@ ghost use Rattle.grammar.specs.Grammar.{Clause};
 ghost use Rattle.rules.specs.Arithmetic.{capsFromAbove, limitsBound, limitsCap, upperBounds};
 ghost use Rattle.rules.specs.Arithmetic.{mentions as mentionsOf, subtracts as subtractsOf};
 ghost use Rattle.rules.specs.Standing.{clauseAt, entryAt, exprAt};
-ghost use Rattle.declared.specs.Lines.{EntryAt, ExprAt, RecordAt};
+ghost use Rattle.lookups.specs.Lines.{EntryAt, ExprAt, RecordAt};
 ghost use Rattle.arithmetic.specs.Tests.{compares as comparesOf};
+ghost use Rattle.grammar.specs.Kinds as kinds;
 
 // Whether line i is the bare name x.
 fn is_named(sheet: &[u8], lines: &[u16], i: usize, x: &[u8]) -> bool
-    ensures { λ r. ⌜ r ≡ (eqb (kindAt (now (lines .entry)) i) 21 && same (nameAt (now (sheet .entry)) (now (lines .entry)) i) (now (x .entry))) ⌝ }
+    ensures { λ r. ⌜ r ≡ (eqb (kindAt (now (lines .entry)) i) kinds.id && same (nameAt (now (sheet .entry)) (now (lines .entry)) i) (now (x .entry))) ⌝ }
 {
-    if kind(lines, i) != 21 {
+    if kind(lines, i) != kinds::ID {
         return false;
     }
     is_word(name(sheet, lines, i), x)
@@ -37,7 +41,7 @@ fn mentions(sheet: &[u8], lines: &[u16], i: usize, x: &[u8]) -> bool
     let stop = end(lines, i);
     let mut at = i;
     while at < stop {
-        if 32 <= kind(lines, at) {
+        if acknowledged(sheet, lines, at) {
             at = end(lines, at);
             continue;
         }
@@ -54,7 +58,7 @@ fn subtracts(sheet: &[u8], lines: &[u16], i: usize, x: &[u8]) -> bool
     requires { ⌜ ExprAt (now sheet) (now lines) i ⌝ }
     ensures { λ r. ⌜ r ≡ subtractsOf (exprAt (now (sheet .entry)) i) (now (x .entry)) ⌝ }
 {
-    if !is_op(lines, i, 9) {
+    if !is_op(lines, i, ops::BIN_SUB) {
         return false;
     }
     if !mentions(sheet, lines, end(lines, i + 1), x) {
@@ -79,15 +83,15 @@ fn compares(sheet: &[u8], lines: &[u16], i: usize, x: &[u8]) -> bool
     requires { ⌜ ExprAt (now sheet) (now lines) i ⌝ }
     ensures { λ r. ⌜ r ≡ comparesOf (exprAt (now (sheet .entry)) i) (now (x .entry)) ⌝ }
 {
-    if kind(lines, i) != 29 {
+    if kind(lines, i) != kinds::BIN {
         return false;
     }
     let o = op(lines, i);
     let right = end(lines, i + 1);
-    if (o == 6) | (o == 4) {
+    if (o == ops::BIN_LE) | (o == ops::BIN_LT) {
         return upper_bounds(sheet, lines, i + 1, right, x);
     }
-    if (o == 7) | (o == 5) {
+    if (o == ops::BIN_GE) | (o == ops::BIN_GT) {
         return upper_bounds(sheet, lines, right, i + 1, x);
     }
     false
@@ -100,7 +104,7 @@ fn caps_from_above(sheet: &[u8], lines: &[u16], i: usize, x: &[u8]) -> bool
     let stop = end(lines, i);
     let mut at = i;
     while at < stop {
-        if is_op(lines, at, 1) {
+        if is_op(lines, at, ops::BIN_AND) {
             at += 1;
             continue;
         }
@@ -117,7 +121,7 @@ fn limits_cap(sheet: &[u8], lines: &[u16], i: usize, x: &[u8]) -> bool
     requires { ⌜ RecordAt Clause (now sheet) (now lines) i ⌝ }
     ensures { λ r. ⌜ r ≡ limitsCap (now (x .entry)) (clauseAt (now (sheet .entry)) i) ⌝ }
 {
-    if kind(lines, i) != 11 {
+    if kind(lines, i) != kinds::LIMITS {
         return false;
     }
     caps_from_above(sheet, lines, i + 1, x)
@@ -128,7 +132,7 @@ pub fn limits_bound(sheet: &[u8], lines: &[u16], entry: usize, x: &[u8]) -> bool
     ensures { λ r. ⌜ r ≡ limitsBound (entryAt (now (sheet .entry)) entry) (now (x .entry)) ⌝ }
 {
     let mut at = clauses_line(lines, entry);
-    let mut left = second(lines, entry);
+    let mut left = clause_count(lines, entry);
     while 0 < left {
         if limits_cap(sheet, lines, at, x) {
             return true;

@@ -1,13 +1,16 @@
 // The terms of a sum, and which of them are bounded.
+use crate::lines::acknowledged;
 use crate::lines::is_op;
-use declared::Found;
-use declared::clauses_line;
-use declared::last_named;
+use grammar::kinds;
+use grammar::ops;
+use lookups::Found;
+use lookups::clauses_line;
+use lookups::last_named;
+use sheet::clause_count;
 use sheet::end;
-use sheet::first;
 use sheet::kind;
 use sheet::name;
-use sheet::second;
+use sheet::param_count;
 use text::is_word;
 ghost use mathlib.Core.Bool.{_&&_, not};
 ghost use mathlib.Core.Path.{_≡_};
@@ -21,7 +24,7 @@ ghost use Rattle.rules.specs.Model.{isAssetParam};
 ghost use Rattle.rules.specs.Standing.{entryAt, exprAt, paramAt};
 ghost use Rattle.rules.specs.Text.{among};
 ghost use Rattle.rules.specs.Typing.{isSome};
-ghost use Rattle.declared.specs.Lines.{EntryAt, ExprAt, RecordAt};
+ghost use Rattle.lookups.specs.Lines.{EntryAt, ExprAt, RecordAt};
 ghost use Rattle.arithmetic.specs.Tests.{addsUnbounded, amountBounded, names, others};
 
 // Whether an entry has a parameter of the name x.
@@ -29,7 +32,14 @@ pub fn is_param(sheet: &[u8], lines: &[u16], entry: usize, x: &[u8]) -> bool
     requires { ⌜ EntryAt (now sheet) (now lines) entry ⌝ }
     ensures { λ r. ⌜ r ≡ among (now (x .entry)) (names (entryAt (now (sheet .entry)) entry .params)) ⌝ }
 {
-    match last_named(sheet, lines, 7, x, entry + 1, first(lines, entry)) {
+    match last_named(
+        sheet,
+        lines,
+        kinds::PARAM,
+        x,
+        entry + 1,
+        param_count(lines, entry),
+    ) {
         Found::At(_) => true,
         Found::Nothing => false,
     }
@@ -52,7 +62,7 @@ fn is_asset_param(sheet: &[u8], lines: &[u16], entry: usize, x: &[u8]) -> bool
     ensures { λ r. ⌜ r ≡ among (now (x .entry)) (assetParams (entryAt (now (sheet .entry)) entry .params)) ⌝ }
 {
     let mut at = entry + 1;
-    let mut left = first(lines, entry);
+    let mut left = param_count(lines, entry);
     while 0 < left {
         if is_asset(sheet, lines, at, x) {
             return true;
@@ -69,9 +79,9 @@ fn has_mints(sheet: &[u8], lines: &[u16], entry: usize) -> bool
     ensures { λ r. ⌜ r ≡ any isMints (entryAt (now (sheet .entry)) entry .clauses) ⌝ }
 {
     let mut at = clauses_line(lines, entry);
-    let mut left = second(lines, entry);
+    let mut left = clause_count(lines, entry);
     while 0 < left {
-        if kind(lines, at) == 13 {
+        if kind(lines, at) == kinds::MINTS {
             return true;
         }
         at = end(lines, at);
@@ -101,16 +111,16 @@ fn bounded(sheet: &[u8], lines: &[u16], entry: usize, i: usize) -> bool
     ensures { λ r. ⌜ r ≡ boundedOf (entryAt (now (sheet .entry)) entry) (exprAt (now (sheet .entry)) i) ⌝ }
 {
     let k = kind(lines, i);
-    if k == 20 {
+    if k == kinds::INT {
         return true;
     }
-    if k != 30 {
+    if k != kinds::DOT {
         return false;
     }
     if !is_word(name(sheet, lines, i), b"amount") {
         return false;
     }
-    if kind(lines, i + 1) != 21 {
+    if kind(lines, i + 1) != kinds::ID {
         return false;
     }
     amount_bounded(sheet, lines, entry, name(sheet, lines, i + 1))
@@ -122,10 +132,10 @@ fn same_target(sheet: &[u8], lines: &[u16], a: usize, b: usize) -> bool
     requires { ⌜ ExprAt (now sheet) (now lines) b ⌝ }
     ensures { λ r. ⌜ r ≡ sameTarget (exprAt (now (sheet .entry)) a) (exprAt (now (sheet .entry)) b) ⌝ }
 {
-    if kind(lines, a) != 21 {
+    if kind(lines, a) != kinds::ID {
         return false;
     }
-    if kind(lines, b) != 21 {
+    if kind(lines, b) != kinds::ID {
         return false;
     }
     is_word(name(sheet, lines, a), name(sheet, lines, b))
@@ -140,7 +150,7 @@ fn has_target(sheet: &[u8], lines: &[u16], target: usize, value: usize) -> bool
     let stop = end(lines, value);
     let mut at = value;
     while at < stop {
-        if is_op(lines, at, 8) {
+        if is_op(lines, at, ops::BIN_ADD) {
             at += 1;
             continue;
         }
@@ -170,7 +180,7 @@ fn has_unbounded(
     let mut at = value;
     let mut due = own;
     while at < stop {
-        if is_op(lines, at, 8) {
+        if is_op(lines, at, ops::BIN_ADD) {
             at += 1;
             continue;
         }
@@ -201,13 +211,13 @@ pub fn adds_unbounded(
     requires { ⌜ ExprAt (now sheet) (now lines) value ⌝ }
     ensures { λ r. ⌜ r ≡ addsUnbounded (entryAt (now (sheet .entry)) entry) (getD assignOps op Set) (exprAt (now (sheet .entry)) target) (exprAt (now (sheet .entry)) value) ⌝ }
 {
-    if (op == 2) | (32 <= kind(lines, value)) {
+    if (op == ops::ASSIGN_SUB) | acknowledged(sheet, lines, value) {
         return false;
     }
-    if op == 1 {
+    if op == ops::ASSIGN_ADD {
         return has_unbounded(sheet, lines, entry, target, value, false);
     }
-    if !is_op(lines, value, 8) {
+    if !is_op(lines, value, ops::BIN_ADD) {
         return false;
     }
     if !has_target(sheet, lines, target, value) {

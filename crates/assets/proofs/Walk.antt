@@ -19,19 +19,22 @@ use Rattle.rules.specs.Asking.{refused, _>>=_, _>>_, expect}
 use Rattle.rules.specs.Kept.{Table, kept}
 use Rattle.rules.specs.Typing.{identLeaf, identIs, identOf, dotOf, callOf}
 use Rattle.rules.specs.Assets.{makesAsset, droppedText, noAssetCall, noAssetCalls}
-use Rattle.rules.specs.Standing.{exprAt, Loaded}
+use Rattle.rules.specs.Standing.{exprAt}
 use Rattle.rules.proofs.Exprs.{leafAt, by-kind, call-at, is-call-at}
-use Rattle.rules.proofs.Forest.{joined, partsOf, Left, At, left-one, left-over, left-at}
+use Rattle.rules.proofs.Forest.{joined, partsOf}
+use Rattle.rules.proofs.Walks as walks
+use Rattle.rules.proofs.Walks.{Walk, walk-one, walk-line, walk-inside}
 use Rattle.rules.proofs.Parts.{stop, _also_, pick}
 use Rattle.rules.proofs.Records.{placed}
 use Rattle.rules.proofs.Standing.{row-first}
-use Rattle.declared.specs.Answers.{Answers}
-use Rattle.declared.specs.Lines.{RecordAt}
-use Rattle.declared.specs.Refusal.{refusalOf, doneOf}
-use Rattle.declared.specs.declared.refusal.Refusal.the-variants.{Dropped}
-use Rattle.declared.specs.declared.refusal.Done.the-variants.{Fine, Refused}
-use Rattle.declared.proofs.Answers.{misfits, then-refused}
+use Rattle.refusals.specs.Answers.{Answers}
+use Rattle.lookups.specs.Lines.{RecordAt}
+use Rattle.refusals.specs.Refusal.{refusalOf, doneOf}
+use Rattle.refusals.specs.declared.refusal.Refusal.the-variants.{Dropped}
+use Rattle.refusals.specs.declared.refusal.Done.the-variants.{Fine, Refused}
+use Rattle.refusals.proofs.Answers.{misfits, then-refused}
 use Rattle.assets.specs.Made.{isAssetCall}
+use Rattle.grammar.specs.Kinds as kinds
 
 -- ------------------------------------------------------------ expressions one behind another
 
@@ -62,82 +65,69 @@ dropped l s c es h = then-refused _ _ _ (then-refused _ _ _ (misfits (not (makes
 
 -- What `makes_asset` meets: a callee of kind k, and whether its name is either word.
 pub makes-asset : (s S : List ℕ) (i k : ℕ) (x : Name) (v w : Bool) → RecordAt grammar.Expr s S i → k ≡ kindAt S i → x ≡ nameAt s S i → v ≡ same x (bytes "split") → w ≡ same x (bytes "mint")
-    → ((eqb k 30 && v) || (eqb k 21 && w)) ≡ makesAsset (exprAt s i)
+    → ((eqb k kinds.dot && v) || (eqb k kinds.id && w)) ≡ makesAsset (exprAt s i)
 unfolding makesAsset identIs identOf leafOf identLeaf dotOf is
 makes-asset s S i k x v w h e n f g =
     rw e
-    (by-kind (h .loaded) (h .here) (λ k e. ((eqb k 30 && v) || (eqb k 21 && w)) ≡ makesAsset e)
+    (by-kind (h .loaded) (h .here) (λ k e. ((eqb k kinds.dot && v) || (eqb k kinds.id && w)) ≡ makesAsset e)
     (λ k a b.
-    pick {P = λ k. ((eqb k 30 && v) || (eqb k 21 && w)) ≡ makesAsset (leaf i (spanAt s S i) (leafAt k (nameAt s S i)))} {i = 20} {n = 8} k
+    pick {P = λ k. ((eqb k kinds.dot && v) || (eqb k kinds.id && w)) ≡ makesAsset (leaf i (spanAt s S i) (leafAt k (nameAt s S i)))} {i = kinds.int} {n = 8} k
     (refl also (g ∙ ap (λ y. same y (bytes "mint")) n) also refl also refl also refl also refl also refl also refl also stop) a b)
     refl refl
     (or-false v ∙ f ∙ ap (λ y. same y (bytes "split")) n)
     refl
-    (λ k w a. rw (ne-eqb k 30 (omega arith), ne-eqb k 21 (omega arith)) refl))
+    (λ k w a. rw (ne-eqb k kinds.dot (omega arith), ne-eqb k kinds.id (omega arith)) refl))
 
 -- What `is_asset_call` meets: a line of kind k.
 module _ (s S : List ℕ) (i k : ℕ) (h : RecordAt grammar.Expr s S i) (e : k ≡ kindAt S i) where
-  pub no-call : k ≢ 31 → false ≡ isAssetCall (exprAt s i)
+  pub no-call : k ≢ kinds.call → false ≡ isAssetCall (exprAt s i)
   unfolding isAssetCall
-  no-call q = rw (isAssetCall, is-call-at (h .loaded) (h .here), ← e, ne-eqb k 31 q) refl
+  no-call q = rw (isAssetCall, is-call-at (h .loaded) (h .here), ← e, ne-eqb k kinds.call q) refl
 
-  pub callee-here : k ≡ 31 → RecordAt grammar.Expr s S (i + 1)
+  pub callee-here : k ≡ kinds.call → RecordAt grammar.Expr s S (i + 1)
   callee-here q = record { loaded = h .loaded; here = rw add-one (row-first (call-at (h .loaded) (h .here) (sym e ∙ q) .1)) }
 
-  pub a-call : (r : Bool) → k ≡ 31 → r ≡ makesAsset (exprAt s (i + 1)) → r ≡ isAssetCall (exprAt s i)
+  pub a-call : (r : Bool) → k ≡ kinds.call → r ≡ makesAsset (exprAt s (i + 1)) → r ≡ isAssetCall (exprAt s i)
   unfolding isAssetCall
   a-call r q f = f ∙ rw (isAssetCall, is-call-at (h .loaded) (h .here), ← e, q, add-one) refl
 
 -- an asset call is refused, and is a `call` record
 refused-here : (s S : List ℕ) (i : ℕ) → RecordAt grammar.Expr s S i → isAssetCall (exprAt s i) ≡ true → Answers (noAssetCall (exprAt s i)) (doneOf s (Refused (Dropped i)))
 unfolding doneOf refusalOf isAssetCall callOf
-refused-here s S i h q = go (eqb (kindAt S i) 31) refl
+refused-here s S i h q = by-cases (eqb (kindAt S i) kinds.call) refl
   where
-    go : (b : Bool) → eqb (kindAt S i) 31 ≡ b → Answers (noAssetCall (exprAt s i)) (doneOf s (Refused (Dropped i)))
-    go true f =
-        let e = eqb-true (kindAt S i) 31 f in
+    by-cases : (b : Bool) → eqb (kindAt S i) kinds.call ≡ b → Answers (noAssetCall (exprAt s i)) (doneOf s (Refused (Dropped i)))
+    by-cases true f =
+        let e = eqb-true (kindAt S i) kinds.call f in
         let c = call-at (h .loaded) (h .here) e in
-        rw (c .0, placed (h .loaded) (h .here .within) 31 _ e refl) (dropped i (spanAt s S i) (exprAt s (suc i)) _ (rw (c .0) at q))
-    go false f = absurd (let z : _≡_ {A = Bool} true false = sym q ∙ rw (isAssetCall, is-call-at (h .loaded) (h .here), f) refl in (let y : _≡_ {A = ℕ} 0 1 = cc in omega arith))
+        rw (c .0, placed (h .loaded) (h .here .within) kinds.call _ e refl) (dropped i (spanAt s S i) (exprAt s (suc i)) _ (rw (c .0) at q))
+    by-cases false f = absurd (let z : _≡_ {A = Bool} true false = sym q ∙ rw (isAssetCall, is-call-at (h .loaded) (h .here), f) refl in (let y : _≡_ {A = ℕ} 0 1 = cc in omega arith))
 
 -- ------------------------------------------------------------ the walk
 
--- the expressions es in the lines from at up to end are left of the one at line i
-pub record Walking (s S : List ℕ) (i end at : ℕ) : Type 0 where
-  pub loaded : Loaded s S
-  pub exprs : Exprs
-  pub left : Left s S at end exprs
-  pub whole : (T : Table) → kept (noAssetCall (exprAt s i)) T ≡ kept (noAssetCalls exprs) T
+-- what is left at line at is what is walked of the expression at line i
+abbrev pub Walking : (s S : List ℕ) → (i end at : ℕ) → Type 0
+Walking s S i end at = Walk s S (λ es. (T : Table) → kept (noAssetCall (exprAt s i)) T ≡ kept (noAssetCalls es) T) end at
 
 pub walk-start : (s S : List ℕ) (i end : ℕ) → RecordAt grammar.Expr s S i → end ≡ endAt S i → Walking s S i end i
 unfolding noAssetCalls _>>_
-walk-start s S i end h e =
-    rw e (record { loaded = h .loaded; exprs = more (exprAt s i) nil; left = left-one (h .loaded) (h .here); whole = λ T. sym (kept-unit (noAssetCall (exprAt s i)) T) })
+walk-start s S i end h e = walk-one (h .loaded) (h .here) e (λ T. sym (kept-unit (noAssetCall (exprAt s i)) T))
 
 module _ (s S : List ℕ) (i end at : ℕ) (w : Walking s S i end at) where
   pub walk-over : end ≤ at → Answers (noAssetCall (exprAt s i)) (doneOf s Fine)
   unfolding noAssetCalls doneOf kept
-  walk-over h = record { answers = λ T. w .whole T ∙ rw (left-over (w .loaded) (w .left) h) refl }
+  walk-over h = record { answers = walks.walk-over w h }
 
   module _ (h : at < end) where
-    here : At (w .loaded) at end (w .exprs)
-    here = left-at (w .loaded) (w .left) h
-
     pub walk-here : RecordAt grammar.Expr s S at
-    walk-here = record { loaded = w .loaded; here = here .here }
+    walk-here = record { loaded = w .loaded; here = walk-line w h }
 
     module _ (b : Bool) (e : b ≡ isAssetCall (exprAt s at)) where
       pub walk-found : b ≡ true → Answers (noAssetCall (exprAt s i)) (doneOf s (Refused (Dropped at)))
       unfolding noAssetCalls doneOf
       walk-found q =
-          let r = then-refused (noAssetCall (exprAt s at)) (noAssetCalls (here .rest)) (refusalOf s (Dropped at)) (refused-here s S at walk-here (sym e ∙ q)) in
-          record { answers = λ T. w .whole T ∙ rw (here .is) (r .answers T) }
+          walks.walk-found w h
+          (λ es z. record { answers = λ T. z T ∙ then-refused _ (noAssetCalls es) (refusalOf s (Dropped at)) (refused-here s S at walk-here (sym e ∙ q)) .answers T })
 
       pub walk-next : b ≡ false → Walking s S i end (at + 1)
-      walk-next q =
-          record {
-            loaded = w .loaded;
-            exprs = joined (partsOf (exprAt s at)) (here .rest);
-            left = rw add-one (here .inside);
-            whole = λ T. w .whole T ∙ ap (λ es. kept (noAssetCalls es) T) (here .is) ∙ walked-in (exprAt s at) (here .rest) (sym e ∙ q) T;
-          }
+      walk-next q = walk-inside w h (λ es z T. z T ∙ walked-in (exprAt s at) es (sym e ∙ q) T)

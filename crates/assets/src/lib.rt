@@ -1,4 +1,4 @@
-// Asset use over loaded lines: of module 6 what refuses an asset that is made and dropped.
+// `asset_calls_consumed` over loaded lines: no asset that is made is dropped.
 mod consumed;
 mod made;
 

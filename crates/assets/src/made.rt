@@ -1,6 +1,7 @@
 // Expressions in which no asset may be made.
-use declared::Done;
-use declared::Refusal;
+use grammar::kinds;
+use refusals::Done;
+use refusals::Refusal;
 use sheet::end;
 use sheet::kind;
 use sheet::name;
@@ -11,9 +12,9 @@ ghost use Rattle.rules.specs.Asking.{forEach};
 ghost use Rattle.rules.specs.Assets.{makesAsset, noAssetCall};
 ghost use Rattle.rules.specs.Ast.{list};
 ghost use Rattle.rules.specs.Standing.{exprAt, exprsAt};
-ghost use Rattle.declared.specs.Answers.{Answers};
-ghost use Rattle.declared.specs.Lines.{RecordAt, RecordsAt};
-ghost use Rattle.declared.specs.Refusal.{doneOf};
+ghost use Rattle.refusals.specs.Answers.{Answers};
+ghost use Rattle.lookups.specs.Lines.{RecordAt, RecordsAt};
+ghost use Rattle.refusals.specs.Refusal.{doneOf};
 ghost use Rattle.assets.specs.Made.{isAssetCall};
 
 // Whether a call of the callee at line i makes an asset.
@@ -23,14 +24,14 @@ fn makes_asset(sheet: &[u8], lines: &[u16], i: usize) -> bool
 {
     let k = kind(lines, i);
     let word = name(sheet, lines, i);
-    ((k == 30) & is_word(word, b"split")) | ((k == 21) & is_word(word, b"mint"))
+    ((k == kinds::DOT) & is_word(word, b"split")) | ((k == kinds::ID) & is_word(word, b"mint"))
 }
 
 fn is_asset_call(sheet: &[u8], lines: &[u16], i: usize) -> bool
     requires { ⌜ RecordAt Expr (now sheet) (now lines) i ⌝ }
     ensures { λ r. ⌜ r ≡ isAssetCall (exprAt (now (sheet .entry)) i) ⌝ }
 {
-    if kind(lines, i) != 31 {
+    if kind(lines, i) != kinds::CALL {
         return false;
     }
     makes_asset(sheet, lines, i + 1)

@@ -12,8 +12,8 @@ use Rattle.rules.specs.Check.{check}
 use Rattle.rules.specs.Standing.{readLines, linesIn, modelIn}
 use Rattle.rules.specs.Verdict.{modelOf}
 use Rattle.rules.proofs.Checked.{sheet-kept}
-use Rattle.declared.specs.Refusal.{doneOf}
-use Rattle.declared.specs.declared.refusal.Done.{Done}
+use Rattle.refusals.specs.Refusal.{doneOf}
+use Rattle.refusals.specs.declared.refusal.Done.{Done}
 use Rattle.typing.specs.Asks.{Does}
 
 model-read : (s S : List ℕ) (types : ℕ) (ls : List Line) → load s types (length S) ≡ lines ls → modelIn s ≡ modelOf ls

@@ -11,12 +11,12 @@ use lib.ListN.{length, getD}
 use lib.Seq.{getD-set-same}
 use borrow.Author.Tests.{eq-eqb, ne-eqb, eqb-true, eqb-false}
 use Rattle.grammar.specs.Grammar as grammar
-use Rattle.sheet.specs.Scratch.{kindAt, nameAt, entry, endAt, skip}
+use Rattle.sheet.specs.Scratch.{kindAt, nameAt, endAt, skip, emitArgCount}
 use Rattle.sheet.specs.Tree.{Node, node}
 use Rattle.rules.specs.Ast.{Expr, Stmt, guard, bind, emit, assign, do', line, lineAfter, list}
 use Rattle.rules.specs.Asking.{Ty, code, codeR, Res, ok, refused, _>>=_, _>>_}
-use Rattle.rules.specs.Kept.{Table, kept}
-use Rattle.rules.specs.Declared.{eqTy}
+use Rattle.rules.specs.Kept.{Table, kept, tyFrom}
+use Rattle.rules.specs.Types.{eqTy}
 use Rattle.rules.specs.Typing as typing
 use Rattle.rules.specs.Typing.{tyOf, typing, bound}
 use Rattle.rules.specs.Statements.{checkStmtTypes, expectPredicate, refuseNameRecipient}
@@ -27,15 +27,14 @@ use Rattle.rules.proofs.Binding.{kept-length, then-ok, then-refused, kept-assoc
 use Rattle.rules.proofs.Parts.{stop as end', _also_, pick}
 use Rattle.rules.proofs.Records.{guard-at, let-at, emit-at, assign-at, do-at, no-stmts, stmts-next}
 use Rattle.rules.proofs.Standing.{Stands, stands, row-first, row-nth, row-take, skip-next, nodes-last}
-use Rattle.declared.proofs.Answers.{fits, misfits}
-use Rattle.declared.proofs.Codes.{code-of, code-is, from-code, told, untold}
-use Rattle.declared.specs.Codes.{tyFrom}
-use Rattle.declared.specs.Found.{nodeKind, ofKind}
-use Rattle.declared.specs.Refusal.{refusalOf, doneOf}
-use Rattle.declared.specs.declared.refusal.Refusal.{Refusal}
-use Rattle.declared.specs.declared.refusal.Refusal.the-variants.{Local}
-use Rattle.declared.specs.declared.refusal.Done.{Done}
-use Rattle.declared.specs.declared.refusal.Done.the-variants.{Fine, Refused}
+use Rattle.refusals.proofs.Answers.{fits, misfits}
+use Rattle.lookups.proofs.Codes.{code-of, code-is, from-code, code-from, untold}
+use Rattle.lookups.specs.Found.{nodeKind, ofKind}
+use Rattle.refusals.specs.Refusal.{refusalOf, doneOf}
+use Rattle.refusals.specs.declared.refusal.Refusal.{Refusal}
+use Rattle.refusals.specs.declared.refusal.Refusal.the-variants.{CollectionLocal}
+use Rattle.refusals.specs.declared.refusal.Done.{Done}
+use Rattle.refusals.specs.declared.refusal.Done.the-variants.{Fine, Refused}
 use Rattle.env.specs.Answers.{typedOf}
 use Rattle.env.specs.Force.{paramsIn, envOf, localOf, namedEnd, lets, endsIn, InForce}
 use Rattle.env.proofs.Mentioned.{not-stale-at}
@@ -51,6 +50,8 @@ use Rattle.statements.specs.Checked.{StmtIn}
 use Rattle.emits.specs.Emit.{EmitIn, emitRule}
 use Rattle.checking.specs.Walk.{withLocals, no-let, a-let, ReadyTyped, stmtRule, BodyStmt, StmtOf, Binds, StmtDoes, BodyAt}
 use Rattle.checking.proofs.Locals.{lets-append, OnTyped, on-typed}
+use Rattle.grammar.specs.Kinds as kinds
+use Rattle.rules.specs.Codes as codes
 
 -- ------------------------------------------------------------ a statement
 
@@ -58,27 +59,27 @@ use Rattle.checking.proofs.Locals.{lets-append, OnTyped, on-typed}
 marked-by : (s S : List ℕ) (env : Env) (T : Table) (i : ℕ) (t : Ty) (U : Table) → Asks s S env T i → env .next ≤ i
     → kept (tyOf (envOf s T env) (exprAt s i)) T ≡ record { res = ok t; table = U } → getD U i 0 ≡ code t
 unfolding codeR
-marked-by s S env T i t U h l e = go (leb 1 (getD T i 0) && leb (getD T i 0) 10) refl
+marked-by s S env T i t U h l e = by-cases (leb codes.int (getD T i 0) && leb (getD T i 0) codes.unknown) refl
   where
     here : line (exprAt s i) ≡ i
     here = asks-line s S env T i h
 
-    go : (b : Bool) → (leb 1 (getD T i 0) && leb (getD T i 0) 10) ≡ b → getD U i 0 ≡ code t
-    go true q =
-        let c = code-of (getD T i 0) (told (getD T i 0) q) in
+    by-cases : (b : Bool) → (leb codes.int (getD T i 0) && leb (getD T i 0) codes.unknown) ≡ b → getD U i 0 ≡ code t
+    by-cases true q =
+        let c = code-of (getD T i 0) (code-from (getD T i 0) q) in
         let f = from-table (envOf s T env) (exprAt s i) T (tyFrom (getD T i 0)) (not-stale-at s S env T i (of-expr s S env T i h) l) (rw here (c .0)) in
         let u : U ≡ T = ap (λ o. o .table) (sym e ∙ f) in
         let z : _≡_ {A = Res Ty} (ok t) (ok (tyFrom (getD T i 0))) = ap (λ o. o .res) (sym e ∙ f) in
         let y : t ≡ tyFrom (getD T i 0) = cc in
         rw (u, y) (sym (c .1))
-    go false q =
+    by-cases false q =
         let f = first-time (envOf s T env) (exprAt s i) T (rw here (untold (getD T i 0) q)) in
         let X = kept (typing (envOf s T env) (exprAt s i)) T .table in
         let r : kept (typing (envOf s T env) (exprAt s i)) T .res ≡ ok t = sym (ap (λ o. o .res) f) ∙ ap (λ o. o .res) e in
         ap (λ o. getD (o .table) i 0) (sym e ∙ f)
         ∙ rw (here, r) (getD-set-same X i (code t) 0 (rw (kept-length (typing (envOf s T env) (exprAt s i)) T) (omega (arith, h .here .within, h .ready .room))))
 
-module _ (s S : List ℕ) (env : Env) (T : Table) (i : ℕ) (h : StmtOf 16 s S env T i) where
+module _ (s S : List ℕ) (env : Env) (T : Table) (i : ℕ) (h : StmtOf kinds.let' s S env T i) where
   let-is : (stmtAt s i ≡ bind (nameAt s S i) (exprAt s (suc i))) × Row S grammar.Expr 1 (suc i) × (skip S 1 (suc i) ≡ endAt S i)
   let-is = let-at (h .stmt .ready .ready .force .loaded) (h .stmt .here) (h .kind)
 
@@ -89,24 +90,24 @@ module _ (s S : List ℕ) (env : Env) (T : Table) (i : ℕ) (h : StmtOf 16 s S e
     typed : (c : ℕ) → a ≡ Is c → kept (tyOf (envOf s T env) (exprAt s (suc i))) T ≡ record { res = ok (tyFrom c); table = U }
     typed c e = rw (← add-one i) (gave s _ T a U y c e)
 
-    pub let-bound : (c : ℕ) → a ≡ Is c → c ≢ 9 → StmtDoes s S (envOf s T env) i T Fine U
+    pub let-bound : (c : ℕ) → a ≡ Is c → c ≢ codes.collection → StmtDoes s S (envOf s T env) i T Fine U
     unfolding stmtRule checkLocal eqTy doneOf code
     let-bound c e q =
         let k : c ≡ code (tyFrom c) = gave-code s _ T a U y c e in
         let f : kept (checkLocal (exprAt s (suc i)) (tyFrom c)) U ≡ record { res = ok tt; table = U } =
-        fits (not (eqb (code (tyFrom c)) 9)) _ _ _ (rw (← k, ne-eqb c 9 q) refl) .answers U in
+        fits (not (eqb (code (tyFrom c)) codes.collection)) _ _ _ (rw (← k, ne-eqb c codes.collection q) refl) .answers U in
         record {
           does = record { gives = rw (let-is .0) (then-ok _ (checkLocal (exprAt s (suc i))) T U (tyFrom c) _ (typed c e) f) };
           binds = λ z w.
               record { type = tyFrom c; typed = typed c e; fits = f; marked = marked-by s S env T (suc i) (tyFrom c) U (rw (add-one i) at let-asks) (omega (arith, h .stmt .next)) (typed c e) };
         }
 
-    pub let-collection : (c : ℕ) → a ≡ Is c → c ≡ 9 → StmtDoes s S (envOf s T env) i T (Refused (Local (i + 1))) U
+    pub let-collection : (c : ℕ) → a ≡ Is c → c ≡ codes.collection → StmtDoes s S (envOf s T env) i T (Refused (CollectionLocal (i + 1))) U
     unfolding stmtRule checkLocal eqTy doneOf refusalOf code
     let-collection c e q =
         let k : c ≡ code (tyFrom c) = gave-code s _ T a U y c e in
-        let f : kept (checkLocal (exprAt s (suc i)) (tyFrom c)) U ≡ record { res = refused (refusalOf s (Local (suc i))); table = U } =
-        misfits (not (eqb (code (tyFrom c)) 9)) _ _ _ (rw (← k, eq-eqb c 9 q) refl) .answers U in
+        let f : kept (checkLocal (exprAt s (suc i)) (tyFrom c)) U ≡ record { res = refused (refusalOf s (CollectionLocal (suc i))); table = U } =
+        misfits (not (eqb (code (tyFrom c)) codes.collection)) _ _ _ (rw (← k, eq-eqb c codes.collection q) refl) .answers U in
         record {
           does = record { gives = rw (let-is .0, add-one i) (then-ok _ (checkLocal (exprAt s (suc i))) T U (tyFrom c) _ (typed c e) f) };
           binds = λ z w. absurd (let v : _≡_ {A = ℕ} 0 1 = cc in omega arith);
@@ -121,10 +122,10 @@ module _ (s S : List ℕ) (env : Env) (T : Table) (i : ℕ) (h : StmtOf 16 s S e
         }
 
 -- a statement that binds nothing
-other : {s S : List ℕ} {Γ : typing.Env} {i : ℕ} {T U : Table} {r : Done} → kindAt S i ≢ 16 → Does s (stmtRule Γ (stmtAt s i)) T r U → StmtDoes s S Γ i T r U
+other : {s S : List ℕ} {Γ : typing.Env} {i : ℕ} {T U : Table} {r : Done} → kindAt S i ≢ kinds.let' → Does s (stmtRule Γ (stmtAt s i)) T r U → StmtDoes s S Γ i T r U
 other n d = record { does = d; binds = λ z w. absurd (n w) }
 
-module _ (s S : List ℕ) (env : Env) (T : Table) (i : ℕ) (h : StmtOf 19 s S env T i) where
+module _ (s S : List ℕ) (env : Env) (T : Table) (i : ℕ) (h : StmtOf kinds.do' s S env T i) where
   do-is : (stmtAt s i ≡ do' (exprAt s (suc i))) × Row S grammar.Expr 1 (suc i) × (skip S 1 (suc i) ≡ endAt S i)
   do-is = do-at (h .stmt .ready .ready .force .loaded) (h .stmt .here) (h .kind)
 
@@ -153,30 +154,30 @@ module _ (s S : List ℕ) (env : Env) (T : Table) (i : ℕ) (h : BodyStmt s S en
   bd : Loaded s S
   bd = h .ready .ready .force .loaded
 
-  pub guard-asks : k ≡ 15 → Asks s S env T (i + 1)
+  pub guard-asks : k ≡ kinds.guard → Asks s S env T (i + 1)
   guard-asks q = record { ready = h .ready .ready; here = rw (add-one i) (row-first (guard-at bd (h .here) (sym e ∙ q) .1)) }
 
-  pub guard-does : (r : Done) (U : Table) → k ≡ 15 → Does s (expectPredicate (envOf s T env) (exprAt s (i + 1))) T r U → StmtDoes s S (envOf s T env) i T r U
+  pub guard-does : (r : Done) (U : Table) → k ≡ kinds.guard → Does s (expectPredicate (envOf s T env) (exprAt s (i + 1))) T r U → StmtDoes s S (envOf s T env) i T r U
   unfolding stmtRule
   guard-does r U q a = other (omega arith) (rw (guard-at bd (h .here) (sym e ∙ q) .0, ← add-one i) a)
 
   pub stmt-of : (m : ℕ) → k ≡ m → StmtOf m s S env T i
   stmt-of m q = record { stmt = h; kind = sym e ∙ q }
 
-  pub stmt-do : k ≢ 15 → k ≢ 16 → k ≢ 17 → k ≢ 18 → StmtOf 19 s S env T i
+  pub stmt-do : k ≢ kinds.guard → k ≢ kinds.let' → k ≢ kinds.emit → k ≢ kinds.assign → StmtOf kinds.do' s S env T i
   stmt-do a b c d = record { stmt = h; kind = omega (arith, h .here .kind .0, h .here .kind .1) }
 
-  pub emit-in : k ≡ 17 → EmitIn s S env T i
+  pub emit-in : k ≡ kinds.emit → EmitIn s S env T i
   emit-in q = record { ready = h .ready .ready; within = h .here .within; kind = sym e ∙ q }
 
-  pub emit-does : (r : Done) (U : Table) → k ≡ 17 → Does s (emitRule (envOf s T env) (nameAt s S i) (list (exprsAt s (entry S i 5) (suc i)))) T r U → StmtDoes s S (envOf s T env) i T r U
+  pub emit-does : (r : Done) (U : Table) → k ≡ kinds.emit → Does s (emitRule (envOf s T env) (nameAt s S i) (list (exprsAt s (emitArgCount S i) (suc i)))) T r U → StmtDoes s S (envOf s T env) i T r U
   unfolding stmtRule
   emit-does r U q a = other (omega arith) (rw (emit-at bd (h .here) (sym e ∙ q) .0) a)
 
-  pub assign-in : k ≡ 18 → StmtIn s S env T i
+  pub assign-in : k ≡ kinds.assign → StmtIn s S env T i
   assign-in q = record { ready = h .ready .ready; here = h .here }
 
-  pub assign-does : (r : Done) (U : Table) → k ≡ 18 → Does s (checkStmtTypes (envOf s T env) (stmtAt s i)) T r U → StmtDoes s S (envOf s T env) i T r U
+  pub assign-does : (r : Done) (U : Table) → k ≡ kinds.assign → Does s (checkStmtTypes (envOf s T env) (stmtAt s i)) T r U → StmtDoes s S (envOf s T env) i T r U
   unfolding stmtRule
   assign-does r U q a =
       let t = assign-at bd (h .here) (sym e ∙ q) .0 in
@@ -187,12 +188,12 @@ module _ (s S : List ℕ) (env : Env) (T : Table) (i : ℕ) (h : BodyStmt s S en
 ofKind-append : (k : ℕ) (as' bs : List Node) → ofKind k (as' ++ bs) ≡ ofKind k as' ++ ofKind k bs
 unfolding ofKind
 ofKind-append k [] bs = refl
-ofKind-append k (t ∷ ts) bs = go (eqb (nodeKind t) k) (ofKind-append k ts bs)
+ofKind-append k (t ∷ ts) bs = by-cases (eqb (nodeKind t) k) (ofKind-append k ts bs)
   where
-    go : (b : Bool) → ofKind k (ts ++ bs) ≡ ofKind k ts ++ ofKind k bs
+    by-cases : (b : Bool) → ofKind k (ts ++ bs) ≡ ofKind k ts ++ ofKind k bs
         → _≡_ {A = List Node} (elim b [ true ↦ t ∷ ofKind k (ts ++ bs) | false ↦ ofKind k (ts ++ bs) ]) (elim b as (λ _. List Node) [ true ↦ t ∷ ofKind k ts | false ↦ ofKind k ts ] ++ ofKind k bs)
-    go true h = ap (λ us. t ∷ us) h
-    go false h = h
+    by-cases true h = ap (λ us. t ∷ us) h
+    by-cases false h = h
 
 -- ------------------------------------------------------------ `checkBody` from a statement on
 
@@ -211,9 +212,9 @@ step-other Γ (emit x es) ss T o = sym (kept-assoc _ _ _ T)
 step-other Γ (assign s op a b) ss T o = refl
 step-other Γ (do' e) ss T o = sym (kept-assoc _ _ _ T)
 
-is-other : {s S : List ℕ} {i : ℕ} → Loaded s S → Here S grammar.Stmt i → kindAt S i ≢ 16 → Other (stmtAt s i)
+is-other : {s S : List ℕ} {i : ℕ} → Loaded s S → Here S grammar.Stmt i → kindAt S i ≢ kinds.let' → Other (stmtAt s i)
 is-other {s} {S} {i} d h n =
-    pick {P = λ k. kindAt S i ≡ k → Other (stmtAt s i)} {i = 15} {n = 5} (kindAt S i)
+    pick {P = λ k. kindAt S i ≡ k → Other (stmtAt s i)} {i = kinds.guard} {n = 5} (kindAt S i)
     ((λ e. rw (guard-at d h e .0) tt)
     also (λ e. absurd (n e))
     also (λ e. rw (emit-at d h e .0) tt)
@@ -239,11 +240,11 @@ module _ (s S : List ℕ) (T : Table) (params count body total at left : ℕ) (h
   st : Stands s S at
   st = stands d at (here .within)
 
-  lets-next : lets s (suc (total - left)) body ≡ lets s (total - left) body ++ ofKind 16 (nodeAt s at ∷ [])
+  lets-next : lets s (suc (total - left)) body ≡ lets s (total - left) body ++ ofKind kinds.let' (nodeAt s at ∷ [])
   unfolding lets
   lets-next =
-      ap (ofKind 16) (nodes-last (total - left) d (row-take (suc (total - left)) (omega (arith, h .few)) (h .row)))
-      ∙ ofKind-append 16 (nodesAt s (total - left) body) (nodeAt s (skip S (total - left) body) ∷ [])
+      ap (ofKind kinds.let') (nodes-last (total - left) d (row-take (suc (total - left)) (omega (arith, h .few)) (h .row)))
+      ∙ ofKind-append kinds.let' (nodesAt s (total - left) body) (nodeAt s (skip S (total - left) body) ∷ [])
       ∙ rw (h .here) refl
 
   kind-here : nodeKind (nodeAt s at) ≡ kindAt S at
@@ -251,13 +252,13 @@ module _ (s S : List ℕ) (T : Table) (params count body total at left : ℕ) (h
   kind-here = rw (st .here) (sym (st .says .kind))
 
   -- it is no `let`
-  no-let-here : kindAt S at ≢ 16 → ofKind 16 (nodeAt s at ∷ []) ≡ []
+  no-let-here : kindAt S at ≢ kinds.let' → ofKind kinds.let' (nodeAt s at ∷ []) ≡ []
   unfolding ofKind
-  no-let-here q = rw (ofKind, let z : eqb (nodeKind (nodeAt s at)) 16 ≡ false = rw kind-here (ne-eqb (kindAt S at) 16 q) in z) refl
+  no-let-here q = rw (ofKind, let z : eqb (nodeKind (nodeAt s at)) kinds.let' ≡ false = rw kind-here (ne-eqb (kindAt S at) kinds.let' q) in z) refl
 
-  let-here : kindAt S at ≡ 16 → ofKind 16 (nodeAt s at ∷ []) ≡ nodeAt s at ∷ []
+  let-here : kindAt S at ≡ kinds.let' → ofKind kinds.let' (nodeAt s at ∷ []) ≡ nodeAt s at ∷ []
   unfolding ofKind
-  let-here q = rw (ofKind, let z : eqb (nodeKind (nodeAt s at)) 16 ≡ true = rw kind-here (eq-eqb (kindAt S at) 16 q) in z) refl
+  let-here q = rw (ofKind, let z : eqb (nodeKind (nodeAt s at)) kinds.let' ≡ true = rw kind-here (eq-eqb (kindAt S at) kinds.let' q) in z) refl
 
   force-grown : InForce s S grown
   unfolding withLocals
@@ -275,7 +276,7 @@ module _ (s S : List ℕ) (T : Table) (params count body total at left : ℕ) (h
     pub is : envOf s U grown ≡ Γ
 
   module _ (U : Table) (o : OnTyped s S env T U) where
-    still : kindAt S at ≢ 16 → Grown U (envOf s T env)
+    still : kindAt S at ≢ kinds.let' → Grown U (envOf s T env)
     unfolding withLocals envOf paramsIn endsIn
     still q =
         record {
@@ -287,7 +288,7 @@ module _ (s S : List ℕ) (T : Table) (params count body total at left : ℕ) (h
           is = rw (lets-next, no-let-here q, append-nil) (o .on .same);
         }
 
-    bound-now : (q : kindAt S at ≡ 16) (b : Binds s (envOf s T env) T at U) → Grown U (bound (envOf s T env) (nameAt s S at) (b .type) (lineAfter (exprAt s (suc at))))
+    bound-now : (q : kindAt S at ≡ kinds.let') (b : Binds s (envOf s T env) T at U) → Grown U (bound (envOf s T env) (nameAt s S at) (b .type) (lineAfter (exprAt s (suc at))))
     unfolding withLocals envOf paramsIn endsIn bound localOf namedEnd
     bound-now q b =
         record {
@@ -320,19 +321,19 @@ module _ (s S : List ℕ) (T : Table) (params count body total at left : ℕ) (h
     does : StmtDoes s S (envOf s T env) at T o U
     does = rw (← (e ∙ ap (λ m. withLocals params count body m at) q)) a
 
-    let-is-here : kindAt S at ≡ 16 → stmtAt s at ≡ bind (nameAt s S at) (exprAt s (suc at))
+    let-is-here : kindAt S at ≡ kinds.let' → stmtAt s at ≡ bind (nameAt s S at) (exprAt s (suc at))
     let-is-here w = let-at d here w .0
 
     pub body-no : (x : Refusal) → o ≡ Refused x → Does s (checkBody (envOf s T env) (stmtsAt s left at)) T (Refused x) U
     unfolding checkBody stmtRule _>>_ doneOf
-    body-no x z = rw stmts-are (go (eqb (kindAt S at) 16) refl)
+    body-no x z = rw stmts-are (by-cases (eqb (kindAt S at) kinds.let') refl)
       where
-        go : (b : Bool) → eqb (kindAt S at) 16 ≡ b → Does s (checkBody (envOf s T env) (stmtAt s at ∷ stmtsAt s (left - 1) (endAt S at))) T (Refused x) U
-        go true w =
-            let i = let-is-here (eqb-true (kindAt S at) 16 w) in
+        by-cases : (b : Bool) → eqb (kindAt S at) kinds.let' ≡ b → Does s (checkBody (envOf s T env) (stmtAt s at ∷ stmtsAt s (left - 1) (endAt S at))) T (Refused x) U
+        by-cases true w =
+            let i = let-is-here (eqb-true (kindAt S at) kinds.let' w) in
             record { gives = rw i (refused-behind (tyOf (envOf s T env) (exprAt s (suc at))) (checkLocal (exprAt s (suc at))) (λ ty. checkBody (bound (envOf s T env) (nameAt s S at) ty (lineAfter (exprAt s (suc at)))) (stmtsAt s (left - 1) (endAt S at))) T U (refusalOf s x) (rw i at (stopped s (stmtRule (envOf s T env) (stmtAt s at)) T o U (does .does .gives) x z))) }
-        go false w =
-            record { gives = step-other (envOf s T env) (stmtAt s at) (stmtsAt s (left - 1) (endAt S at)) T (is-other d here (eqb-false (kindAt S at) 16 w)) ∙ does-cut s (stmtRule (envOf s T env) (stmtAt s at)) (checkBody (envOf s T env) (stmtsAt s (left - 1) (endAt S at))) T o U (does .does) x z .gives }
+        by-cases false w =
+            record { gives = step-other (envOf s T env) (stmtAt s at) (stmtsAt s (left - 1) (endAt S at)) T (is-other d here (eqb-false (kindAt S at) kinds.let' w)) ∙ does-cut s (stmtRule (envOf s T env) (stmtAt s at)) (checkBody (envOf s T env) (stmtsAt s (left - 1) (endAt S at))) T o U (does .does) x z .gives }
 
     module _ (f : o ≡ Fine) where
       onw : OnTyped s S env T U
@@ -346,11 +347,11 @@ module _ (s S : List ℕ) (T : Table) (params count body total at left : ℕ) (h
 
       behind : Behind
       unfolding checkBody _>>_
-      behind = go (eqb (kindAt S at) 16) refl
+      behind = by-cases (eqb (kindAt S at) kinds.let') refl
         where
-          go : (b : Bool) → eqb (kindAt S at) 16 ≡ b → Behind
-          go true w =
-              let k16 = eqb-true (kindAt S at) 16 w in
+          by-cases : (b : Bool) → eqb (kindAt S at) kinds.let' ≡ b → Behind
+          by-cases true w =
+              let k16 = eqb-true (kindAt S at) kinds.let' w in
               let y = does .binds f k16 in
               record {
                 with' = bound (envOf s T env) (nameAt s S at) (y .type) (lineAfter (exprAt s (suc at)));
@@ -358,8 +359,8 @@ module _ (s S : List ℕ) (T : Table) (params count body total at left : ℕ) (h
                 steps = λ r W k.
                     record { gives = rw (stmts-are, let-is-here k16) (then-ok (tyOf (envOf s T env) (exprAt s (suc at))) (λ ty. checkLocal (exprAt s (suc at)) ty >>= λ _. checkBody (bound (envOf s T env) (nameAt s S at) ty (lineAfter (exprAt s (suc at)))) (stmtsAt s (left - 1) (endAt S at))) T U (y .type) (record { res = doneOf s r; table = W }) (y .typed) (then-ok (checkLocal (exprAt s (suc at)) (y .type)) (λ _. checkBody (bound (envOf s T env) (nameAt s S at) (y .type) (lineAfter (exprAt s (suc at)))) (stmtsAt s (left - 1) (endAt S at))) U U tt (record { res = doneOf s r; table = W }) (y .fits) (k .gives))) };
               }
-          go false w =
-              let no = eqb-false (kindAt S at) 16 w in
+          by-cases false w =
+              let no = eqb-false (kindAt S at) kinds.let' w in
               record {
                 with' = envOf s T env;
                 grows = still U onw no;

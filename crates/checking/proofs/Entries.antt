@@ -2,12 +2,11 @@
 use mathlib.Core.Path.{_≡_, refl, sym, ap, _∙_}
 use mathlib.Core.List.{List, map}
 use mathlib.Core.Bool.{false}
-use Prim.Native.Nat.{ℕ, suc, _+_, _-_, _/_, _<_}
+use Prim.Native.Nat.{ℕ, suc, _+_, _-_, _<_}
 use native.Mathlib.Numerals.{add-one}
 use native.Mathlib.Omega.{arith}
-use lib.ListN.{length}
 use Rattle.grammar.specs.Grammar as grammar
-use Rattle.sheet.specs.Scratch.{entry, skip}
+use Rattle.sheet.specs.Scratch.{skip, lineCount, paramCount, clauseCount, bodyCount}
 use Rattle.sheet.specs.Tree.{takeNodes}
 use Rattle.rules.specs.Ast.{Entry, nodes, clauseOf, entryOf}
 use Rattle.rules.specs.Asking.{_>>=_, _>>_, forEach}
@@ -19,22 +18,23 @@ use Rattle.rules.specs.Check.{clausePredicate, clauseAssets, paramTypes, checkB
 use Rattle.rules.specs.Standing.{nodesAt, paramsAt, clausesAt, stmtsAt, entryAt, modelIn, Loaded, Row, stop}
 use Rattle.rules.proofs.Records.{EntryParts, entry-at}
 use Rattle.rules.proofs.Binding.{kept-assoc, kept-behind}
-use Rattle.declared.specs.Answers.{Answers}
-use Rattle.declared.specs.Found.{ofKind}
-use Rattle.declared.specs.Lines.{EntryAt, RecordsAt}
-use Rattle.declared.specs.Refusal.{doneOf}
-use Rattle.declared.specs.declared.refusal.Refusal.{Refusal}
-use Rattle.declared.specs.declared.refusal.Done.{Done}
-use Rattle.declared.specs.declared.refusal.Done.the-variants.{Fine, Refused}
-use Rattle.declared.proofs.Answers.{answers-then, answers-cut}
+use Rattle.refusals.specs.Answers.{Answers}
+use Rattle.lookups.specs.Found.{ofKind}
+use Rattle.lookups.specs.Lines.{EntryAt, RecordsAt}
+use Rattle.refusals.specs.Refusal.{doneOf}
+use Rattle.refusals.specs.declared.refusal.Refusal.{Refusal}
+use Rattle.refusals.specs.declared.refusal.Done.{Done}
+use Rattle.refusals.specs.declared.refusal.Done.the-variants.{Fine, Refused}
+use Rattle.refusals.proofs.Answers.{answers-then, answers-cut}
 use Rattle.env.specs.Force.{envOf, paramsIn, lets, endsIn}
 use Rattle.env.specs.declared.env.Env.{Env}
 use Rattle.typing.specs.Asks.{Does}
 use Rattle.typing.proofs.Calls.{does-length}
 use Rattle.typing.proofs.Doing.{does-then, does-cut, asks-none}
 use Rattle.wrapping.specs.Lines.{FewEntry}
-use Rattle.checking.specs.Walk.{named, withLocals, no-let, recordRule, a-clause, RecordsIn, BodyAt, EntryIn, entryEnv, typesRule, usesRule}
-use Rattle.checking.proofs.Recording.{row-rule, rule-clause}
+use Rattle.checking.specs.Walk.{withParams, withLocals, no-let, recordRule, a-clause, RecordsIn, BodyAt, EntryIn, entryEnv, typesRule, usesRule}
+use Rattle.checking.proofs.Recording.{rule-each, rule-clause}
+use Rattle.grammar.specs.Table.{sortNumber}
 
 -- ------------------------------------------------------------ what is typed
 
@@ -42,10 +42,10 @@ module _ (s S : List ℕ) (T : Table) (i : ℕ) (h : EntryIn s S T i) where
   d : Loaded s S
   d = h .sheet .loaded
 
-  parts : EntryParts s S i (entry S i 5) (entry S i 6) (entry S i 7)
+  parts : EntryParts s S i (paramCount S i) (clauseCount S i) (bodyCount S i)
   parts = entry-at d (h .within) (h .kind)
 
-  pub entry-within : i < length S / 8
+  pub entry-within : i < lineCount S
   entry-within = h .within
 
   pub entry-lines : EntryAt s S i
@@ -54,38 +54,36 @@ module _ (s S : List ℕ) (T : Table) (i : ℕ) (h : EntryIn s S T i) where
   pub entry-few : FewEntry s S i
   entry-few = record { entry = entry-lines; few = h .sheet .few }
 
-  module _ (a : ℕ) (ea : a ≡ entry S i 5) where
+  module _ (a : ℕ) (ea : a ≡ paramCount S i) where
     params : Row S grammar.Param a (i + 1)
     params = rw (ea, add-one i) (parts .params)
 
-    module _ (env : Env) (ee : env ≡ named (i + 1) a false) where
+    module _ (env : Env) (ee : env ≡ withParams (i + 1) a false) where
       in-force : envOf s T env ≡ entryEnv (modelIn s) (entryAt s i)
-      unfolding named envOf paramsIn lets nodesAt takeNodes nodes ofKind endsIn entryEnv typing.new paramsAt
+      unfolding withParams envOf paramsIn lets nodesAt takeNodes nodes ofKind endsIn entryEnv typing.new paramsAt
       in-force = rw (ee, parts .is, ea, add-one i) refl
 
-      pub clauses-in : (at b : ℕ) → at ≡ skip S (entry S i 5) (suc i) → b ≡ entry S i 6 → RecordsIn s S env T b at
-      unfolding named lets nodesAt takeNodes nodes ofKind skip
+      pub clauses-in : (at b : ℕ) → at ≡ skip S (paramCount S i) (suc i) → b ≡ clauseCount S i → RecordsIn s S env T (sortNumber grammar.Clause) b at
+      unfolding withParams lets nodesAt takeNodes nodes ofKind skip
       clauses-in at b et eb =
           rw (ee, et, eb)
           (record {
             ready = record { force = record { loaded = d; params = params; locals = stop; next = refl }; room = h .sheet .room };
             bare = refl;
-            sort = grammar.Clause;
             walked = a-clause;
             row = parts .clauses;
           })
 
-      pub clauses-does : (at b : ℕ) (r : Done) (U : Table) → at ≡ skip S (entry S i 5) (suc i) → b ≡ entry S i 6
-          → Does s (forEach (nodesAt s b at) (recordRule (envOf s T env))) T r U
+      pub clauses-does : (at b : ℕ) (r : Done) (U : Table) → at ≡ skip S (paramCount S i) (suc i) → b ≡ clauseCount S i
+          → Does s (forEach (nodesAt s b at) (recordRule (sortNumber grammar.Clause) (envOf s T env))) T r U
           → Does s (forEach (entryAt s i .clauses) (clausePredicate (entryEnv (modelIn s) (entryAt s i)))) T r U
       unfolding clausesAt entryAt entryOf
       clauses-does at b r U et eb k =
           let c : entryAt s i .clauses ≡ map clauseOf (nodesAt s b at) = ap (λ (x : Entry). x .clauses) (parts .is) ∙ rw (← et, ← eb) refl in
-          let row : Row S grammar.Clause b at = rw (et, eb) (parts .clauses) in
-          let same = row-rule grammar.Clause (envOf s T env) clauseOf (clausePredicate (envOf s T env)) d (rule-clause d (envOf s T env)) row T in
+          let same = rule-each (sortNumber grammar.Clause) (envOf s T env) clauseOf (clausePredicate (envOf s T env)) (rule-clause (envOf s T env)) (nodesAt s b at) T in
           record { gives = rw c (rw in-force at (sym same ∙ k .gives)) }
 
-    module _ (body total : ℕ) (ey : body ≡ skip S (entry S i 6) (skip S (entry S i 5) (suc i))) (ec : total ≡ entry S i 7) where
+    module _ (body total : ℕ) (ey : body ≡ skip S (clauseCount S i) (skip S (paramCount S i) (suc i))) (ec : total ≡ bodyCount S i) where
       none : total - total ≡ 0
       none = omega arith
 
@@ -150,16 +148,16 @@ module _ (s S : List ℕ) (T : Table) (i : ℕ) (h : EntryIn s S T i) where
 -- ------------------------------------------------------------ what is checked without types
 
 module _ (s S : List ℕ) (i : ℕ) (h : EntryAt s S i) where
-  its : EntryParts s S i (entry S i 5) (entry S i 6) (entry S i 7)
+  its : EntryParts s S i (paramCount S i) (clauseCount S i) (bodyCount S i)
   its = entry-at (h .loaded) (h .within) (h .kind)
 
-  pub uses-within : i < length S / 8
+  pub uses-within : i < lineCount S
   uses-within = h .within
 
-  pub uses-body : (body c : ℕ) → body ≡ skip S (entry S i 6) (skip S (entry S i 5) (suc i)) → c ≡ entry S i 7 → RecordsAt grammar.Stmt s S c body
+  pub uses-body : (body c : ℕ) → body ≡ skip S (clauseCount S i) (skip S (paramCount S i) (suc i)) → c ≡ bodyCount S i → RecordsAt grammar.Stmt s S c body
   uses-body body c ey ec = record { loaded = h .loaded; row = rw (ey, ec) (its .body) }
 
-  module _ (at b : ℕ) (et : at ≡ skip S (entry S i 5) (suc i)) (eb : b ≡ entry S i 6) where
+  module _ (at b : ℕ) (et : at ≡ skip S (paramCount S i) (suc i)) (eb : b ≡ clauseCount S i) where
     pub uses-clauses : RecordsAt grammar.Clause s S b at
     uses-clauses = record { loaded = h .loaded; row = rw (et, eb) (its .clauses) }
 
@@ -171,7 +169,7 @@ module _ (s S : List ℕ) (i : ℕ) (h : EntryAt s S i) where
       unfolding usesRule _>>_
       uses-no x e = answers-cut s _ _ o first x e
 
-      module _ (e : o ≡ Fine) (body c : ℕ) (ey : body ≡ skip S (entry S i 6) (skip S (entry S i 5) (suc i))) (ec : c ≡ entry S i 7) where
+      module _ (e : o ≡ Fine) (body c : ℕ) (ey : body ≡ skip S (clauseCount S i) (skip S (paramCount S i) (suc i))) (ec : c ≡ bodyCount S i) where
         module _ (p : Done) (k : Answers (forEach (stmtsAt s c body) assetCallsConsumed) (doneOf s p)) where
           second : Answers (forEach (entryAt s i .body) assetCallsConsumed) (doneOf s p)
           second = rw (ap (λ (x : Entry). x .body) (its .is), ← ey, ← ec) k

@@ -11,8 +11,8 @@ use Rattle.rules.specs.Kept.{Table, tyOfMark, kept}
 use Rattle.rules.specs.Standing.{nodesAt}
 use Rattle.rules.proofs.All.{All}
 use Rattle.rules.proofs.Binding.{kept-holds}
-use Rattle.declared.proofs.Codes.{code-of}
-use Rattle.declared.specs.Found.{ofKind}
+use Rattle.lookups.proofs.Codes.{code-of}
+use Rattle.lookups.specs.Found.{ofKind}
 use Rattle.env.specs.Force.{lets, Ready}
 use Rattle.env.specs.declared.env.Env.{Env}
 use Rattle.typing.proofs.Onward.{SameValue, Onward, onward-with}

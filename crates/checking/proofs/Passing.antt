@@ -2,14 +2,14 @@
 use mathlib.Core.Logic.{_≢_}
 use mathlib.Core.Path.{_≡_, refl, sym, ap, _∙_}
 use mathlib.Core.List.{List, [], _∷_, map}
-use mathlib.Core.Bool.{Bool, true, false, not, _&&_, _||_}
+use mathlib.Core.Bool.{Bool, true, false, not, _||_, cond}
 use Prim.Native.Nat.{ℕ, suc, _+_, _-_, _<_, _≤_}
 use native.Mathlib.Numerals.{add-one}
 use native.Mathlib.Omega.{arith}
 use lib.Dec.{eqb}
 use borrow.Author.Tests.{eq-eqb, ne-eqb, eqb-true, eqb-false, not-true, not-false}
 use Rattle.grammar.specs.Grammar as grammar
-use Rattle.sheet.specs.Scratch.{kindAt, entry, endAt, skip}
+use Rattle.sheet.specs.Scratch.{kindAt, endAt, skip, firstCount, itemCount}
 use Rattle.sheet.specs.Tree.{takeNodes}
 use Rattle.rules.specs.Ast.{Expr, Field, Stmt, Event, Entry, nodes, fieldOf, stmtOf, itemOf, eventOf, entryOf}
 use Rattle.rules.specs.Asking.{Rule, ret, _>>=_, _>>_, forEach}
@@ -22,25 +22,29 @@ use Rattle.rules.specs.KeyKinds.{checkKeyKinds}
 use Rattle.rules.specs.Check.{paramTypes, checkField, checkGenesis, checkEventParam, checkEntryParam, checkEntry, beforeEntries, check}
 use Rattle.rules.specs.Standing.{nodeAt, nodesAt, exprAt, paramsAt, eventAt, entryAt, modelIn, Loaded, Here, Row, stop}
 use Rattle.rules.proofs.Parts.{stop as end', _also_, pick, parts}
+use Rattle.rules.proofs.Rows.{records, row-some, list-some}
 use Rattle.rules.proofs.Records.{no-nodes, group, event-at, entry-at}
 use Rattle.rules.proofs.Standing.{Stands, stands, nodes-next, row-first, row-rest, row-take}
 use Rattle.rules.proofs.Binding.{kept-assoc, kept-behind, kept-unit, each-append}
-use Rattle.declared.proofs.Fields.{items-at}
+use Rattle.lookups.proofs.Fields.{items-at}
 use Rattle.text.proofs.Tests.{or-parts}
-use Rattle.declared.specs.Answers.{Answers}
-use Rattle.declared.specs.Found.{ofKind}
-use Rattle.declared.specs.Lines.{RecordsAt, FewLines}
-use Rattle.declared.specs.Refusal.{doneOf}
-use Rattle.declared.specs.declared.refusal.Refusal.{Refusal}
-use Rattle.declared.specs.declared.refusal.Done.{Done}
-use Rattle.declared.specs.declared.refusal.Done.the-variants.{Fine, Refused}
+use Rattle.refusals.specs.Answers.{Answers}
+use Rattle.lookups.specs.Found.{ofKind}
+use Rattle.lookups.specs.Lines.{RecordsAt, FewLines}
+use Rattle.refusals.specs.Refusal.{doneOf}
+use Rattle.refusals.specs.declared.refusal.Refusal.{Refusal}
+use Rattle.refusals.specs.declared.refusal.Done.{Done}
+use Rattle.refusals.specs.declared.refusal.Done.the-variants.{Fine, Refused}
 use Rattle.env.specs.Force.{envOf, paramsIn, lets, endsIn, Ready}
 use Rattle.env.specs.declared.env.Env.{Env}
 use Rattle.typing.specs.Asks.{Asks, Does}
 use Rattle.typing.proofs.Calls.{does-length}
 use Rattle.typing.proofs.Doing.{does-then, does-cut, asks-none}
-use Rattle.checking.specs.Walk.{named, recordRule, paramRule, a-field, a-stmt, RecordsIn, SheetIn, EntryIn, ItemIn, OwnItem, ItemsIn, PassIn, passRule, namesRule, afterFields, fromEntries}
-use Rattle.checking.proofs.Recording.{row-rule, rule-field, rule-stmt}
+use Rattle.checking.specs.Walk.{withParams, recordRule, paramRule, a-field, a-stmt, RecordsIn, SheetIn, EntryIn, ItemIn, OwnItem, ItemsIn, PassIn, passRule, namesRule, afterFields, fromEntries}
+use Rattle.checking.proofs.Recording.{rule-each, rule-field, rule-stmt}
+use Rattle.grammar.specs.Kinds as kinds
+use Rattle.checking.specs.Passes as passes
+use Rattle.grammar.specs.Table.{sortNumber}
 
 -- ------------------------------------------------------------ parts of a model
 
@@ -48,18 +52,18 @@ abbrev nothing : Model
 nothing = record { fields = []; events = []; entries = []; invariants = []; genesis = [] }
 
 -- a pass, by its number
-by-pass : (P : ℕ → Type 0) (k : ℕ) → k < 6 → P 0 → P 1 → P 2 → P 3 → P 4 → P 5 → P k
-by-pass P k h a b c d e f = pick {P = P} {i = 0} {n = 6} k (a also b also c also d also e also f also end') (omega arith) (omega arith)
+by-pass : (P : ℕ → Type 0) (k : ℕ) → k < passes.count → P passes.fields → P passes.events → P passes.invariants → P passes.genesis → P passes.entries → P passes.params → P k
+by-pass P k h a b c d e f = pick {P = P} {i = 0} {n = passes.count} k (a also b also c also d also e also f also end') (omega arith) (omega arith)
 
-only-three : (k : ℕ) → k < 6 → k ≢ 0 → k ≢ 1 → k ≢ 2 → k ≢ 4 → k ≢ 5 → k ≡ 3
-only-three k h a b c d e =
-    by-pass (λ j. k ≡ j → k ≡ 3) k h (λ q. absurd (a q)) (λ q. absurd (b q)) (λ q. absurd (c q)) (λ q. q) (λ q. absurd (d q)) (λ q. absurd (e q)) refl
+only-genesis : (k : ℕ) → k < passes.count → k ≢ passes.fields → k ≢ passes.events → k ≢ passes.invariants → k ≢ passes.entries → k ≢ passes.params → k ≡ passes.genesis
+only-genesis k h a b c d e =
+    by-pass (λ j. k ≡ j → k ≡ passes.genesis) k h (λ q. absurd (a q)) (λ q. absurd (b q)) (λ q. absurd (c q)) (λ q. q) (λ q. absurd (d q)) (λ q. absurd (e q)) refl
 
-pass-nothing : (s : List ℕ) (k : ℕ) (T : Table) → k < 6 → kept (passRule s k nothing) T ≡ kept (ret tt) T
+pass-nothing : (s : List ℕ) (k : ℕ) (T : Table) → k < passes.count → kept (passRule s k nothing) T ≡ kept (ret tt) T
 unfolding passRule forEach
 pass-nothing s k T h = by-pass (λ j. kept (passRule s j nothing) T ≡ kept (ret tt) T) k h refl refl refl refl refl refl
 
-pass-joined : (s : List ℕ) (k : ℕ) (a b : Model) (T : Table) → k < 6 → kept (passRule s k (joined a b)) T ≡ kept (passRule s k a >>= λ _. passRule s k b) T
+pass-joined : (s : List ℕ) (k : ℕ) (a b : Model) (T : Table) → k < passes.count → kept (passRule s k (joined a b)) T ≡ kept (passRule s k a >>= λ _. passRule s k b) T
 unfolding passRule joined
 pass-joined s k a b T h =
     by-pass (λ j. kept (passRule s j (joined a b)) T ≡ kept (passRule s j a >>= λ _. passRule s j b) T) k h
@@ -72,7 +76,7 @@ pass-joined s k a b T h =
 
 -- a pass looks at items of a kind
 abbrev own : (k pass : ℕ) → Bool
-own k pass = eqb k (pass + 1) || (eqb pass 5 && eqb k 5)
+own k pass = eqb k (passes.itemKind pass)
 
 told : true ≡ false → ⊥
 told e = let z : _≡_ {A = ℕ} 0 1 = cc in absurd (omega arith)
@@ -98,28 +102,28 @@ of-entry xs = record { fields = []; events = []; entries = xs; invariants = []; 
 
 -- the passes that don't look at such an item
 module _ (s : List ℕ) where
-  abbrev Idle : ℕ → Model → ℕ → Table → Type 0
-  Idle k m pass T = own k pass ≡ false → kept (passRule s pass m) T ≡ kept (ret tt) T
+  abbrev PassIdle : ℕ → Model → ℕ → Table → Type 0
+  PassIdle k m pass T = own k pass ≡ false → kept (passRule s pass m) T ≡ kept (ret tt) T
 
-  not-state : (xs : List Field) (pass : ℕ) (T : Table) → pass < 6 → Idle 1 (of-state xs) pass T
+  not-state : (xs : List Field) (pass : ℕ) (T : Table) → pass < passes.count → PassIdle kinds.state (of-state xs) pass T
   unfolding passRule forEach
-  not-state xs pass T l = by-pass (λ p. Idle 1 (of-state xs) p T) pass l (λ z. absurd (told z)) (λ z. refl) (λ z. refl) (λ z. refl) (λ z. refl) (λ z. refl)
+  not-state xs pass T l = by-pass (λ p. PassIdle kinds.state (of-state xs) p T) pass l (λ z. absurd (told z)) (λ z. refl) (λ z. refl) (λ z. refl) (λ z. refl) (λ z. refl)
 
-  not-event : (xs : List Event) (pass : ℕ) (T : Table) → pass < 6 → Idle 2 (of-event xs) pass T
+  not-event : (xs : List Event) (pass : ℕ) (T : Table) → pass < passes.count → PassIdle kinds.event (of-event xs) pass T
   unfolding passRule forEach
-  not-event xs pass T l = by-pass (λ p. Idle 2 (of-event xs) p T) pass l (λ z. refl) (λ z. absurd (told z)) (λ z. refl) (λ z. refl) (λ z. refl) (λ z. refl)
+  not-event xs pass T l = by-pass (λ p. PassIdle kinds.event (of-event xs) p T) pass l (λ z. refl) (λ z. absurd (told z)) (λ z. refl) (λ z. refl) (λ z. refl) (λ z. refl)
 
-  not-invariant : (xs : List Expr) (pass : ℕ) (T : Table) → pass < 6 → Idle 3 (of-invariant xs) pass T
+  not-invariant : (xs : List Expr) (pass : ℕ) (T : Table) → pass < passes.count → PassIdle kinds.invariant (of-invariant xs) pass T
   unfolding passRule forEach
-  not-invariant xs pass T l = by-pass (λ p. Idle 3 (of-invariant xs) p T) pass l (λ z. refl) (λ z. refl) (λ z. absurd (told z)) (λ z. refl) (λ z. refl) (λ z. refl)
+  not-invariant xs pass T l = by-pass (λ p. PassIdle kinds.invariant (of-invariant xs) p T) pass l (λ z. refl) (λ z. refl) (λ z. absurd (told z)) (λ z. refl) (λ z. refl) (λ z. refl)
 
-  not-genesis : (xs : List Stmt) (pass : ℕ) (T : Table) → pass < 6 → Idle 4 (of-genesis xs) pass T
+  not-genesis : (xs : List Stmt) (pass : ℕ) (T : Table) → pass < passes.count → PassIdle kinds.genesis (of-genesis xs) pass T
   unfolding passRule forEach
-  not-genesis xs pass T l = by-pass (λ p. Idle 4 (of-genesis xs) p T) pass l (λ z. refl) (λ z. refl) (λ z. refl) (λ z. absurd (told z)) (λ z. refl) (λ z. refl)
+  not-genesis xs pass T l = by-pass (λ p. PassIdle kinds.genesis (of-genesis xs) p T) pass l (λ z. refl) (λ z. refl) (λ z. refl) (λ z. absurd (told z)) (λ z. refl) (λ z. refl)
 
-  not-entry : (xs : List Entry) (pass : ℕ) (T : Table) → pass < 6 → Idle 5 (of-entry xs) pass T
+  not-entry : (xs : List Entry) (pass : ℕ) (T : Table) → pass < passes.count → PassIdle kinds.entry (of-entry xs) pass T
   unfolding passRule forEach
-  not-entry xs pass T l = by-pass (λ p. Idle 5 (of-entry xs) p T) pass l (λ z. refl) (λ z. refl) (λ z. refl) (λ z. refl) (λ z. absurd (told z)) (λ z. absurd (told z))
+  not-entry xs pass T l = by-pass (λ p. PassIdle kinds.entry (of-entry xs) p T) pass l (λ z. refl) (λ z. refl) (λ z. refl) (λ z. refl) (λ z. absurd (told z)) (λ z. absurd (told z))
 
 -- ------------------------------------------------------------ the model of an item
 
@@ -133,41 +137,41 @@ module _ {s S : List ℕ} (d : Loaded s S) {i : ℕ} (h : Here S grammar.Item i)
   abbrev its : Model
   its = itemModel (itemOf (nodeAt s i))
 
-  state-model : kindAt S i ≡ 1 → (its ≡ of-state (map fieldOf (nodesAt s (entry S i 5) (suc i)))) × Row S grammar.Field (entry S i 5) (suc i)
+  state-model : kindAt S i ≡ kinds.state → (its ≡ of-state (map fieldOf (nodesAt s (firstCount S i) (suc i)))) × Row S grammar.Field (firstCount S i) (suc i)
   unfolding itemModel itemOf
   state-model e =
-      let p = parts (it .line) 1 (it .parted) (kind-is e) in
+      let p = parts (it .line) kinds.state (it .parted) (kind-is e) in
       let g = group d (h .within) grammar.Field (p .0) (p .1) in
       rw (g .3) (rw (it .here, kind-is e, g .0) refl, g .2)
 
-  event-model : kindAt S i ≡ 2 → its ≡ of-event (eventAt s i ∷ [])
+  event-model : kindAt S i ≡ kinds.event → its ≡ of-event (eventAt s i ∷ [])
   unfolding itemModel itemOf eventAt eventOf
   event-model e = rw (it .here, kind-is e) refl
 
-  invariant-model : kindAt S i ≡ 3 → (its ≡ of-invariant (exprAt s (suc i) ∷ [])) × Row S grammar.Expr 1 (suc i)
+  invariant-model : kindAt S i ≡ kinds.invariant → (its ≡ of-invariant (exprAt s (suc i) ∷ [])) × Row S grammar.Expr 1 (suc i)
   unfolding itemModel itemOf exprAt
   invariant-model e =
-      let p = parts (it .line) 3 (it .parted) (kind-is e) in
+      let p = parts (it .line) kinds.invariant (it .parted) (kind-is e) in
       let g = group d (h .within) grammar.Expr 1 p in
       let n : nodes (it .parts) ≡ nodeAt s (suc i) ∷ [] = g .0 ∙ nodes-next d 0 (suc i) (row-first (g .2) .within) ∙ rw (no-nodes s (endAt S (suc i))) refl in
       (rw (it .here, kind-is e, n) refl, g .2)
 
-  genesis-model : kindAt S i ≡ 4 → (its ≡ of-genesis (map stmtOf (nodesAt s (entry S i 5) (suc i)))) × Row S grammar.Stmt (entry S i 5) (suc i)
+  genesis-model : kindAt S i ≡ kinds.genesis → (its ≡ of-genesis (map stmtOf (nodesAt s (firstCount S i) (suc i)))) × Row S grammar.Stmt (firstCount S i) (suc i)
   unfolding itemModel itemOf
   genesis-model e =
-      let p = parts (it .line) 4 (it .parted) (kind-is e) in
+      let p = parts (it .line) kinds.genesis (it .parted) (kind-is e) in
       let g = group d (h .within) grammar.Stmt (p .0) (p .1) in
       rw (g .3) (rw (it .here, kind-is e, g .0) refl, g .2)
 
-  entry-model : kindAt S i ≡ 5 → its ≡ of-entry (entryAt s i ∷ [])
+  entry-model : kindAt S i ≡ kinds.entry → its ≡ of-entry (entryAt s i ∷ [])
   unfolding itemModel itemOf entryAt entryOf
   entry-model e = rw (it .here, kind-is e) refl
 
   -- ------------------------------------------------------------ an item that a pass doesn't look at
 
-  nothing-for : (pass : ℕ) (T : Table) → pass < 6 → own (kindAt S i) pass ≡ false → kept (passRule s pass its) T ≡ kept (ret tt) T
+  nothing-for : (pass : ℕ) (T : Table) → pass < passes.count → own (kindAt S i) pass ≡ false → kept (passRule s pass its) T ≡ kept (ret tt) T
   nothing-for pass T l n =
-      pick {P = λ k. kindAt S i ≡ k → kept (passRule s pass its) T ≡ kept (ret tt) T} {i = 1} {n = 5} (kindAt S i)
+      pick {P = λ k. kindAt S i ≡ k → kept (passRule s pass its) T ≡ kept (ret tt) T} {i = kinds.state} {n = 5} (kindAt S i)
       ((λ e. rw (state-model e .0) (not-state s _ pass T l (rw e at n)))
       also (λ e. rw (event-model e) (not-event s _ pass T l (rw e at n)))
       also (λ e. rw (invariant-model e .0) (not-invariant s _ pass T l (rw e at n)))
@@ -179,19 +183,19 @@ module _ {s S : List ℕ} (d : Loaded s S) {i : ℕ} (h : Here S grammar.Item i)
 -- ------------------------------------------------------------ an item that a pass looks at
 
 abbrev bare : Bool → Env
-bare g = named 0 0 g
+bare g = withParams 0 0 g
 
 -- no parameters and no locals are in force
-bare-ready : (s S : List ℕ) (T : Table) (g : Bool) → SheetIn s S T → Ready s S (named 0 0 g) T
-unfolding named skip
+bare-ready : (s S : List ℕ) (T : Table) (g : Bool) → SheetIn s S T → Ready s S (withParams 0 0 g) T
+unfolding withParams skip
 bare-ready s S T g h = record { force = record { loaded = h .loaded; params = stop; locals = stop; next = refl }; room = h .room }
 
-new-env : (s : List ℕ) (T : Table) → envOf s T (named 0 0 false) ≡ typing.new (modelIn s) []
-unfolding named envOf paramsIn lets nodesAt takeNodes nodes ofKind endsIn typing.new paramTypes
+new-env : (s : List ℕ) (T : Table) → envOf s T (withParams 0 0 false) ≡ typing.new (modelIn s) []
+unfolding withParams envOf paramsIn lets nodesAt takeNodes nodes ofKind endsIn typing.new paramTypes
 new-env s T = refl
 
-genesis-env : (s : List ℕ) (T : Table) → envOf s T (named 0 0 true) ≡ typing.inGenesis (typing.new (modelIn s) [])
-unfolding named envOf paramsIn lets nodesAt takeNodes nodes ofKind endsIn typing.new typing.inGenesis paramTypes
+genesis-env : (s : List ℕ) (T : Table) → envOf s T (withParams 0 0 true) ≡ typing.inGenesis (typing.new (modelIn s) [])
+unfolding withParams envOf paramsIn lets nodesAt takeNodes nodes ofKind endsIn typing.new typing.inGenesis paramTypes
 genesis-env s T = refl
 
 module _ (s S : List ℕ) (T : Table) (pass i : ℕ) (h : OwnItem s S T pass i) where
@@ -204,34 +208,21 @@ module _ (s S : List ℕ) (T : Table) (pass i : ℕ) (h : OwnItem s S T pass i) 
   here : Here S grammar.Item i
   here = h .item .here
 
-  kind-for : pass ≢ 5 → kindAt S i ≡ pass + 1
-  kind-for n = go (eqb (kindAt S i) (pass + 1)) (eqb pass 5) refl refl (h .own)
-    where
-      go : (a b : Bool) → eqb (kindAt S i) (pass + 1) ≡ a → eqb pass 5 ≡ b → (a || (b && eqb (kindAt S i) 5)) ≡ true → kindAt S i ≡ pass + 1
-      go true b e f q = eqb-true (kindAt S i) (pass + 1) e
-      go false true e f q = absurd (n (eqb-true pass 5 f))
-      go false false e f q = absurd (told (sym q))
-
-  kind-five : pass ≡ 5 → kindAt S i ≡ 5
-  kind-five e = go (eqb (kindAt S i) (pass + 1)) (eqb (kindAt S i) 5) refl refl (rw (eq-eqb pass 5 e) at (h .own))
-    where
-      go : (a b : Bool) → eqb (kindAt S i) (pass + 1) ≡ a → eqb (kindAt S i) 5 ≡ b → (a || b) ≡ true → kindAt S i ≡ 5
-      go true b f g q = absurd (let z = eqb-true (kindAt S i) (pass + 1) f in omega (arith, z, e, here .kind .1))
-      go false true f g q = eqb-true (kindAt S i) 5 g
-      go false false f g q = absurd (told (sym q))
+  own-kind : kindAt S i ≡ passes.itemKind pass
+  own-kind = eqb-true (kindAt S i) (passes.itemKind pass) (h .own)
 
   -- entries
-  pub item-entry : pass ≡ 4 → EntryIn s S T i
-  item-entry e = record { sheet = sh; within = here .within; kind = let z = kind-for (omega arith) in omega (arith, z, e) }
+  pub item-entry : pass ≡ passes.entries → EntryIn s S T i
+  item-entry e = record { sheet = sh; within = here .within; kind = own-kind ∙ rw e refl }
 
-  pub entry-pass : (r : Done) (U : Table) → pass ≡ 4 → Does s (checkEntry (modelIn s) (entryAt s i)) T r U → Does s (passRule s pass (itemModel (itemOf (nodeAt s i)))) T r U
+  pub entry-pass : (r : Done) (U : Table) → pass ≡ passes.entries → Does s (checkEntry (modelIn s) (entryAt s i)) T r U → Does s (passRule s pass (itemModel (itemOf (nodeAt s i)))) T r U
   unfolding passRule
   entry-pass r U e a = record { gives = rw (e, entry-model d here (item-entry e .kind)) (one (checkEntry (modelIn s)) (entryAt s i) T ∙ a .gives) }
 
   -- invariants
-  module _ (e : pass ≡ 2) (env : Env) (f : env ≡ named 0 0 false) where
+  module _ (e : pass ≡ passes.invariants) (env : Env) (f : env ≡ withParams 0 0 false) where
     inv : (itemModel (itemOf (nodeAt s i)) ≡ of-invariant (exprAt s (suc i) ∷ [])) × Row S grammar.Expr 1 (suc i)
-    inv = invariant-model d here (let z = kind-for (omega arith) in omega (arith, z, e))
+    inv = invariant-model d here (own-kind ∙ rw e refl)
 
     pub item-invariant : Asks s S env T (i + 1)
     item-invariant = rw f (record { ready = bare-ready s S T false sh; here = rw (add-one i) (row-first (inv .1)) })
@@ -242,13 +233,13 @@ module _ (s S : List ℕ) (T : Table) (pass i : ℕ) (h : OwnItem s S T pass i) 
         record { gives = rw (e, inv .0) (one (expectPredicate (typing.new (modelIn s) [])) (exprAt s (suc i)) T ∙ rw (← new-env s T, ← f, ← add-one i) (a .gives)) }
 
   -- parameters
-  module _ (k : ℕ) (ek : k ≡ kindAt S i) (q : (eqb pass 1 || eqb pass 5) ≡ true) (m : ℕ) (em : m ≡ entry S i 5) where
-    params-of : (P : Type 0) → (pass ≡ 1 → kindAt S i ≡ 2 → P) → (pass ≡ 5 → kindAt S i ≡ 5 → P) → P
-    params-of P f g = go (eqb pass 1) refl q
+  module _ (k : ℕ) (ek : k ≡ kindAt S i) (q : (eqb pass passes.events || eqb pass passes.params) ≡ true) (m : ℕ) (em : m ≡ firstCount S i) where
+    params-of : (P : Type 0) → (pass ≡ passes.events → kindAt S i ≡ kinds.event → P) → (pass ≡ passes.params → kindAt S i ≡ kinds.entry → P) → P
+    params-of P f g = by-cases (eqb pass passes.events) refl q
       where
-        go : (b : Bool) → eqb pass 1 ≡ b → (b || eqb pass 5) ≡ true → P
-        go true e z = let one' = eqb-true pass 1 e in f one' (let y = kind-for (omega arith) in omega (arith, y, one'))
-        go false e z = let five = eqb-true pass 5 z in g five (kind-five five)
+        by-cases : (b : Bool) → eqb pass passes.events ≡ b → (b || eqb pass passes.params) ≡ true → P
+        by-cases true e z = let its = eqb-true pass passes.events e in f its (own-kind ∙ rw its refl)
+        by-cases false e z = let its = eqb-true pass passes.params z in g its (own-kind ∙ rw its refl)
 
     pub item-params : RecordsAt grammar.Param s S m (i + 1)
     item-params =
@@ -256,7 +247,7 @@ module _ (s S : List ℕ) (T : Table) (pass i : ℕ) (h : OwnItem s S T pass i) 
         (λ e f. record { loaded = d; row = rw (em, add-one i) (event-at d (here .within) f .1) })
         (λ e f. record { loaded = d; row = rw (em, add-one i) (entry-at d (here .within) f .params) })
 
-    pub params-pass : (r : Done) → Answers (forEach (paramsAt s m (i + 1)) (paramRule (eqb k 2))) (doneOf s r) → Does s (passRule s pass (itemModel (itemOf (nodeAt s i)))) T r T
+    pub params-pass : (r : Done) → Answers (forEach (paramsAt s m (i + 1)) (paramRule (eqb k kinds.event))) (doneOf s r) → Does s (passRule s pass (itemModel (itemOf (nodeAt s i)))) T r T
     unfolding passRule paramRule
     params-pass r a =
         params-of (Does s (passRule s pass (itemModel (itemOf (nodeAt s i)))) T r T)
@@ -265,48 +256,45 @@ module _ (s S : List ℕ) (T : Table) (pass i : ℕ) (h : OwnItem s S T pass i) 
         record {
           gives =
               rw (e, event-model d here f)
-              (one (λ x. forEach (x .params) checkEventParam) (eventAt s i) T ∙ rw (ev, ← em, ← add-one i) (rw (eq-eqb k 2 (ek ∙ f)) at a .answers T));
+              (one (λ x. forEach (x .params) checkEventParam) (eventAt s i) T ∙ rw (ev, ← em, ← add-one i) (rw (eq-eqb k kinds.event (ek ∙ f)) at a .answers T));
         })
         (λ e f.
         let en = ap (λ (x : Entry). x .params) (entry-at d (here .within) f .is) in
         record {
           gives =
               rw (e, entry-model d here f)
-              (one (λ x. forEach (x .params) checkEntryParam) (entryAt s i) T ∙ rw (en, ← em, ← add-one i) (rw (ne-eqb k 2 (omega (arith, ek, f))) at a .answers T));
+              (one (λ x. forEach (x .params) checkEntryParam) (entryAt s i) T ∙ rw (en, ← em, ← add-one i) (rw (ne-eqb k kinds.event (omega (arith, ek, f))) at a .answers T));
         })
 
   -- fields, and statements of genesis
-  module _ (k : ℕ) (ek : k ≡ kindAt S i) (n4 : pass ≢ 4) (n2 : pass ≢ 2) (q : (eqb pass 1 || eqb pass 5) ≡ false) (m : ℕ) (em : m ≡ entry S i 5) where
-    records-of : (P : Type 0) → (pass ≡ 0 → kindAt S i ≡ 1 → eqb k 4 ≡ false → P) → (pass ≡ 3 → kindAt S i ≡ 4 → eqb k 4 ≡ true → P) → P
-    records-of P a b = go (eqb pass 0) refl
+  module _ (k : ℕ) (ek : k ≡ kindAt S i) (no-entries : pass ≢ passes.entries) (no-invariants : pass ≢ passes.invariants) (q : (eqb pass passes.events || eqb pass passes.params) ≡ false) (sort m : ℕ) (es : sort ≡ cond (eqb pass passes.fields) (sortNumber grammar.Field) (sortNumber grammar.Stmt)) (em : m ≡ firstCount S i) where
+    records-of : (P : Type 0) → (pass ≡ passes.fields → kindAt S i ≡ kinds.state → eqb k kinds.genesis ≡ false → P) → (pass ≡ passes.genesis → kindAt S i ≡ kinds.genesis → eqb k kinds.genesis ≡ true → P) → P
+    records-of P a b = by-cases (eqb pass passes.fields) refl
       where
-        n1 : pass ≢ 1
-        n1 = eqb-false pass 1 (or-parts (eqb pass 1) (eqb pass 5) q .0)
+        others : (eqb pass passes.events ≡ false) × (eqb pass passes.params ≡ false)
+        others = or-parts (eqb pass passes.events) (eqb pass passes.params) q
 
-        n5 : pass ≢ 5
-        n5 = eqb-false pass 5 (or-parts (eqb pass 1) (eqb pass 5) q .1)
+        kind : kindAt S i ≡ passes.itemKind pass
+        kind = own-kind
 
-        kind : kindAt S i ≡ pass + 1
-        kind = kind-for n5
+        by-cases : (z : Bool) → eqb pass passes.fields ≡ z → P
+        by-cases true e =
+            let its = eqb-true pass passes.fields e in
+            let w : kindAt S i ≡ kinds.state = kind ∙ rw its refl in
+            a its w (ne-eqb k kinds.genesis (omega (arith, ek, w)))
+        by-cases false e =
+            let its = only-genesis pass (h .item .number) (eqb-false pass passes.fields e) (eqb-false pass passes.events (others .0)) no-invariants no-entries (eqb-false pass passes.params (others .1)) in
+            let w : kindAt S i ≡ kinds.genesis = kind ∙ rw its refl in
+            b its w (eq-eqb k kinds.genesis (ek ∙ w))
 
-        go : (z : Bool) → eqb pass 0 ≡ z → P
-        go true e =
-            let zero' = eqb-true pass 0 e in
-            let w : kindAt S i ≡ 1 = omega (arith, kind, zero') in
-            a zero' w (ne-eqb k 4 (omega (arith, ek, w)))
-        go false e =
-            let three = only-three pass (h .item .number) (eqb-false pass 0 e) n1 n2 n4 n5 in
-            let w : kindAt S i ≡ 4 = omega (arith, kind, three) in
-            b three w (eq-eqb k 4 (ek ∙ w))
-
-    pub item-records : (env : Env) (g : Bool) → env ≡ named 0 0 g → RecordsIn s S env T m (i + 1)
-    unfolding named
+    pub item-records : (env : Env) (g : Bool) → env ≡ withParams 0 0 g → RecordsIn s S env T sort m (i + 1)
+    unfolding withParams
     item-records env g f =
-        records-of (RecordsIn s S env T m (i + 1))
-        (λ e w z. rw f (record { ready = bare-ready s S T g sh; bare = refl; sort = grammar.Field; walked = a-field; row = rw (em, add-one i) (state-model d here w .1) }))
-        (λ e w z. rw f (record { ready = bare-ready s S T g sh; bare = refl; sort = grammar.Stmt; walked = a-stmt; row = rw (em, add-one i) (genesis-model d here w .1) }))
+        records-of (RecordsIn s S env T sort m (i + 1))
+        (λ e w z. rw (f, es, e) (record { ready = bare-ready s S T g sh; bare = refl; walked = a-field; row = rw (em, add-one i) (state-model d here w .1) }))
+        (λ e w z. rw (f, es, e) (record { ready = bare-ready s S T g sh; bare = refl; walked = a-stmt; row = rw (em, add-one i) (genesis-model d here w .1) }))
 
-    pub records-pass : (env : Env) (r : Done) (U : Table) → env ≡ named 0 0 (eqb k 4) → Does s (forEach (nodesAt s m (i + 1)) (recordRule (envOf s T env))) T r U
+    pub records-pass : (env : Env) (r : Done) (U : Table) → env ≡ withParams 0 0 (eqb k kinds.genesis) → Does s (forEach (nodesAt s m (i + 1)) (recordRule sort (envOf s T env))) T r U
         → Does s (passRule s pass (itemModel (itemOf (nodeAt s i)))) T r U
     unfolding passRule
     records-pass env r U f a =
@@ -314,18 +302,20 @@ module _ (s S : List ℕ) (T : Table) (pass i : ℕ) (h : OwnItem s S T pass i) 
         (λ e w z.
         let Γ = typing.new (modelIn s) [] in
         let y = state-model d here w in
-        let g : env ≡ named 0 0 false = f ∙ rw z refl in
-        record { gives = rw (e, y .0) (sym (row-rule grammar.Field Γ fieldOf (checkField Γ) d (rule-field d Γ) (y .1) T) ∙ rw (← new-env s T, ← g, ← em, ← add-one i) (a .gives)) })
+        let g : env ≡ withParams 0 0 false = f ∙ rw z refl in
+        let its : sort ≡ sortNumber grammar.Field = es ∙ rw e refl in
+        record { gives = rw (e, y .0) (sym (rule-each (sortNumber grammar.Field) Γ fieldOf (checkField Γ) (rule-field Γ) (nodesAt s (firstCount S i) (suc i)) T) ∙ rw (← new-env s T, ← g, ← em, ← add-one i, ← its) (a .gives)) })
         (λ e w z.
         let Γ = typing.inGenesis (typing.new (modelIn s) []) in
         let y = genesis-model d here w in
-        let g : env ≡ named 0 0 true = f ∙ rw z refl in
-        record { gives = rw (e, y .0) (sym (row-rule grammar.Stmt Γ stmtOf (checkGenesis Γ) d (rule-stmt d Γ) (y .1) T) ∙ rw (← genesis-env s T, ← g, ← em, ← add-one i) (a .gives)) })
+        let g : env ≡ withParams 0 0 true = f ∙ rw z refl in
+        let its : sort ≡ sortNumber grammar.Stmt = es ∙ rw e refl in
+        record { gives = rw (e, y .0) (sym (rule-each (sortNumber grammar.Stmt) Γ stmtOf (checkGenesis Γ) (rule-stmt Γ) (nodesAt s (firstCount S i) (suc i)) T) ∙ rw (← genesis-env s T, ← g, ← em, ← add-one i, ← its) (a .gives)) })
 
 -- ------------------------------------------------------------ check_item, check_items
 
-module _ (s S : List ℕ) (T : Table) (pass i : ℕ) (h : ItemIn s S T pass i) (k : ℕ) (ek : k ≡ kindAt S i) (b : Bool) (eb : b ≡ (eqb k (pass + 1) || (eqb pass 5 && eqb k 5))) where
-  pub item-number : pass < 6
+module _ (s S : List ℕ) (T : Table) (pass i : ℕ) (h : ItemIn s S T pass i) (k : ℕ) (ek : k ≡ kindAt S i) (b : Bool) (eb : b ≡ eqb k (passes.itemKind pass)) where
+  pub item-number : pass < passes.count
   item-number = h .number
 
   pub item-other : not b ≡ true → Does s (passRule s pass (itemModel (itemOf (nodeAt s i)))) T Fine T
@@ -341,7 +331,7 @@ items-none s S T pass m i h e = record { gives = rw (e, no-nodes s i) (pass-noth
 
 module _ (s S : List ℕ) (T : Table) (pass m i : ℕ) (h : ItemsIn s S T pass m i) (n : m ≢ 0) where
   row : Row S grammar.Item (suc (m - 1)) i
-  row = rw (let y : suc (m - 1) ≡ m = omega arith in y) (h .row)
+  row = row-some (omega arith) (h .row)
 
   pub items-first : ItemIn s S T pass i
   items-first = record { sheet = h .sheet; number = h .number; here = row-first row }
@@ -350,8 +340,7 @@ module _ (s S : List ℕ) (T : Table) (pass m i : ℕ) (h : ItemsIn s S T pass m
       ≡ kept (passRule s pass (itemModel (itemOf (nodeAt s i))) >>= λ _. passRule s pass (build (map itemOf (nodesAt s (m - 1) (endAt S i))))) T
   unfolding build
   split =
-      let e : nodesAt s m i ≡ nodeAt s i ∷ nodesAt s (m - 1) (endAt S i) = ap (λ k. nodesAt s k i) (let y : m ≡ suc (m - 1) = omega arith in y) ∙ nodes-next (h .sheet .loaded) (m - 1) i (row-first row .within) in
-      rw e (pass-joined s pass (itemModel (itemOf (nodeAt s i))) (build (map itemOf (nodesAt s (m - 1) (endAt S i)))) T (h .number))
+      rw (list-some records (h .sheet .loaded) (omega arith) (h .row)) (pass-joined s pass (itemModel (itemOf (nodeAt s i))) (build (map itemOf (nodesAt s (m - 1) (endAt S i)))) T (h .number))
 
   module _ (o : Done) (U : Table) (a : Does s (passRule s pass (itemModel (itemOf (nodeAt s i)))) T o U) where
     pub items-no : (x : Refusal) → o ≡ Refused x → Does s (passRule s pass (build (map itemOf (nodesAt s m i)))) T (Refused x) U
@@ -372,7 +361,7 @@ module _ (s S : List ℕ) (T : Table) (pass m i : ℕ) (h : ItemsIn s S T pass m
 
 -- ------------------------------------------------------------ all items
 
-module _ (s S : List ℕ) (T : Table) (pass : ℕ) (h : PassIn s S T pass) (m : ℕ) (e : m ≡ entry S 0 5) where
+module _ (s S : List ℕ) (T : Table) (pass : ℕ) (h : PassIn s S T pass) (m : ℕ) (e : m ≡ itemCount S 0) where
   pub pass-items : ItemsIn s S T pass m 1
   pass-items = record { sheet = h .sheet; number = h .number; row = rw e (items-at (h .sheet .loaded) .1) }
 
@@ -382,7 +371,7 @@ module _ (s S : List ℕ) (T : Table) (pass : ℕ) (h : PassIn s S T pass) (m : 
 -- ------------------------------------------------------------ check
 
 module _ (s S : List ℕ) (T : Table) (h : SheetIn s S T) where
-  pub pass-in : (k : ℕ) → k < 6 → PassIn s S T k
+  pub pass-in : (k : ℕ) → k < passes.count → PassIn s S T k
   pass-in k l = record { sheet = h; number = l }
 
   pub few-lines : FewLines s S

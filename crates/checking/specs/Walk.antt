@@ -1,17 +1,17 @@
 -- The records that `check` walks over: the rule of each, what the code asks, and what it promises.
-use Prim.Native.Nat.{ℕ, suc, _+_, _-_, _/_, _<_, _≤_}
-use mathlib.Core.Bool.{Bool, true, false, _&&_, _||_}
+use Prim.Native.Nat.{ℕ, suc, _-_, _<_, _≤_}
+use mathlib.Core.Bool.{Bool, true, false}
 use mathlib.Core.List.{List, [], _∷_}
 use mathlib.Core.Path.{_≡_}
-use lib.Dec.{eqb, ltb}
+use lib.Dec.{eqb}
 use lib.ListN.{length, getD}
 use Rattle.grammar.specs.Grammar as grammar
-use Rattle.sheet.specs.Scratch.{kindAt, skip}
+use Rattle.sheet.specs.Scratch.{kindAt, skip, lineCount}
 use Rattle.sheet.specs.Tree.{Node, node}
 use Rattle.rules.specs.Text.{Name}
 use Rattle.rules.specs.Ast.{Type', Param, Entry, Stmt, guard, bind, emit, assign, do', fieldOf, clauseOf, stmtOf}
 use Rattle.rules.specs.Asking.{Ty, code, ok, Rule, ret, _>>=_, _>>_, forEach}
-use Rattle.rules.specs.Kept.{Table, kept}
+use Rattle.rules.specs.Kept.{Table, kept, IsCode}
 use Rattle.rules.specs.Model.{Model, values}
 use Rattle.rules.specs.Declarations.{guardianBound, storable, refuseWord64AsDigest}
 use Rattle.rules.specs.Assets.{assetCallsConsumed}
@@ -21,20 +21,22 @@ use Rattle.rules.specs.Typing as typing
 use Rattle.rules.specs.Statements.{checkStmtTypes, expectPredicate, refuseNameRecipient}
 use Rattle.rules.specs.Check.{clausePredicate, clauseAssets, paramTypes, checkBody, checkLocal, checkField, checkGenesis, checkEventParam, checkEntryParam, checkEntry}
 use Rattle.rules.specs.Standing.{exprAt, stmtAt, modelIn, Loaded, Here, Row}
-use Rattle.declared.specs.Codes.{IsCode}
-use Rattle.declared.specs.Found.{nodeKind}
-use Rattle.declared.specs.declared.refusal.Done.{Done}
-use Rattle.declared.specs.declared.refusal.Done.the-variants.{Fine}
+use Rattle.refusals.specs.declared.refusal.Done.{Done}
+use Rattle.refusals.specs.declared.refusal.Done.the-variants.{Fine}
 use Rattle.env.specs.Force.{lets, Ready}
 use Rattle.env.specs.declared.env.Env.{Env}
 use Rattle.typing.specs.Asks.{Does}
 use Rattle.emits.specs.Emit.{emitRule}
+use Rattle.grammar.specs.Kinds as kinds
+use Rattle.checking.specs.Passes as passes
+use Rattle.grammar.specs.Table.{sortNumber, sortOf}
+use Rattle.sheet.specs.Line.{mostLines}
 
 -- ------------------------------------------------------------ what is in force
 
 -- parameters and no locals
-unfoldable pub named : ℕ → ℕ → Bool → Env
-named params count genesis = record { params = params; count = count; body = 0; bound = 0; next = 0; genesis = genesis }
+unfoldable pub withParams : ℕ → ℕ → Bool → Env
+withParams params count genesis = record { params = params; count = count; body = 0; bound = 0; next = 0; genesis = genesis }
 
 -- parameters, and the `let`s among the first `bound` statements, behind which line `next` is
 unfoldable pub withLocals : (params count body bound next : ℕ) → Env
@@ -56,43 +58,42 @@ pub record ReadyTyped (s S : List ℕ) (env : Env) (T : Table) : Type 0 where
 -- a sheet that is read, its lines, and a table with a byte for each
 pub record SheetIn (s S : List ℕ) (T : Table) : Type 0 where
   pub loaded : Loaded s S
-  pub few : length S / 8 ≤ 1024
-  pub room : length S / 8 ≤ length T
+  pub few : lineCount S ≤ mostLines
+  pub room : lineCount S ≤ length T
 
 -- ------------------------------------------------------------ fields, clauses, and statements of genesis
 
-unfoldable pub recordRule : typing.Env → Node → Rule Unit
-recordRule Γ t =
-    elim (eqb (nodeKind t) 6) [
+-- by the sort that is due
+unfoldable pub recordRule : (sort : ℕ) → typing.Env → Node → Rule Unit
+recordRule sort Γ t =
+    elim (eqb sort (sortNumber grammar.Field)) [
       | true ↦ checkField Γ (fieldOf t)
       | false ↦
-          elim (ltb (nodeKind t) 15) [ true ↦ clausePredicate Γ (clauseOf t) | false ↦ checkGenesis Γ (stmtOf t) ]
+          elim (eqb sort (sortNumber grammar.Clause)) [ true ↦ clausePredicate Γ (clauseOf t) | false ↦ checkGenesis Γ (stmtOf t) ]
     ]
 
 -- the sorts of such records
-pub data Walked : grammar.Sort → Type 0 where
-  a-field : Walked grammar.Field
-  a-clause : Walked grammar.Clause
-  a-stmt : Walked grammar.Stmt
+pub data Walked : ℕ → Type 0 where
+  a-field : Walked (sortNumber grammar.Field)
+  a-clause : Walked (sortNumber grammar.Clause)
+  a-stmt : Walked (sortNumber grammar.Stmt)
 
-pub record RecordIn (s S : List ℕ) (env : Env) (T : Table) (i : ℕ) : Type 0 where
+pub record RecordIn (s S : List ℕ) (env : Env) (T : Table) (sort i : ℕ) : Type 0 where
   pub ready : Ready s S env T
-  pub sort : grammar.Sort
   pub walked : Walked sort
-  pub here : Here S sort i
+  pub here : Here S (sortOf sort) i
 
 -- ... several, one behind another, and no `let` is bound
-pub record RecordsIn (s S : List ℕ) (env : Env) (T : Table) (m i : ℕ) : Type 0 where
+pub record RecordsIn (s S : List ℕ) (env : Env) (T : Table) (sort m i : ℕ) : Type 0 where
   pub ready : Ready s S env T
   pub bare : env .bound ≡ 0
-  pub sort : grammar.Sort
   pub walked : Walked sort
-  pub row : Row S sort m i
+  pub row : Row S (sortOf sort) m i
 
 -- a record of kind k
 pub record KindIn (k : ℕ) (s S : List ℕ) (env : Env) (T : Table) (i : ℕ) : Type 0 where
   pub ready : Ready s S env T
-  pub within : i < length S / 8
+  pub within : i < lineCount S
   pub kind : kindAt S i ≡ k
 
 -- a clause
@@ -143,7 +144,7 @@ pub record Binds (s : List ℕ) (Γ : typing.Env) (T : Table) (i : ℕ) (U : Tab
 
 pub record StmtDoes (s S : List ℕ) (Γ : typing.Env) (i : ℕ) (T : Table) (r : Done) (U : Table) : Type 0 where
   pub does : Does s (stmtRule Γ (stmtAt s i)) T r U
-  pub binds : r ≡ Fine → kindAt S i ≡ 16 → Binds s Γ T i U
+  pub binds : r ≡ Fine → kindAt S i ≡ kinds.let' → Binds s Γ T i U
 
 -- the last `left` of `total` statements, the first of them at line at
 pub record BodyAt (s S : List ℕ) (T : Table) (params count body total at left : ℕ) : Type 0 where
@@ -172,29 +173,29 @@ usesRule entry = do
 
 pub record EntryIn (s S : List ℕ) (T : Table) (i : ℕ) : Type 0 where
   pub sheet : SheetIn s S T
-  pub within : i < length S / 8
-  pub kind : kindAt S i ≡ 5
+  pub within : i < lineCount S
+  pub kind : kindAt S i ≡ kinds.entry
 
 pub record ItemIn (s S : List ℕ) (T : Table) (pass i : ℕ) : Type 0 where
   pub sheet : SheetIn s S T
-  pub number : pass < 6
+  pub number : pass < passes.count
   pub here : Here S grammar.Item i
 
 -- ... that a pass looks at
 pub record OwnItem (s S : List ℕ) (T : Table) (pass i : ℕ) : Type 0 where
   pub item : ItemIn s S T pass i
-  pub own : (eqb (kindAt S i) (pass + 1) || (eqb pass 5 && eqb (kindAt S i) 5)) ≡ true
+  pub own : eqb (kindAt S i) (passes.itemKind pass) ≡ true
 
 pub record PassIn (s S : List ℕ) (T : Table) (pass : ℕ) : Type 0 where
   pub sheet : SheetIn s S T
-  pub number : pass < 6
+  pub number : pass < passes.count
 
 pub record ItemsIn (s S : List ℕ) (T : Table) (pass m i : ℕ) : Type 0 where
   pub sheet : SheetIn s S T
-  pub number : pass < 6
+  pub number : pass < passes.count
   pub row : Row S grammar.Item m i
 
--- The passes of `check` over the items, by number: what a pass does with a part of the model.
+-- what a pass does with a part of the model
 unfoldable pub passRule : List ℕ → ℕ → Model → Rule Unit
 passRule s k part =
     getD
@@ -210,19 +211,19 @@ passRule s k part =
 -- what is checked of the model's names: events, guardian sets, entries' parameters
 unfoldable pub namesRule : List ℕ → Rule Unit
 namesRule s = do
-  passRule s 1 (modelIn s)
+  passRule s passes.events (modelIn s)
   forEach (values (modelIn s .fields)) λ f. guardianBound (f .ty)
-  passRule s 5 (modelIn s)
+  passRule s passes.params (modelIn s)
 
 -- ... and before the first entry, after the fields
 unfoldable pub afterFields : List ℕ → Rule Unit
 afterFields s = do
   namesRule s
-  passRule s 2 (modelIn s)
+  passRule s passes.invariants (modelIn s)
 
 -- from the first entry on
 unfoldable pub fromEntries : List ℕ → Rule Unit
 fromEntries s = do
-  passRule s 4 (modelIn s)
+  passRule s passes.entries (modelIn s)
   checkKeyKinds (modelIn s)
-  passRule s 3 (modelIn s)
+  passRule s passes.genesis (modelIn s)

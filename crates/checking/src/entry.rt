@@ -3,19 +3,22 @@ use crate::records::check_records;
 use arithmetic::check_arithmetic;
 use assets::body_assets;
 use assets::clauses_assets;
-use declared::Done;
-use declared::Refusal;
-use declared::body_line;
-use declared::clauses_line;
 use emits::check_emit;
 use emits::refuse_name_recipient;
 use env::Env;
 use env::Typed;
+use grammar::kinds;
+use grammar::sorts;
+use lookups::body_line;
+use lookups::clauses_line;
+use refusals::Done;
+use refusals::Refusal;
+use rules::codes;
+use sheet::body_count;
+use sheet::clause_count;
 use sheet::end;
-use sheet::first;
 use sheet::kind;
-use sheet::second;
-use sheet::third;
+use sheet::param_count;
 use statements::check_stmt_types;
 use statements::expect_predicate;
 use typing::ty_of;
@@ -25,16 +28,17 @@ ghost use Prim.Native.Nat.{_-_};
 ghost use Rattle.rules.specs.Asking.{forEach};
 ghost use Rattle.rules.specs.Check.{checkBody, checkEntry, clausePredicate};
 ghost use Rattle.rules.specs.Standing.{entryAt, modelIn, stmtsAt};
-ghost use Rattle.declared.specs.Answers.{Answers};
-ghost use Rattle.declared.specs.Lines.{EntryAt};
-ghost use Rattle.declared.specs.Refusal.{doneOf};
+ghost use Rattle.refusals.specs.Answers.{Answers};
+ghost use Rattle.lookups.specs.Lines.{EntryAt};
+ghost use Rattle.refusals.specs.Refusal.{doneOf};
 ghost use Rattle.env.specs.Force.{envOf};
 ghost use Rattle.typing.specs.Asks.{Does};
-ghost use Rattle.checking.specs.Walk.{BodyAt, BodyStmt, entryEnv, EntryIn, named, StmtDoes, StmtOf, typesRule, usesRule, withLocals};
+ghost use Rattle.checking.specs.Walk.{BodyAt, BodyStmt, entryEnv, EntryIn, withParams, StmtDoes, StmtOf, typesRule, usesRule, withLocals};
+ghost use Rattle.grammar.specs.Kinds as kinds;
 
 // `count` parameters from line `params` on, and no locals.
-pub fn names(params: usize, count: usize, genesis: bool) -> Env
-    ensures { λ r. ⌜ r ≡ named params count genesis ⌝ }
+pub fn with_params(params: usize, count: usize, genesis: bool) -> Env
+    ensures { λ r. ⌜ r ≡ withParams params count genesis ⌝ }
 {
     Env {
         params,
@@ -48,7 +52,7 @@ pub fn names(params: usize, count: usize, genesis: bool) -> Env
 
 // `count` parameters from line `params` on; the `let`s among the first `bound` statements from line body on, which end at line
 // `next`, are locals.
-fn locals(params: usize, count: usize, body: usize, bound: usize, next: usize) -> Env
+fn with_locals(params: usize, count: usize, body: usize, bound: usize, next: usize) -> Env
     ensures { λ r. ⌜ r ≡ withLocals params count body bound next ⌝ }
 {
     Env {
@@ -63,13 +67,13 @@ fn locals(params: usize, count: usize, body: usize, bound: usize, next: usize) -
 
 // The `let` at line i, before it is bound.
 fn check_let(sheet: &[u8], lines: &[u16], env: Env, table: &mut [u8], i: usize) -> Done
-    requires { ⌜ StmtOf 16 (now sheet) (now lines) env (now table) i ⌝ }
+    requires { ⌜ StmtOf kinds.let' (now sheet) (now lines) env (now table) i ⌝ }
     ensures { λ r. ⌜ StmtDoes (now (sheet .entry)) (now (lines .entry)) (envOf (now (sheet .entry)) (now (table .entry)) env) i (now (table .entry)) r (now (table .exit)) ⌝ }
 {
     match ty_of(sheet, lines, env, table, i + 1) {
         Typed::Is(ty) => {
-            if ty == 9 {
-                Done::Refused(Refusal::Local(i + 1))
+            if ty == codes::COLLECTION {
+                Done::Refused(Refusal::CollectionLocal(i + 1))
             } else {
                 Done::Fine
             }
@@ -79,7 +83,7 @@ fn check_let(sheet: &[u8], lines: &[u16], env: Env, table: &mut [u8], i: usize) 
 }
 
 fn check_do(sheet: &[u8], lines: &[u16], env: Env, table: &mut [u8], i: usize) -> Done
-    requires { ⌜ StmtOf 19 (now sheet) (now lines) env (now table) i ⌝ }
+    requires { ⌜ StmtOf kinds.do' (now sheet) (now lines) env (now table) i ⌝ }
     ensures { λ r. ⌜ StmtDoes (now (sheet .entry)) (now (lines .entry)) (envOf (now (sheet .entry)) (now (table .entry)) env) i (now (table .entry)) r (now (table .exit)) ⌝ }
 {
     match check_stmt_types(sheet, lines, env, table, i) {
@@ -94,16 +98,16 @@ fn check_stmt(sheet: &[u8], lines: &[u16], env: Env, table: &mut [u8], i: usize)
     ensures { λ r. ⌜ StmtDoes (now (sheet .entry)) (now (lines .entry)) (envOf (now (sheet .entry)) (now (table .entry)) env) i (now (table .entry)) r (now (table .exit)) ⌝ }
 {
     let k = kind(lines, i);
-    if k == 15 {
+    if k == kinds::GUARD {
         return expect_predicate(sheet, lines, env, table, i + 1);
     }
-    if k == 16 {
+    if k == kinds::LET {
         return check_let(sheet, lines, env, table, i);
     }
-    if k == 17 {
+    if k == kinds::EMIT {
         return check_emit(sheet, lines, env, table, i);
     }
-    if k == 18 {
+    if k == kinds::ASSIGN {
         return check_stmt_types(sheet, lines, env, table, i);
     }
     check_do(sheet, lines, env, table, i)
@@ -127,7 +131,7 @@ fn check_body(
     if left == 0 {
         return Done::Fine;
     }
-    let env = locals(params, count, body, total - left, at);
+    let env = with_locals(params, count, body, total - left, at);
     match check_stmt(sheet, lines, env, table, at) {
         Done::Fine => check_body(
             sheet,
@@ -149,14 +153,15 @@ fn entry_clauses(sheet: &[u8], lines: &[u16], table: &mut [u8], i: usize) -> Don
     requires { ⌜ EntryIn (now sheet) (now lines) (now table) i ⌝ }
     ensures { λ r. ⌜ Does (now (sheet .entry)) (forEach (entryAt (now (sheet .entry)) i .clauses) (clausePredicate (entryEnv (modelIn (now (sheet .entry))) (entryAt (now (sheet .entry)) i)))) (now (table .entry)) r (now (table .exit)) ⌝ }
 {
-    let env = names(i + 1, first(lines, i), false);
+    let env = with_params(i + 1, param_count(lines, i), false);
     check_records(
         sheet,
         lines,
         env,
         table,
+        sorts::CLAUSE,
         clauses_line(lines, i),
-        second(lines, i),
+        clause_count(lines, i),
     )
 }
 
@@ -166,13 +171,13 @@ fn entry_body(sheet: &[u8], lines: &[u16], table: &mut [u8], i: usize) -> Done
     ensures { λ r. ⌜ Does (now (sheet .entry)) (checkBody (entryEnv (modelIn (now (sheet .entry))) (entryAt (now (sheet .entry)) i)) (entryAt (now (sheet .entry)) i .body)) (now (table .entry)) r (now (table .exit)) ⌝ }
 {
     let body = body_line(lines, i);
-    let total = third(lines, i);
+    let total = body_count(lines, i);
     check_body(
         sheet,
         lines,
         table,
         i + 1,
-        first(lines, i),
+        param_count(lines, i),
         body,
         total,
         body,
@@ -196,8 +201,8 @@ fn entry_uses(sheet: &[u8], lines: &[u16], i: usize) -> Done
     requires { ⌜ EntryAt (now sheet) (now lines) i ⌝ }
     ensures { λ r. ⌜ Answers (usesRule (entryAt (now (sheet .entry)) i)) (doneOf (now (sheet .entry)) r) ⌝ }
 {
-    match clauses_assets(sheet, lines, clauses_line(lines, i), second(lines, i)) {
-        Done::Fine => match body_assets(sheet, lines, body_line(lines, i), third(lines, i)) {
+    match clauses_assets(sheet, lines, clauses_line(lines, i), clause_count(lines, i)) {
+        Done::Fine => match body_assets(sheet, lines, body_line(lines, i), body_count(lines, i)) {
             Done::Fine => check_arithmetic(sheet, lines, i),
             Done::Refused(r) => Done::Refused(r),
         },

@@ -1,16 +1,21 @@
 // `check`: its passes over the items.
 use crate::entry::check_entry;
-use crate::entry::names;
+use crate::entry::with_params;
 use crate::records::check_params;
 use crate::records::check_records;
-use declared::Done;
-use guardians::guardian_fields;
+use declarations::guardian_fields;
+use grammar::kinds;
+use grammar::sorts;
 use key_kinds::check_key_kinds;
+use refusals::Done;
 use sheet::end;
-use sheet::first;
+use sheet::field_count;
+use sheet::genesis_count;
+use sheet::item_count;
 use sheet::kind;
+use sheet::param_count;
 use statements::expect_predicate;
-ghost use mathlib.Core.Bool.{_&&_, _||_};
+ghost use mathlib.Core.Bool.{cond};
 ghost use mathlib.Core.List.{map};
 ghost use mathlib.Core.Path.{_≡_};
 ghost use Prim.Native.Nat.{_<_, _+_};
@@ -21,14 +26,62 @@ ghost use Rattle.rules.specs.Check.{check as checkOf};
 ghost use Rattle.rules.specs.Model.{build, itemModel};
 ghost use Rattle.rules.specs.Standing.{modelIn, nodeAt, nodesAt};
 ghost use Rattle.typing.specs.Asks.{Does};
+ghost use Rattle.checking.specs.Passes as passes;
 ghost use Rattle.checking.specs.Walk.{afterFields, fromEntries, ItemIn, ItemsIn, namesRule, OwnItem, PassIn, passRule, SheetIn};
+ghost use Rattle.sheet.specs.Scratch.{firstCount};
+ghost use Rattle.grammar.specs.Grammar.{Field, Stmt};
+ghost use Rattle.grammar.specs.Table.{sortNumber};
 
-// Whether a pass looks at items of kind k: 0 state, 1 events, 2 invariants, 3 genesis, 4 entries, 5 their parameters.
+// The passes over the items.
+const FIELDS: usize = 0;
+
+const EVENTS: usize = 1;
+
+const INVARIANTS: usize = 2;
+
+const GENESIS: usize = 3;
+
+const ENTRIES: usize = 4;
+
+const PARAMS: usize = 5;
+
+// The kind of item that each pass looks at.
+const ITEM_KINDS: [usize; 6] = [
+    kinds::STATE,
+    kinds::EVENT,
+    kinds::INVARIANT,
+    kinds::GENESIS,
+    kinds::ENTRY,
+    kinds::ENTRY,
+];
+
+// Whether a pass looks at items of kind k.
 fn looks_at(pass: usize, k: usize) -> bool
-    requires { ⌜ pass < 6 ⌝ }
-    ensures { λ r. ⌜ r ≡ (eqb k (pass + 1) || (eqb pass 5 && eqb k 5)) ⌝ }
+    requires { ⌜ pass < passes.count ⌝ }
+    ensures { λ r. ⌜ r ≡ eqb k (passes.itemKind pass) ⌝ }
 {
-    (k == pass + 1) | ((pass == 5) & (k == 5))
+    k == ITEM_KINDS[pass]
+}
+
+// The sort of the records of a state, or of genesis, and how many it has.
+fn record_sort(pass: usize) -> u8
+    ensures { λ r. ⌜ r ≡ cond (eqb pass passes.fields) (sortNumber Field) (sortNumber Stmt) ⌝ }
+{
+    if pass == FIELDS {
+        sorts::FIELD
+    } else {
+        sorts::STMT
+    }
+}
+
+fn record_count(lines: &[u16], pass: usize, i: usize) -> usize
+    ensures { λ r. ⌜ r ≡ firstCount (now (lines .entry)) i ⌝ }
+{
+    if pass == FIELDS {
+        field_count(lines, i)
+    } else {
+        genesis_count(lines, i)
+    }
 }
 
 // What a pass does with an item that it looks at.
@@ -37,22 +90,29 @@ fn pass_item(sheet: &[u8], lines: &[u16], table: &mut [u8], pass: usize, i: usiz
     ensures { λ r. ⌜ Does (now (sheet .entry)) (passRule (now (sheet .entry)) pass (itemModel (itemOf (nodeAt (now (sheet .entry)) i)))) (now (table .entry)) r (now (table .exit)) ⌝ }
 {
     let k = kind(lines, i);
-    if pass == 4 {
+    if pass == ENTRIES {
         return check_entry(sheet, lines, table, i);
     }
-    if pass == 2 {
-        return expect_predicate(sheet, lines, names(0, 0, false), table, i + 1);
+    if pass == INVARIANTS {
+        return expect_predicate(sheet, lines, with_params(0, 0, false), table, i + 1);
     }
-    if (pass == 1) | (pass == 5) {
-        return check_params(sheet, lines, k == 2, i + 1, first(lines, i));
+    if (pass == EVENTS) | (pass == PARAMS) {
+        return check_params(
+            sheet,
+            lines,
+            k == kinds::EVENT,
+            i + 1,
+            param_count(lines, i),
+        );
     }
     check_records(
         sheet,
         lines,
-        names(0, 0, k == 4),
+        with_params(0, 0, k == kinds::GENESIS),
         table,
+        record_sort(pass),
         i + 1,
-        first(lines, i),
+        record_count(lines, pass, i),
     )
 }
 
@@ -92,7 +152,7 @@ fn check_pass(sheet: &[u8], lines: &[u16], table: &mut [u8], pass: usize) -> Don
     requires { ⌜ PassIn (now sheet) (now lines) (now table) pass ⌝ }
     ensures { λ r. ⌜ Does (now (sheet .entry)) (passRule (now (sheet .entry)) pass (modelIn (now (sheet .entry)))) (now (table .entry)) r (now (table .exit)) ⌝ }
 {
-    check_items(sheet, lines, table, pass, 1, first(lines, 0))
+    check_items(sheet, lines, table, pass, 1, item_count(lines, 0))
 }
 
 // Events, guardian sets, and the parameters of entries.
@@ -100,9 +160,9 @@ fn check_names(sheet: &[u8], lines: &[u16], table: &mut [u8]) -> Done
     requires { ⌜ SheetIn (now sheet) (now lines) (now table) ⌝ }
     ensures { λ r. ⌜ Does (now (sheet .entry)) (namesRule (now (sheet .entry))) (now (table .entry)) r (now (table .exit)) ⌝ }
 {
-    match check_pass(sheet, lines, table, 1) {
+    match check_pass(sheet, lines, table, EVENTS) {
         Done::Fine => match guardian_fields(sheet, lines) {
-            Done::Fine => check_pass(sheet, lines, table, 5),
+            Done::Fine => check_pass(sheet, lines, table, PARAMS),
             Done::Refused(r) => Done::Refused(r),
         },
         Done::Refused(r) => Done::Refused(r),
@@ -115,17 +175,17 @@ fn after_fields(sheet: &[u8], lines: &[u16], table: &mut [u8]) -> Done
     ensures { λ r. ⌜ Does (now (sheet .entry)) (afterFields (now (sheet .entry))) (now (table .entry)) r (now (table .exit)) ⌝ }
 {
     match check_names(sheet, lines, table) {
-        Done::Fine => check_pass(sheet, lines, table, 2),
+        Done::Fine => check_pass(sheet, lines, table, INVARIANTS),
         Done::Refused(r) => Done::Refused(r),
     }
 }
 
 // What comes before the first entry.
-fn before_entries(sheet: &[u8], lines: &[u16], table: &mut [u8]) -> Done
+pub fn before_entries(sheet: &[u8], lines: &[u16], table: &mut [u8]) -> Done
     requires { ⌜ SheetIn (now sheet) (now lines) (now table) ⌝ }
     ensures { λ r. ⌜ Does (now (sheet .entry)) (beforeEntries (modelIn (now (sheet .entry)))) (now (table .entry)) r (now (table .exit)) ⌝ }
 {
-    match check_pass(sheet, lines, table, 0) {
+    match check_pass(sheet, lines, table, FIELDS) {
         Done::Fine => after_fields(sheet, lines, table),
         Done::Refused(r) => Done::Refused(r),
     }
@@ -136,9 +196,9 @@ fn from_entries(sheet: &[u8], lines: &[u16], table: &mut [u8]) -> Done
     requires { ⌜ SheetIn (now sheet) (now lines) (now table) ⌝ }
     ensures { λ r. ⌜ Does (now (sheet .entry)) (fromEntries (now (sheet .entry))) (now (table .entry)) r (now (table .exit)) ⌝ }
 {
-    match check_pass(sheet, lines, table, 4) {
+    match check_pass(sheet, lines, table, ENTRIES) {
         Done::Fine => match check_key_kinds(sheet, lines) {
-            Done::Fine => check_pass(sheet, lines, table, 3),
+            Done::Fine => check_pass(sheet, lines, table, GENESIS),
             Done::Refused(r) => Done::Refused(r),
         },
         Done::Refused(r) => Done::Refused(r),

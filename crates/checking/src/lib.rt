@@ -4,4 +4,5 @@ mod items;
 mod records;
 
 pub use entry::check_entry;
+pub use items::before_entries;
 pub use items::check;

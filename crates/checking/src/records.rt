@@ -4,11 +4,13 @@ use declarations::event_field_type;
 use declarations::guardian_bound;
 use declarations::refuse_word64_as_digest;
 use declarations::storable;
-use declared::Done;
 use env::Env;
+use grammar::kinds;
+use grammar::sorts;
+use refusals::Done;
+use sheet::default_count;
 use sheet::end;
 use sheet::kind;
-use sheet::second;
 use statements::check_default;
 use statements::check_stmt_types;
 use statements::expect_predicate;
@@ -20,13 +22,14 @@ ghost use Rattle.rules.specs.Declarations.{eventFieldType, guardianBound};
 ghost use Rattle.rules.specs.Standing.{clauseAt, fieldAt, nodeAt, nodesAt, paramAt, paramsAt, stmtAt, typeAt};
 ghost use Rattle.grammar.specs.Grammar.{Param};
 ghost use Rattle.declarations.specs.Lines.{Named};
-ghost use Rattle.declared.specs.Answers.{Answers};
-ghost use Rattle.declared.specs.Lines.{RecordAt, RecordsAt, Typed};
-ghost use Rattle.declared.specs.Refusal.{doneOf};
+ghost use Rattle.refusals.specs.Answers.{Answers};
+ghost use Rattle.lookups.specs.Lines.{RecordAt, RecordsAt, TypeAt};
+ghost use Rattle.refusals.specs.Refusal.{doneOf};
 ghost use Rattle.env.specs.Force.{envOf};
 ghost use Rattle.typing.specs.Asks.{Does};
 ghost use Rattle.statements.specs.Checked.{StmtIn};
 ghost use Rattle.checking.specs.Walk.{ClauseIn, declaredRule, KindIn, paramRule, RecordIn, recordRule, RecordsIn};
+ghost use Rattle.grammar.specs.Kinds as kinds;
 
 // What a field declares: its type may be stored, and its name tells no digest.
 fn field_declared(sheet: &[u8], lines: &[u16], i: usize) -> Done
@@ -41,17 +44,17 @@ fn field_declared(sheet: &[u8], lines: &[u16], i: usize) -> Done
 
 // The default of the field at line i, where it has one.
 fn field_default(sheet: &[u8], lines: &[u16], env: Env, table: &mut [u8], i: usize) -> Done
-    requires { ⌜ KindIn 6 (now sheet) (now lines) env (now table) i ⌝ }
+    requires { ⌜ KindIn kinds.field (now sheet) (now lines) env (now table) i ⌝ }
     ensures { λ r. ⌜ Does (now (sheet .entry)) (ifSome (fieldAt (now (sheet .entry)) i .default) (checkDefault (envOf (now (sheet .entry)) (now (table .entry)) env) (fieldAt (now (sheet .entry)) i))) (now (table .entry)) r (now (table .exit)) ⌝ }
 {
-    if second(lines, i) == 0 {
+    if default_count(lines, i) == 0 {
         return Done::Fine;
     }
     check_default(sheet, lines, env, table, i)
 }
 
 fn check_field(sheet: &[u8], lines: &[u16], env: Env, table: &mut [u8], i: usize) -> Done
-    requires { ⌜ KindIn 6 (now sheet) (now lines) env (now table) i ⌝ }
+    requires { ⌜ KindIn kinds.field (now sheet) (now lines) env (now table) i ⌝ }
     ensures { λ r. ⌜ Does (now (sheet .entry)) (checkField (envOf (now (sheet .entry)) (now (table .entry)) env) (fieldAt (now (sheet .entry)) i)) (now (table .entry)) r (now (table .exit)) ⌝ }
 {
     match field_declared(sheet, lines, i) {
@@ -62,7 +65,7 @@ fn check_field(sheet: &[u8], lines: &[u16], env: Env, table: &mut [u8], i: usize
 
 // The type that an event or an entry declares for a parameter.
 fn param_type(sheet: &[u8], lines: &[u16], event: bool, ty: usize) -> Done
-    requires { ⌜ Typed (now sheet) (now lines) ty ⌝ }
+    requires { ⌜ TypeAt (now sheet) (now lines) ty ⌝ }
     ensures { λ r. ⌜ Answers (cond event (eventFieldType (typeAt (now (sheet .entry)) ty)) (guardianBound (typeAt (now (sheet .entry)) ty))) (doneOf (now (sheet .entry)) r) ⌝ }
 {
     if event {
@@ -104,10 +107,11 @@ fn clause_predicate(sheet: &[u8], lines: &[u16], env: Env, table: &mut [u8], i: 
     requires { ⌜ ClauseIn (now sheet) (now lines) env (now table) i ⌝ }
     ensures { λ r. ⌜ Does (now (sheet .entry)) (clausePredicate (envOf (now (sheet .entry)) (now (table .entry)) env) (clauseAt (now (sheet .entry)) i)) (now (table .entry)) r (now (table .exit)) ⌝ }
 {
-    if 12 < kind(lines, i) {
-        return Done::Fine;
+    let k = kind(lines, i);
+    if (k == kinds::LIMITS) | (k == kinds::DENIES) {
+        return expect_predicate(sheet, lines, env, table, i + 1);
     }
-    expect_predicate(sheet, lines, env, table, i + 1)
+    Done::Fine
 }
 
 // A statement of genesis: `let`, `guard` and `emit` are not typed there.
@@ -121,16 +125,15 @@ fn check_genesis(sheet: &[u8], lines: &[u16], env: Env, table: &mut [u8], i: usi
     }
 }
 
-// The field, clause, or statement of genesis at line i.
-fn check_record(sheet: &[u8], lines: &[u16], env: Env, table: &mut [u8], i: usize) -> Done
-    requires { ⌜ RecordIn (now sheet) (now lines) env (now table) i ⌝ }
-    ensures { λ r. ⌜ Does (now (sheet .entry)) (recordRule (envOf (now (sheet .entry)) (now (table .entry)) env) (nodeAt (now (sheet .entry)) i)) (now (table .entry)) r (now (table .exit)) ⌝ }
+// The field, clause, or statement of genesis at line i, by the sort that is due.
+fn check_record(sheet: &[u8], lines: &[u16], env: Env, table: &mut [u8], sort: u8, i: usize) -> Done
+    requires { ⌜ RecordIn (now sheet) (now lines) env (now table) sort i ⌝ }
+    ensures { λ r. ⌜ Does (now (sheet .entry)) (recordRule sort (envOf (now (sheet .entry)) (now (table .entry)) env) (nodeAt (now (sheet .entry)) i)) (now (table .entry)) r (now (table .exit)) ⌝ }
 {
-    let k = kind(lines, i);
-    if k == 6 {
+    if sort == sorts::FIELD {
         return check_field(sheet, lines, env, table, i);
     }
-    if k < 15 {
+    if sort == sorts::CLAUSE {
         return clause_predicate(sheet, lines, env, table, i);
     }
     check_genesis(sheet, lines, env, table, i)
@@ -142,17 +145,18 @@ pub fn check_records(
     lines: &[u16],
     env: Env,
     table: &mut [u8],
+    sort: u8,
     from: usize,
     count: usize,
 ) -> Done
-    requires { ⌜ RecordsIn (now sheet) (now lines) env (now table) count from ⌝ }
-    ensures { λ r. ⌜ Does (now (sheet .entry)) (forEach (nodesAt (now (sheet .entry)) count from) (recordRule (envOf (now (sheet .entry)) (now (table .entry)) env))) (now (table .entry)) r (now (table .exit)) ⌝ }
+    requires { ⌜ RecordsIn (now sheet) (now lines) env (now table) sort count from ⌝ }
+    ensures { λ r. ⌜ Does (now (sheet .entry)) (forEach (nodesAt (now (sheet .entry)) count from) (recordRule sort (envOf (now (sheet .entry)) (now (table .entry)) env))) (now (table .entry)) r (now (table .exit)) ⌝ }
 {
     if count == 0 {
         return Done::Fine;
     }
-    match check_record(sheet, lines, env, table, from) {
-        Done::Fine => check_records(sheet, lines, env, table, end(lines, from), count - 1),
+    match check_record(sheet, lines, env, table, sort, from) {
+        Done::Fine => check_records(sheet, lines, env, table, sort, end(lines, from), count - 1),
         Done::Refused(r) => Done::Refused(r),
     }
 }

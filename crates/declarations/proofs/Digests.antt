@@ -18,13 +18,13 @@ use Rattle.rules.specs.Ast.{typeName, paramOf}
 use Rattle.rules.specs.Declarations.{DIGEST_NAME_TOKENS, lower, startsWith, contains, containsAny, refuseWord64AsDigest}
 use Rattle.rules.specs.Standing.{typeAt, paramAt}
 use Rattle.rules.proofs.Standing.{stands}
-use Rattle.declared.specs.Answers.{Answers, expected}
-use Rattle.declared.specs.Refusal.{refusalOf, doneOf}
-use Rattle.declared.specs.declared.refusal.Refusal.the-variants.{Digest}
-use Rattle.declared.specs.declared.refusal.Done.{Done}
-use Rattle.declared.specs.declared.refusal.Done.the-variants.{Fine}
-use Rattle.declared.proofs.Answers.{fits, expects}
-use Rattle.declared.proofs.Types.{named-word}
+use Rattle.refusals.specs.Answers.{Answers, expected}
+use Rattle.refusals.specs.Refusal.{refusalOf, doneOf}
+use Rattle.refusals.specs.declared.refusal.Refusal.the-variants.{Digest}
+use Rattle.refusals.specs.declared.refusal.Done.{Done}
+use Rattle.refusals.specs.declared.refusal.Done.the-variants.{Fine}
+use Rattle.refusals.proofs.Answers.{fits, expects}
+use Rattle.lookups.proofs.Types.{named-word}
 use Rattle.declarations.specs.Lines.{Named}
 use Rattle.declarations.specs.Tests.{small}
 
@@ -75,9 +75,9 @@ rest s i k = startsAny (lower (drop i s)) (drop k DIGEST_NAME_TOKENS) || contain
 
 -- The places: n is the answer, and i the place of the turn.
 module _ (s : List ℕ) (i : ℕ) (n : Bool) (e : n ≡ containsAny (lower (drop i s)) DIGEST_NAME_TOKENS) where
-  pub place-in : i < length s → n ≡ rest s i 0
+  pub index-in : i < length s → n ≡ rest s i 0
   unfolding rest lower
-  place-in h = e ∙ rw (drop-cons s i 0 h, add-one, place-first) refl
+  index-in h = e ∙ rw (drop-cons s i 0 h, add-one, place-first) refl
 
   pub place-over : (found : Bool) → found ≡ false → length s ≤ i → found ≡ n
   unfolding lower containsAny contains startsWith

@@ -3,39 +3,41 @@ use mathlib.Core.Path.{_≡_, refl, _∙_}
 use mathlib.Core.Logic.{_≢_}
 use mathlib.Core.List.{List, _∷_}
 use mathlib.Core.Bool.{Bool, false, not, _||_}
-use Prim.Native.Nat.{ℕ, suc, _+_, _-_}
+use Prim.Native.Nat.{ℕ, suc, _+_, _-_, _<_}
 use native.Mathlib.Numerals.{add-one}
 use native.Mathlib.Omega.{arith}
 use Rattle.text.specs.Text.{bytes, same}
 use Rattle.grammar.specs.Grammar as grammar
-use Rattle.sheet.specs.Scratch.{nameAt, kindAt, endAt, entry}
+use Rattle.sheet.specs.Scratch.{nameAt, kindAt, endAt, typeArgCount}
 use Rattle.rules.specs.Text.{Name}
 use Rattle.rules.specs.Ast.{Arg, args}
-use Rattle.rules.specs.Declared.{parseU64}
+use Rattle.rules.specs.Types.{parseU64}
 use Rattle.rules.specs.Declarations.{membersOf, guardianFits, guardianBound}
 use Rattle.rules.specs.Standing.{typeAt, Here}
+use Rattle.rules.proofs.Rows.{row-some, list-none, list-some}
 use Rattle.rules.proofs.Standing.{row-first}
-use Rattle.declared.specs.Answers.{Answers, expected}
-use Rattle.declared.specs.Lines.{Typed}
-use Rattle.declared.specs.Refusal.{refusalOf, doneOf}
-use Rattle.declared.specs.declared.refusal.Refusal.the-variants.{Guardian}
-use Rattle.declared.specs.declared.refusal.Done.{Done}
-use Rattle.declared.proofs.Answers.{expects}
-use Rattle.declared.proofs.Types.{named-word, argsAt, args-next, args-none, by-kind, told, arg-told, args-here, args-row}
+use Rattle.refusals.specs.Answers.{Answers, expected}
+use Rattle.lookups.specs.Lines.{TypeAt}
+use Rattle.refusals.specs.Refusal.{refusalOf, doneOf}
+use Rattle.refusals.specs.declared.refusal.Refusal.the-variants.{Guardian}
+use Rattle.refusals.specs.declared.refusal.Done.{Done}
+use Rattle.refusals.proofs.Answers.{expects}
+use Rattle.lookups.proofs.Types.{named-word, argsAt, arguments, by-kind, argOfKind, arg-told, args-here, args-row}
 use Rattle.declarations.specs.Tests.{sizeFits}
+use Rattle.grammar.specs.Kinds as kinds
 
 -- What `members_fit` meets: m arguments, of which the first has the kind k.
-module _ (s S : List ℕ) (i m : ℕ) (h : Typed s S i) (c : m ≡ entry S i 5) where
+module _ (s S : List ℕ) (i m : ℕ) (h : TypeAt s S i) (c : m ≡ typeArgCount S i) where
   pub no-members : m ≡ 0 → false ≡ sizeFits (membersOf (args (typeAt s i)))
   unfolding sizeFits membersOf
-  no-members e = rw (args-here s S i m h c, e, args-none) refl
+  no-members e = rw (args-here s S i m h c, list-none arguments s m (suc i) (omega arith)) refl
 
   module _ (k : ℕ) (e : m ≢ 0) (f : k ≡ kindAt S (i + 1)) where
-    some-there : m ≡ suc (m - 1)
-    some-there = omega arith
+    some : 0 < m
+    some = omega arith
 
     here : Here S grammar.Arg (suc i)
-    here = row-first (rw some-there at (args-row s S i m h c))
+    here = row-first (row-some some (args-row s S i m h c))
 
     of-kind : k ≡ kindAt S (suc i)
     of-kind = rw (← add-one i) f
@@ -43,23 +45,23 @@ module _ (s S : List ℕ) (i m : ℕ) (h : Typed s S i) (c : m ≡ entry S i 5) 
     abbrev others : List Arg
     others = argsAt s (m - 1) (endAt S (suc i))
 
-    first : args (typeAt s i) ≡ told s S (suc i) k ∷ others
+    first : args (typeAt s i) ≡ argOfKind s S (suc i) k ∷ others
     first =
         args-here s S i m h c
-        ∙ args-next (h .loaded) (m - 1) m (suc i) some-there here
+        ∙ list-some arguments (h .loaded) some (args-row s S i m h c)
         ∙ rw (arg-told s S (suc i) k (h .loaded) of-kind) refl
 
-    pub other-members : k ≢ 9 → false ≡ sizeFits (membersOf (args (typeAt s i)))
+    pub other-members : k ≢ kinds.num → false ≡ sizeFits (membersOf (args (typeAt s i)))
     unfolding sizeFits membersOf
     other-members g =
         rw first
-        (by-kind (λ k. k ≢ 9 → false ≡ sizeFits (membersOf (told s S (suc i) k ∷ others))) k here of-kind (λ g. refl) (λ g. absurd (g refl)) (λ g. refl) g)
+        (by-kind (λ k. k ≢ kinds.num → false ≡ sizeFits (membersOf (argOfKind s S (suc i) k ∷ others))) k here of-kind (λ g. refl) (λ g. absurd (g refl)) (λ g. refl) g)
 
-    pub num-members : (x : Name) (r : Bool) → k ≡ 9 → x ≡ nameAt s S (i + 1) → r ≡ sizeFits (parseU64 x) → r ≡ sizeFits (membersOf (args (typeAt s i)))
+    pub num-members : (x : Name) (r : Bool) → k ≡ kinds.num → x ≡ nameAt s S (i + 1) → r ≡ sizeFits (parseU64 x) → r ≡ sizeFits (membersOf (args (typeAt s i)))
     unfolding membersOf
     num-members x r g y z = z ∙ rw (first, g, y, add-one) refl
 
-pub guardian-fits : (s S : List ℕ) (i : ℕ) (x : Name) (w m : Bool) → Typed s S i → x ≡ nameAt s S i → w ≡ same x (bytes "GuardianSet")
+pub guardian-fits : (s S : List ℕ) (i : ℕ) (x : Name) (w m : Bool) → TypeAt s S i → x ≡ nameAt s S i → w ≡ same x (bytes "GuardianSet")
     → m ≡ sizeFits (membersOf (args (typeAt s i))) → (not w || m) ≡ guardianFits (typeAt s i)
 unfolding guardianFits sizeFits
 guardian-fits s S i x w m h e f g = rw (named-word s S i x "GuardianSet" w h e f, g) refl

@@ -3,3 +3,4 @@ pub mod Guardians
 pub mod Known
 pub mod Storing
 pub mod Digests
+pub mod Bounds

@@ -14,7 +14,7 @@ use borrow.Author.Tests.{le-leb, lt-leb, leb-false, ne-eqb}
 use Rattle.text.specs.Field.{valueFrom}
 use Rattle.text.proofs.Fields.{value-grows}
 use Rattle.rules.specs.Text.{Name}
-use Rattle.rules.specs.Declared.{noUnderscores, parse, parseU64}
+use Rattle.rules.specs.Types.{noUnderscores, parse, parseU64}
 use Rattle.declarations.specs.Tests.{sizeFits}
 
 abbrev pub between : ℕ → Bool
@@ -24,14 +24,14 @@ between v = leb 1 v && leb v 256
 parsed : (x : Name) → sizeFits (parse 18446744073709551615 x) ≡ between (valueFrom 0 x)
 unfolding sizeFits parse valueFrom
 parsed [] = refl
-parsed (b ∷ bs) = go (leb v 18446744073709551615) refl
+parsed (b ∷ bs) = by-cases (leb v 18446744073709551615) refl
   where
     v : ℕ
     v = valueFrom 0 (b ∷ bs)
 
-    go : (t : Bool) → leb v 18446744073709551615 ≡ t → sizeFits (elim t as (λ _. Option ℕ) [ true ↦ some v | false ↦ none ]) ≡ between v
-    go true e = refl
-    go false e = rw (lt-leb v 256 (omega (arith, leb-false v 18446744073709551615 e)), and-false) refl
+    by-cases : (t : Bool) → leb v 18446744073709551615 ≡ t → sizeFits (elim t as (λ _. Option ℕ) [ true ↦ some v | false ↦ none ]) ≡ between v
+    by-cases true e = refl
+    by-cases false e = rw (lt-leb v 256 (omega (arith, leb-false v 18446744073709551615 e)), and-false) refl
 
 -- the digits of the text from i on, behind those of n
 abbrev pub left : List ℕ → ℕ → ℕ → Bool

@@ -5,7 +5,7 @@ use mathlib.Core.List.{[], _∷_}
 use mathlib.Core.Option.{Option, none, some}
 use lib.Dec.{leb}
 use Rattle.rules.specs.Asking.{Ty, Int, Boolean, Address, Asset, Word64, TName, Time, Str, Collection, Unknown}
-use Rattle.rules.specs.Declared.{isTy}
+use Rattle.rules.specs.Types.{isTy}
 
 -- a guardian set may have so many members
 unfoldable pub sizeFits : Option ℕ → Bool

@@ -1,8 +1,8 @@
 // How a rule answers.
-use declared::Done;
-use declared::Refusal;
+use refusals::Done;
+use refusals::Refusal;
 ghost use mathlib.Core.Path.{_≡_};
-ghost use Rattle.declared.specs.Answers.{expected};
+ghost use Rattle.refusals.specs.Answers.{expected};
 
 // Refuses unless the test holds.
 pub fn expect(holds: bool, why: Refusal) -> Done

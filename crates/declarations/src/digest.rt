@@ -1,7 +1,7 @@
 // Names that speak of a digest, which a Q_Word64 can't hold.
 use crate::answer::expect;
-use declared::Done;
-use declared::Refusal;
+use refusals::Done;
+use refusals::Refusal;
 use sheet::name;
 use text::is_word;
 ghost use mathlib.Core.Path.{_≡_};
@@ -11,8 +11,8 @@ ghost use Rattle.text.specs.Text.{bytes};
 ghost use Rattle.rules.specs.Declarations.{containsAny, DIGEST_NAME_TOKENS, refuseWord64AsDigest, startsWith};
 ghost use Rattle.rules.specs.Declarations.{lower as lowerOf};
 ghost use Rattle.rules.specs.Standing.{paramAt, typeAt};
-ghost use Rattle.declared.specs.Answers.{Answers};
-ghost use Rattle.declared.specs.Refusal.{doneOf};
+ghost use Rattle.refusals.specs.Answers.{Answers};
+ghost use Rattle.refusals.specs.Refusal.{doneOf};
 ghost use Rattle.declarations.specs.Lines.{Named};
 ghost use Rattle.declarations.specs.Tests.{small};
 

@@ -1,20 +1,21 @@
 // Guardian sets.
 use crate::answer::expect;
-use declared::Done;
-use declared::Refusal;
-use sheet::first;
+use grammar::kinds;
+use refusals::Done;
+use refusals::Refusal;
 use sheet::kind;
 use sheet::name;
+use sheet::type_arg_count;
 use text::is_word;
 ghost use mathlib.Core.Path.{_≡_};
 ghost use Prim.Native.Nat.{_*_, _+_, _-_, _≤_};
 ghost use Rattle.rules.specs.Ast.{args};
-ghost use Rattle.rules.specs.Declared.{parseU64};
+ghost use Rattle.rules.specs.Types.{parseU64};
 ghost use Rattle.rules.specs.Declarations.{guardianBound, guardianFits, membersOf};
 ghost use Rattle.rules.specs.Standing.{typeAt};
-ghost use Rattle.declared.specs.Answers.{Answers};
-ghost use Rattle.declared.specs.Lines.{Typed};
-ghost use Rattle.declared.specs.Refusal.{doneOf};
+ghost use Rattle.refusals.specs.Answers.{Answers};
+ghost use Rattle.lookups.specs.Lines.{TypeAt};
+ghost use Rattle.refusals.specs.Refusal.{doneOf};
 ghost use Rattle.declarations.specs.Tests.{sizeFits};
 
 // The number n with one more digit, which is 0 for a byte below the digits.
@@ -51,27 +52,27 @@ fn size_fits(text: &[u8]) -> bool
 
 // Whether the first argument of the `type` record at line ty is a set's size.
 fn members_fit(sheet: &[u8], lines: &[u16], ty: usize) -> bool
-    requires { ⌜ Typed (now sheet) (now lines) ty ⌝ }
+    requires { ⌜ TypeAt (now sheet) (now lines) ty ⌝ }
     ensures { λ r. ⌜ r ≡ sizeFits (membersOf (args (typeAt (now (sheet .entry)) ty))) ⌝ }
 {
-    if first(lines, ty) == 0 {
+    if type_arg_count(lines, ty) == 0 {
         return false;
     }
-    if kind(lines, ty + 1) != 9 {
+    if kind(lines, ty + 1) != kinds::NUM {
         return false;
     }
     size_fits(name(sheet, lines, ty + 1))
 }
 
 fn guardian_fits(sheet: &[u8], lines: &[u16], ty: usize) -> bool
-    requires { ⌜ Typed (now sheet) (now lines) ty ⌝ }
+    requires { ⌜ TypeAt (now sheet) (now lines) ty ⌝ }
     ensures { λ r. ⌜ r ≡ guardianFits (typeAt (now (sheet .entry)) ty) ⌝ }
 {
     !is_word(name(sheet, lines, ty), b"GuardianSet") | members_fit(sheet, lines, ty)
 }
 
 pub fn guardian_bound(sheet: &[u8], lines: &[u16], ty: usize) -> Done
-    requires { ⌜ Typed (now sheet) (now lines) ty ⌝ }
+    requires { ⌜ TypeAt (now sheet) (now lines) ty ⌝ }
     ensures { λ r. ⌜ Answers (guardianBound (typeAt (now (sheet .entry)) ty)) (doneOf (now (sheet .entry)) r) ⌝ }
 {
     expect(guardian_fits(sheet, lines, ty), Refusal::Guardian(ty))

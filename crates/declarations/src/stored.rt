@@ -1,13 +1,15 @@
 // Types that a state field or an event's parameter may have.
 use crate::answer::expect;
-use declared::Done;
-use declared::Refusal;
-use declared::ty_of_decl;
-use declared::type_code;
+use grammar::kinds;
+use lookups::ty_of_decl;
+use lookups::type_code;
+use refusals::Done;
+use refusals::Refusal;
+use rules::codes;
 use sheet::end;
-use sheet::first;
 use sheet::kind;
 use sheet::name;
+use sheet::type_arg_count;
 use text::is_word;
 ghost use mathlib.Core.Bool.{true};
 ghost use mathlib.Core.Path.{_≡_};
@@ -16,37 +18,40 @@ ghost use Rattle.rules.specs.Ast.{args, typeName};
 ghost use Rattle.rules.specs.Declarations.{eventFieldType, innerFits, storableArg, storableArgs, storableKeyed};
 ghost use Rattle.rules.specs.Declarations.{known as knownOf, storable as storableOf};
 ghost use Rattle.rules.specs.Standing.{Here, argAt, typeAt};
-ghost use Rattle.declared.specs.Answers.{Answers};
-ghost use Rattle.declared.specs.Codes.{tyFrom};
-ghost use Rattle.declared.specs.Lines.{Typed};
-ghost use Rattle.declared.specs.Refusal.{arity as arityIn, doneOf};
+ghost use Rattle.refusals.specs.Answers.{Answers};
+ghost use Rattle.lookups.specs.Lines.{TypeAt};
+ghost use Rattle.refusals.specs.Refusal.{arity as arityIn, doneOf};
 ghost use Rattle.declarations.specs.Tests.{refusedInside, takesNone};
+ghost use Rattle.rules.specs.Kept.{tyFrom};
 
 // Int, Bool, Time, Address, Word64 or Name.
 fn takes_no_args(ty: u8) -> bool
     ensures { λ r. ⌜ r ≡ takesNone (tyFrom ty) ⌝ }
 {
     let t = type_code(ty);
-    (t == 1) | ((t == 2) | ((t == 7) | ((t == 3) | ((t == 5) | (t == 6)))))
+    (t == codes::INT)
+        | ((t == codes::BOOLEAN)
+            | ((t == codes::TIME)
+                | ((t == codes::ADDRESS) | ((t == codes::WORD64) | (t == codes::NAME)))))
 }
 
 // The last arm of `storable`, and the whole of `event_field_type`.
 fn known(sheet: &[u8], lines: &[u16], ty: usize) -> Done
-    requires { ⌜ Typed (now sheet) (now lines) ty ⌝ }
+    requires { ⌜ TypeAt (now sheet) (now lines) ty ⌝ }
     ensures { λ r. ⌜ Answers (knownOf (typeAt (now (sheet .entry)) ty)) (doneOf (now (sheet .entry)) r) ⌝ }
 {
     let decl = ty_of_decl(sheet, lines, ty);
-    if decl == 10 {
+    if decl == codes::UNKNOWN {
         return Done::Refused(Refusal::UnknownType(ty));
     }
     expect(
-        !takes_no_args(decl) | (first(lines, ty) == 0),
+        !takes_no_args(decl) | (type_arg_count(lines, ty) == 0),
         Refusal::NoArguments(ty),
     )
 }
 
 pub fn event_field_type(sheet: &[u8], lines: &[u16], ty: usize) -> Done
-    requires { ⌜ Typed (now sheet) (now lines) ty ⌝ }
+    requires { ⌜ TypeAt (now sheet) (now lines) ty ⌝ }
     ensures { λ r. ⌜ Answers (eventFieldType (typeAt (now (sheet .entry)) ty)) (doneOf (now (sheet .entry)) r) ⌝ }
 {
     known(sheet, lines, ty)
@@ -70,32 +75,32 @@ fn is_refused_inside(ty: u8) -> bool
     ensures { λ r. ⌜ r ≡ refusedInside (tyFrom ty) ⌝ }
 {
     let t = type_code(ty);
-    (t == 10) | ((t == 4) | ((t == 8) | (t == 9)))
+    (t == codes::UNKNOWN) | ((t == codes::ASSET) | ((t == codes::STR) | (t == codes::COLLECTION)))
 }
 
 // Whether the type at line inner may be a key or value of the Map or Registry at line ty.
 fn inner_fits(sheet: &[u8], lines: &[u16], ty: usize, inner: usize, key: bool) -> bool
-    requires { ⌜ Typed (now sheet) (now lines) ty ⌝ }
-    requires { ⌜ Typed (now sheet) (now lines) inner ⌝ }
+    requires { ⌜ TypeAt (now sheet) (now lines) ty ⌝ }
+    requires { ⌜ TypeAt (now sheet) (now lines) inner ⌝ }
     ensures { λ r. ⌜ r ≡ innerFits (typeName (typeAt (now (sheet .entry)) ty)) key (typeAt (now (sheet .entry)) inner) ⌝ }
 {
     let decl = ty_of_decl(sheet, lines, inner);
-    if decl == 6 {
+    if decl == codes::NAME {
         return key | is_word(name(sheet, lines, ty), b"Map");
     }
-    !is_refused_inside(decl) & (first(lines, inner) == 0)
+    !is_refused_inside(decl) & (type_arg_count(lines, inner) == 0)
 }
 
 // The argument at line arg of the Map or Registry at line ty.
 fn storable_arg(sheet: &[u8], lines: &[u16], ty: usize, arg: usize, key: bool) -> Done
-    requires { ⌜ Typed (now sheet) (now lines) ty ⌝ }
+    requires { ⌜ TypeAt (now sheet) (now lines) ty ⌝ }
     requires { ⌜ Here (now lines) Arg arg ⌝ }
     ensures { λ r. ⌜ Answers (storableArg (typeAt (now (sheet .entry)) ty) key (argAt (now (sheet .entry)) arg)) (doneOf (now (sheet .entry)) r) ⌝ }
 {
-    if kind(lines, arg) != 8 {
+    if kind(lines, arg) != kinds::TYPE {
         return Done::Refused(Refusal::OnlyTypes(ty));
     }
-    let why = Refusal::Inner {
+    let why = Refusal::InnerType {
         ty: ty,
         inner: arg,
         is_key: key,
@@ -104,10 +109,10 @@ fn storable_arg(sheet: &[u8], lines: &[u16], ty: usize, arg: usize, key: bool) -
 }
 
 fn storable_args(sheet: &[u8], lines: &[u16], ty: usize) -> Done
-    requires { ⌜ Typed (now sheet) (now lines) ty ⌝ }
+    requires { ⌜ TypeAt (now sheet) (now lines) ty ⌝ }
     ensures { λ r. ⌜ Answers (storableArgs (typeAt (now (sheet .entry)) ty) true (args (typeAt (now (sheet .entry)) ty))) (doneOf (now (sheet .entry)) r) ⌝ }
 {
-    let n = first(lines, ty);
+    let n = type_arg_count(lines, ty);
     let mut arg = ty + 1;
     let mut k = 0;
     while k < n {
@@ -122,18 +127,18 @@ fn storable_args(sheet: &[u8], lines: &[u16], ty: usize) -> Done
 }
 
 fn storable_keyed(sheet: &[u8], lines: &[u16], ty: usize, arity: usize) -> Done
-    requires { ⌜ Typed (now sheet) (now lines) ty ⌝ }
+    requires { ⌜ TypeAt (now sheet) (now lines) ty ⌝ }
     requires { ⌜ arity ≡ arityIn (typeName (typeAt (now sheet) ty)) ⌝ }
     ensures { λ r. ⌜ Answers (storableKeyed (typeAt (now (sheet .entry)) ty) arity) (doneOf (now (sheet .entry)) r) ⌝ }
 {
-    if first(lines, ty) != arity {
+    if type_arg_count(lines, ty) != arity {
         return Done::Refused(Refusal::Arity(ty));
     }
     storable_args(sheet, lines, ty)
 }
 
 pub fn storable(sheet: &[u8], lines: &[u16], ty: usize) -> Done
-    requires { ⌜ Typed (now sheet) (now lines) ty ⌝ }
+    requires { ⌜ TypeAt (now sheet) (now lines) ty ⌝ }
     ensures { λ r. ⌜ Answers (storableOf (typeAt (now (sheet .entry)) ty)) (doneOf (now (sheet .entry)) r) ⌝ }
 {
     let word = name(sheet, lines, ty);

@@ -3,7 +3,7 @@ use mathlib.Core.Logic.{_≢_}
 use mathlib.Core.Path.{_≡_, refl, sym, ap, _∙_}
 use mathlib.Core.List.{List, [], _∷_, zip, zipWith}
 use mathlib.Core.Bool.{Bool, true, false, not, _&&_, _||_, or-false}
-use Prim.Native.Nat.{ℕ, suc, _+_, _-_, _/_, _<_, _≤_}
+use Prim.Native.Nat.{ℕ, suc, _+_, _-_, _<_, _≤_}
 use native.Mathlib.Numerals.{add-one}
 use native.Mathlib.Omega.{arith}
 use mir.Syntax.{w64}
@@ -12,31 +12,32 @@ use borrow.Author.Tests.{eq-eqb, ne-eqb, eqb-true, eqb-false}
 use lib.Dec.{eqb}
 use lib.ListN.{length}
 use Rattle.grammar.specs.Grammar as grammar
-use Rattle.sheet.specs.Scratch.{entry, kindAt, endAt, nameAt}
+use Rattle.sheet.specs.Scratch.{kindAt, endAt, nameAt, lineCount, emitArgCount, paramCount}
 use Rattle.sheet.specs.Tree.{takeNodes}
 use Rattle.rules.specs.Text.{Name}
 use Rattle.rules.specs.Ast.{Expr, Exprs, nil, more, Param, list, span, exprsOf}
 use Rattle.rules.specs.Asking.{Ty, code, ok, Rule, ret, _>>=_, _>>_, expect, ifSome, forEach}
-use Rattle.rules.specs.Kept.{Table, kept}
-use Rattle.rules.specs.Declared.{eqTy, isTy, oneWord, tyOfDecl}
+use Rattle.rules.specs.Kept.{Table, kept, tyFrom}
+use Rattle.rules.specs.Types.{eqTy, isTy, oneWord, tyOfDecl}
 use Rattle.rules.specs.Typing.{Env as Environment, asked, askOf, tyOf, typings, askEach, isNameParam}
 use Rattle.rules.specs.Statements.{emitMismatch, emitText, checkEmitField, checkEmitFields}
 use Rattle.rules.specs.Standing.{eventAt, exprAt, exprsAt, paramAt, paramsAt, typeAt, Here, Row}
 use Rattle.rules.proofs.Binding.{kept-assoc, kept-behind}
 use Rattle.rules.proofs.Parts.{parts}
-use Rattle.rules.proofs.Records.{event-at, param-at, params-next, no-params, group}
-use Rattle.rules.proofs.Standing.{stands, exprs-next, row-first, row-rest}
-use Rattle.declared.specs.Codes.{tyFrom}
-use Rattle.declared.specs.Lines.{Typed as TypeAt}
-use Rattle.declared.specs.Refusal.{refusalOf, doneOf}
-use Rattle.declared.specs.declared.model.Found.{Found}
-use Rattle.declared.specs.declared.model.Found.the-variants.{At, Nothing}
-use Rattle.declared.specs.declared.refusal.Refusal.{Refusal}
-use Rattle.declared.specs.declared.refusal.Refusal.the-variants.{EmitField}
-use Rattle.declared.specs.declared.refusal.Done.{Done}
-use Rattle.declared.specs.declared.refusal.Done.the-variants.{Fine, Refused}
-use Rattle.declared.proofs.Answers.{fits, misfits}
-use Rattle.declared.proofs.Codes.{from-code}
+use Rattle.rules.proofs.Records.{event-at, param-at, no-params, group}
+use Rattle.rules.proofs.Rows as rows
+use Rattle.rules.proofs.Rows.{exprs, row-some, list-some}
+use Rattle.rules.proofs.Standing.{stands, row-first, row-rest}
+use Rattle.lookups.specs.Lines.{TypeAt}
+use Rattle.refusals.specs.Refusal.{refusalOf, doneOf}
+use Rattle.lookups.specs.declared.model.Found.{Found}
+use Rattle.lookups.specs.declared.model.Found.the-variants.{At, Nothing}
+use Rattle.refusals.specs.declared.refusal.Refusal.{Refusal}
+use Rattle.refusals.specs.declared.refusal.Refusal.the-variants.{EmitField}
+use Rattle.refusals.specs.declared.refusal.Done.{Done}
+use Rattle.refusals.specs.declared.refusal.Done.the-variants.{Fine, Refused}
+use Rattle.refusals.proofs.Answers.{fits, misfits}
+use Rattle.lookups.proofs.Codes.{from-code}
 use Rattle.text.proofs.Tests.{or-parts}
 use Rattle.env.specs.Force.{envOf, ExprIn}
 use Rattle.env.specs.declared.env.Env.{Env}
@@ -48,20 +49,22 @@ use Rattle.typing.proofs.Doing.{typed-then, not-typed, does-then, does-cut}
 use Rattle.typing.proofs.Onward.{Onward, onward, no-value-below, no-value-next, off-judged, off-each}
 use Rattle.typing.proofs.Operators.{gave-code}
 use Rattle.emits.specs.Emit.{emitRule, fieldsRule, EmitIn, FieldIn, FieldsIn, Mismatches, JudgesField}
-use Rattle.declared.specs.Answers.{Answers}
-use Rattle.declared.specs.Event.{foundEvent, EventNamed}
+use Rattle.refusals.specs.Answers.{Answers}
+use Rattle.lookups.specs.Event.{foundEvent, EventNamed}
+use Rattle.grammar.specs.Kinds as kinds
+use Rattle.rules.specs.Codes as codes
 
 -- ------------------------------------------------------------ mismatch and judge_field
 
 module _ (c d : ℕ) (b : Bool) where
-  pub mismatch-name : c ≡ 6 → Mismatches c d b (not (eqb d 6) || not b)
+  pub mismatch-name : c ≡ codes.name → Mismatches c d b (not (eqb d codes.name) || not b)
   unfolding emitMismatch eqTy code
-  mismatch-name e = record { tests = λ Γ arg want got n k l. rw (emitMismatch, ← k, eq-eqb c 6 e, ← l, ← n) refl }
+  mismatch-name e = record { tests = λ Γ arg want got n k l. rw (emitMismatch, ← k, eq-eqb c codes.name e, ← l, ← n) refl }
 
-  pub mismatch-other : (w : Bool) → c ≢ 6 → w ≡ oneWord (tyFrom c) → Mismatches c d b (((eqb d 6 || eqb d 9) || eqb c 9) || (eqb d 3 && w))
+  pub mismatch-other : (w : Bool) → c ≢ codes.name → w ≡ oneWord (tyFrom c) → Mismatches c d b (((eqb d codes.name || eqb d codes.collection) || eqb c codes.collection) || (eqb d codes.address && w))
   unfolding emitMismatch eqTy isTy code
   mismatch-other w e h =
-      record { tests = λ Γ arg want got n k l. rw (emitMismatch, ← k, ne-eqb c 6 e, h, from-code c want k, ← k, ← l, or-false) refl }
+      record { tests = λ Γ arg want got n k l. rw (emitMismatch, ← k, ne-eqb c codes.name e, h, from-code c want k, ← k, ← l, or-false) refl }
 
 module _ (s : List ℕ) (env : Env) (arg param c d : ℕ) (n m : Bool) (e : n ≡ isNameParam (envOf s [] env) (exprAt s arg)) (h : Mismatches c d n m) where
   fitting : (want got : Ty) (x : Bool) → c ≡ code want → d ≡ code got → m ≡ x → not (emitMismatch (envOf s [] env) (exprAt s arg) want got) ≡ not x
@@ -134,10 +137,10 @@ module _ (s S : List ℕ) (env : Env) (T : Table) (arg args param params : ℕ) 
     both = let q = or-parts (eqb args 0) (eqb params 0) g in (eqb-false args 0 (q .0), eqb-false params 0 (q .1))
 
     these : Row S grammar.Expr (suc (args - 1)) arg
-    these = rw (let y : suc (args - 1) ≡ args = omega (arith, both .0) in y) (h .these)
+    these = row-some (omega (arith, both .0)) (h .these)
 
     those : Row S grammar.Param (suc (params - 1)) param
-    those = rw (let y : suc (params - 1) ≡ params = omega (arith, both .1) in y) (h .those)
+    those = row-some (omega (arith, both .1)) (h .those)
 
     pub fields-first : FieldIn s S env T arg param
     fields-first = record { ready = h .ready; one = row-first these; other = row-first those }
@@ -158,13 +161,10 @@ module _ (s S : List ℕ) (env : Env) (T : Table) (arg args param params : ℕ) 
     rest = fieldsRule (envOf s T env) (list (exprsAt s (args - 1) (endAt S arg))) (paramsAt s (params - 1) (endAt S param))
 
     opened : kept Fields T ≡ kept (first >>= λ _. rest) T
-    unfolding fieldsRule zip zipWith forEach list
+    unfolding fieldsRule zip zipWith forEach
     opened =
-        let es : exprsAt s args arg ≡ more (exprAt s arg) (exprsAt s (args - 1) (endAt S arg)) =
-        ap (λ y. exprsAt s y arg) (let y : args ≡ suc (args - 1) = omega (arith, both .0) in y) ∙ exprs-next (h .ready .force .loaded) (args - 1) arg (row-first these .within) in
-        let ps : paramsAt s params param ≡ paramAt s param ∷ paramsAt s (params - 1) (endAt S param) =
-        ap (λ y. paramsAt s y param) (let y : params ≡ suc (params - 1) = omega (arith, both .1) in y) ∙ params-next (h .ready .force .loaded) (params - 1) (row-first those .within) in
-        rw (es, ps) refl
+        let d = h .ready .force .loaded in
+        rw (list-some exprs d (omega (arith, both .0)) (h .these), list-some rows.params d (omega (arith, both .1)) (h .those)) refl
 
     module _ (d : Done) (U : Table) (k : Does s first T d U) where
       pub fields-no : (r : Refusal) → d ≡ Refused r → Does s Fields T (Refused r) U
@@ -198,10 +198,10 @@ each-typed Γ nil T = refl
 each-typed Γ (more e es) T = left-out (tyOf Γ e) _ _ T (each-typed Γ es)
 
 module _ (s S : List ℕ) (env : Env) (T : Table) (i : ℕ) (h : EmitIn s S env T i) where
-  row : Row S grammar.Expr (entry S i 5) (suc i)
+  row : Row S grammar.Expr (emitArgCount S i) (suc i)
   row =
       let t = stands (h .ready .force .loaded) i (h .within) in
-      let p = parts (t .line) 17 (t .parted) (sym (t .says .kind) ∙ h .kind) in
+      let p = parts (t .line) kinds.emit (t .parted) (sym (t .says .kind) ∙ h .kind) in
       let o = group (h .ready .force .loaded) (h .within) grammar.Expr (p .0) (p .1) in
       rw (o .3) (o .2)
 
@@ -209,7 +209,7 @@ module _ (s S : List ℕ) (env : Env) (T : Table) (i : ℕ) (h : EmitIn s S env 
   args-no-value = no-value-below S i (omega (arith, h .kind))
 
   abbrev es : Exprs
-  es = exprsAt s (entry S i 5) (suc i)
+  es = exprsAt s (emitArgCount S i) (suc i)
 
   abbrev Emits : Rule Unit
   Emits = checkEmitFields (envOf s T env) (nameAt s S i) (list es)
@@ -220,16 +220,16 @@ module _ (s S : List ℕ) (env : Env) (T : Table) (i : ℕ) (h : EmitIn s S env 
     no-event e = record { gives = rw (← ex, ← n .found, e) refl }
 
     module _ (event : ℕ) (e : r ≡ At event) where
-      there : (event < length S / 8) × (kindAt S event ≡ 2)
+      there : (event < lineCount S) × (kindAt S event ≡ kinds.event)
       there = rw e at (n .kind)
 
-      params : (eventAt s event ≡ record { name = nameAt s S event; params = paramsAt s (entry S event 5) (suc event) }) × Row S grammar.Param (entry S event 5) (suc event)
+      params : (eventAt s event ≡ record { name = nameAt s S event; params = paramsAt s (paramCount S event) (suc event) }) × Row S grammar.Param (paramCount S event) (suc event)
       params = event-at (h .ready .force .loaded) (there .0) (there .1)
 
       pub event-fits : length S < 18446744073709551616 → Fits w64 (event + 1)
       event-fits l = record { fits = omega (arith, there .0) }
 
-      module _ (m k : ℕ) (em : m ≡ entry S i 5) (ek : k ≡ entry S event 5) where
+      module _ (m k : ℕ) (em : m ≡ emitArgCount S i) (ek : k ≡ paramCount S event) where
         pub event-fields : FieldsIn s S env T (i + 1) m (event + 1) k
         event-fields = record { ready = h .ready; these = rw (em, add-one i) row; no-value = rw (add-one i) args-no-value; those = rw (ek, add-one event) (params .1) }
 
@@ -237,7 +237,7 @@ module _ (s S : List ℕ) (env : Env) (T : Table) (i : ℕ) (h : EmitIn s S env 
         unfolding checkEmitFields fieldsRule envOf ifSome foundEvent
         event-done d U g = record { gives = rw (← ex, ← n .found, e, params .0, ← em, ← ek, ← add-one i, ← add-one event) (g .gives) }
 
-  module _ (m : ℕ) (em : m ≡ entry S i 5) where
+  module _ (m : ℕ) (em : m ≡ emitArgCount S i) where
     pub emit-asks : AsksAll s S env T m (i + 1)
     emit-asks = record { ready = h .ready; row = rw (em, add-one i) row; no-value = rw (add-one i) args-no-value }
 

@@ -9,30 +9,30 @@ use native.Mathlib.Omega.{arith}
 use borrow.Author.Tests.{eq-eqb, ne-eqb}
 use lib.ListN.{getD, take, getElem?}
 use Rattle.text.specs.Text.{bytes, ended}
-use Rattle.text.specs.Word.{place, split}
+use Rattle.text.specs.Word.{indexIn, split}
 use Rattle.grammar.specs.Grammar as grammar
-use Rattle.sheet.specs.Scratch.{entry, kindAt, endAt, nameAt}
+use Rattle.sheet.specs.Scratch.{kindAt, endAt, nameAt, callArgCount}
 use Rattle.sheet.specs.Tree.{takeNodes}
 use Rattle.rules.specs.Text.{Name}
-use Rattle.rules.specs.Ast.{Expr, more, list, exprsOf}
+use Rattle.rules.specs.Ast.{Expr, list, exprsOf}
 use Rattle.rules.specs.Asking.{code, Rule, _>>=_, ifSome, forEach}
-use Rattle.rules.specs.Kept.{Table, kept}
-use Rattle.rules.specs.Declared.{eqTy}
+use Rattle.rules.specs.Kept.{Table, kept, tyFrom}
+use Rattle.rules.specs.Types.{eqTy}
 use Rattle.rules.specs.Typing.{tyOf}
 use Rattle.rules.specs.Statements.{positions, refuseNameRecipient}
 use Rattle.rules.specs.Standing.{exprAt, exprsAt, Loaded, Row, stop, next}
 use Rattle.rules.proofs.Exprs.{call-at, ident-at, is-call-at}
 use Rattle.rules.proofs.Parts.{stop as end, _also_, pick}
+use Rattle.rules.proofs.Rows.{row-some, exprs-some}
 use Rattle.rules.proofs.Standing.{exprs-next, row-first, row-rest, row-take}
-use Rattle.declared.specs.Codes.{tyFrom}
-use Rattle.declared.specs.Lines.{ExprAt}
-use Rattle.declared.specs.Refusal.{refusalOf, doneOf}
-use Rattle.declared.specs.declared.refusal.Refusal.{Refusal}
-use Rattle.declared.specs.declared.refusal.Refusal.the-variants.{Recipient}
-use Rattle.declared.specs.declared.refusal.Done.{Done}
-use Rattle.declared.specs.declared.refusal.Done.the-variants.{Fine, Refused}
-use Rattle.declared.proofs.Answers.{fits, misfits}
-use Rattle.declared.proofs.Tables.{wordsIn, place-most, pick-place}
+use Rattle.lookups.specs.Lines.{ExprAt}
+use Rattle.refusals.specs.Refusal.{refusalOf, doneOf}
+use Rattle.refusals.specs.declared.refusal.Refusal.{Refusal}
+use Rattle.refusals.specs.declared.refusal.Refusal.the-variants.{Recipient}
+use Rattle.refusals.specs.declared.refusal.Done.{Done}
+use Rattle.refusals.specs.declared.refusal.Done.the-variants.{Fine, Refused}
+use Rattle.refusals.proofs.Answers.{fits, misfits}
+use Rattle.lookups.proofs.Tables.{wordsIn, place-most, pick-place}
 use Rattle.env.specs.Force.{envOf}
 use Rattle.env.specs.declared.env.Env.{Env}
 use Rattle.env.specs.declared.judge.Typed.{Typed}
@@ -43,6 +43,8 @@ use Rattle.typing.proofs.Doing.{typed-then, not-typed, does-then, does-cut}
 use Rattle.typing.proofs.Onward.{Onward, onward, no-value-next, off-judged}
 use Rattle.typing.proofs.Operators.{gave-code}
 use Rattle.emits.specs.Recipient.{recipientRule, recipientsRule, Recipients, JudgesRecipient}
+use Rattle.grammar.specs.Kinds as kinds
+use Rattle.rules.specs.Codes as codes
 
 -- ------------------------------------------------------------ recipients
 
@@ -50,17 +52,17 @@ abbrev callees : List (String × List ℕ)
 callees = ("send", 0 ∷ []) ∷ ("mint_asset", 0 ∷ []) ∷ ("send_asset", 0 ∷ 1 ∷ []) ∷ []
 
 module _ (s S : List ℕ) (callee : ℕ) (h : ExprAt s S callee) (k : ℕ) (ek : k ≡ kindAt S callee) where
-  pub no-name : k ≢ 21 → Recipients s callee 0
+  pub no-name : k ≢ kinds.id → Recipients s callee 0
   unfolding positions
-  no-name n = record { first = rw (positions, ident-at (h .loaded) (h .here), ← ek, ne-eqb k 21 n) refl; few = omega arith }
+  no-name n = record { first = rw (positions, ident-at (h .loaded) (h .here), ← ek, ne-eqb k kinds.id n) refl; few = omega arith }
 
-  module _ (x : Name) (p : ℕ) (e : k ≡ 21) (ex : x ≡ nameAt s S callee) (ep : p ≡ place x (split (bytes "send mint_asset send_asset "))) where
+  module _ (x : Name) (p : ℕ) (e : k ≡ kinds.id) (ex : x ≡ nameAt s S callee) (ep : p ≡ indexIn x (split (bytes "send mint_asset send_asset "))) where
     abbrev At : ℕ → List ℕ
     At p = getD ((0 ∷ []) ∷ (0 ∷ []) ∷ (0 ∷ 1 ∷ []) ∷ []) p []
 
     by-place : positions (exprAt s callee) ≡ At p
     unfolding positions split ended
-    by-place = rw (positions, ident-at (h .loaded) (h .here), ← ek, eq-eqb k 21 e, ← ex, ep) (pick-place x callees [])
+    by-place = rw (positions, ident-at (h .loaded) (h .here), ← ek, eq-eqb k kinds.id e, ← ex, ep) (pick-place x callees [])
 
     pub one-recipient : p < 2 → Recipients s callee 1
     one-recipient l =
@@ -78,13 +80,13 @@ module _ (s S : List ℕ) (callee : ℕ) (h : ExprAt s S callee) (k : ℕ) (ek :
 -- ------------------------------------------------------------ one recipient
 
 module _ (arg c : ℕ) where
-  pub recipient-wrong : c ≡ 6 → JudgesRecipient arg c (Refused (Recipient arg))
+  pub recipient-wrong : c ≡ codes.name → JudgesRecipient arg c (Refused (Recipient arg))
   unfolding eqTy code doneOf refusalOf
-  recipient-wrong e = record { judged = λ s t k. misfits _ 29 _ _ (rw (← k, eq-eqb c 6 e) refl) }
+  recipient-wrong e = record { judged = λ s t k. misfits _ 29 _ _ (rw (← k, eq-eqb c codes.name e) refl) }
 
-  pub recipient-fine : c ≢ 6 → JudgesRecipient arg c Fine
+  pub recipient-fine : c ≢ codes.name → JudgesRecipient arg c Fine
   unfolding eqTy code doneOf
-  recipient-fine e = record { judged = λ s t k. fits _ 29 _ _ (rw (← k, ne-eqb c 6 e) refl) }
+  recipient-fine e = record { judged = λ s t k. fits _ 29 _ _ (rw (← k, ne-eqb c codes.name e) refl) }
 
 module _ (s S : List ℕ) (env : Env) (T : Table) (arg : ℕ) (a : Typed) (U : Table) (k : Types s (tyOf (envOf s T env) (exprAt s arg)) T a U) where
   pub recipient-no : (r : Refusal) → a ≡ No r → Does s (recipientRule (envOf s T env) (exprAt s arg)) T (Refused r) U
@@ -108,7 +110,7 @@ module _ (s S : List ℕ) (env : Env) (T : Table) (left at : ℕ) (h : AsksAll s
 
   module _ (n : left ≢ 0) where
     row : Row S grammar.Expr (suc (left - 1)) at
-    row = rw (let y : suc (left - 1) ≡ left = omega arith in y) (h .row)
+    row = row-some (omega arith) (h .row)
 
     pub all-first : Asks s S env T at
     all-first = record { ready = h .ready; here = row-first row }
@@ -121,10 +123,7 @@ module _ (s S : List ℕ) (env : Env) (T : Table) (left at : ℕ) (h : AsksAll s
 
     opened : kept All T ≡ kept (first >>= λ _. rest) T
     unfolding recipientsRule forEach list
-    opened =
-        let es : exprsAt s left at ≡ more (exprAt s at) (exprsAt s (left - 1) (endAt S at)) =
-        ap (λ y. exprsAt s y at) (let y : left ≡ suc (left - 1) = omega arith in y) ∙ exprs-next (h .ready .force .loaded) (left - 1) at (row-first row .within) in
-        rw es refl
+    opened = rw (exprs-some (h .ready .force .loaded) (omega arith) (h .row)) refl
 
     module _ (d : Done) (U : Table) (k : Does s first T d U) where
       pub all-no : (r : Refusal) → d ≡ Refused r → Does s All T (Refused r) U
@@ -174,18 +173,18 @@ module _ (s S : List ℕ) (env : Env) (T : Table) (i : ℕ) (h : Asks s S env T 
   abbrev Refuses : Rule Unit
   Refuses = refuseNameRecipient (envOf s T env) (exprAt s i)
 
-  pub no-call : k ≢ 31 → Does s Refuses T Fine T
+  pub no-call : k ≢ kinds.call → Does s Refuses T Fine T
   unfolding refuseNameRecipient ifSome doneOf kept
-  no-call n = record { gives = rw (is-call-at (h .ready .force .loaded) (h .here), ← ek, ne-eqb k 31 n) refl }
+  no-call n = record { gives = rw (is-call-at (h .ready .force .loaded) (h .here), ← ek, ne-eqb k kinds.call n) refl }
 
-  module _ (e : k ≡ 31) where
-    all : Row S grammar.Expr (suc (entry S i 6)) (suc i)
+  module _ (e : k ≡ kinds.call) where
+    all : Row S grammar.Expr (suc (callArgCount S i)) (suc i)
     all = call-at (h .ready .force .loaded) (h .here) (sym ek ∙ e) .1
 
     pub callee-there : ExprAt s S (i + 1)
     callee-there = record { loaded = h .ready .force .loaded; here = rw (add-one i) (row-first all) }
 
-    module _ (m due at : ℕ) (em : m ≡ entry S i 6) (r : Recipients s (i + 1) due) (ea : at ≡ endAt S (i + 1)) where
+    module _ (m due at : ℕ) (em : m ≡ callArgCount S i) (r : Recipients s (i + 1) due) (ea : at ≡ endAt S (i + 1)) where
       args : Row S grammar.Expr m at
       args = rw (em, ea, add-one i) (row-rest all)
 
@@ -195,7 +194,7 @@ module _ (s S : List ℕ) (env : Env) (T : Table) (i : ℕ) (h : Asks s S env T 
       opened' : kept Refuses T ≡ kept (recipientsRule (envOf s T env) (take due (list (exprsAt s m at)))) T
       unfolding refuseNameRecipient recipientsRule recipientRule ifSome
       opened' =
-          rw (is-call-at (h .ready .force .loaded) (h .here), ← ek, eq-eqb k 31 e, ← add-one i, r .first, ← em, ← ea)
+          rw (is-call-at (h .ready .force .loaded) (h .here), ← ek, eq-eqb k kinds.call e, ← add-one i, r .first, ← em, ← ea)
           (first-ones due (r .few) (recipientRule (envOf s T env)) (list (exprsAt s m at)) T)
 
       pub few-asks : m < due → AsksAll s S env T m at

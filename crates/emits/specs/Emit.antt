@@ -1,11 +1,10 @@
 -- What the checks of an `emit` ask and promise.
-use Prim.Native.Nat.{ℕ, _/_, _<_}
+use Prim.Native.Nat.{ℕ, _<_}
 use mathlib.Core.Bool.{Bool, not}
 use mathlib.Core.List.{List, [], zip}
 use mathlib.Core.Path.{_≡_}
-use lib.ListN.{length}
 use Rattle.grammar.specs.Grammar as grammar
-use Rattle.sheet.specs.Scratch.{kindAt}
+use Rattle.sheet.specs.Scratch.{kindAt, lineCount}
 use Rattle.rules.specs.Text.{Name}
 use Rattle.rules.specs.Ast.{Expr, Param, span}
 use Rattle.rules.specs.Asking.{Ty, code, Rule, ret, _>>=_, _>>_, expect, forEach}
@@ -13,12 +12,13 @@ use Rattle.rules.specs.Kept.{Table}
 use Rattle.rules.specs.Typing.{Env, isNameParam, tyOf}
 use Rattle.rules.specs.Statements.{emitMismatch, emitText, checkEmitField, checkEmitFields}
 use Rattle.rules.specs.Standing.{exprAt, paramAt, Here, Row}
-use Rattle.declared.specs.Answers.{Answers}
-use Rattle.declared.specs.Refusal.{doneOf}
-use Rattle.declared.specs.declared.refusal.Done.{Done}
+use Rattle.refusals.specs.Answers.{Answers}
+use Rattle.refusals.specs.Refusal.{doneOf}
+use Rattle.refusals.specs.declared.refusal.Done.{Done}
 use Rattle.env.specs.Force.{envOf, Ready}
 use Rattle.env.specs.declared.env.Env.{Env as CodeEnv}
 use Rattle.typing.specs.Asks.{NoValue}
+use Rattle.grammar.specs.Kinds as kinds
 
 -- the `emit` clause of `checkBody`, without the rest of the body
 unfoldable pub emitRule : Env → Name → List Expr → Rule Unit
@@ -33,8 +33,8 @@ fieldsRule Γ es ps = forEach (zip es ps) λ p. checkEmitField Γ (p .0) (p .1)
 -- an `emit` stands at line i
 pub record EmitIn (s S : List ℕ) (env : CodeEnv) (T : Table) (i : ℕ) : Type 0 where
   pub ready : Ready s S env T
-  pub within : i < length S / 8
-  pub kind : kindAt S i ≡ 17
+  pub within : i < lineCount S
+  pub kind : kindAt S i ≡ kinds.emit
 
 -- an expression stands at line arg and a parameter at line param
 pub record FieldIn (s S : List ℕ) (env : CodeEnv) (T : Table) (arg param : ℕ) : Type 0 where

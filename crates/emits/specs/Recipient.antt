@@ -6,13 +6,13 @@ use mathlib.Core.Path.{_≡_}
 use lib.ListN.{take}
 use Rattle.rules.specs.Ast.{Expr, span}
 use Rattle.rules.specs.Asking.{Ty, TName, code, Rule, _>>=_, expect, forEach}
-use Rattle.rules.specs.Declared.{eqTy}
+use Rattle.rules.specs.Types.{eqTy}
 use Rattle.rules.specs.Typing.{Env, tyOf}
 use Rattle.rules.specs.Statements.{positions, recipientText}
 use Rattle.rules.specs.Standing.{exprAt}
-use Rattle.declared.specs.Answers.{Answers}
-use Rattle.declared.specs.Refusal.{doneOf}
-use Rattle.declared.specs.declared.refusal.Done.{Done}
+use Rattle.refusals.specs.Answers.{Answers}
+use Rattle.refusals.specs.Refusal.{doneOf}
+use Rattle.refusals.specs.declared.refusal.Done.{Done}
 
 -- `refuseNameRecipient` of one argument, and of several
 unfoldable pub recipientRule : Env → Expr → Rule Unit

@@ -1,20 +1,22 @@
 // `check_emit_fields`, behind the typing of all arguments.
-use declared::Done;
-use declared::Found;
-use declared::Refusal;
-use declared::event_named;
-use declared::one_word;
-use declared::ty_of_decl;
 use env::Env;
 use env::Typed;
 use env::is_name_param;
+use lookups::Found;
+use lookups::event_named;
+use lookups::one_word;
+use lookups::ty_of_decl;
+use refusals::Done;
+use refusals::Refusal;
+use rules::codes;
+use sheet::emit_arg_count;
 use sheet::end;
-use sheet::first;
 use sheet::name;
+use sheet::param_count;
 use typing::ask_each;
 use typing::ty_of;
 ghost use Prim.Native.Nat.{suc};
-ghost use Rattle.sheet.specs.Scratch.{entry, nameAt};
+ghost use Rattle.sheet.specs.Scratch.{nameAt, emitArgCount};
 ghost use Rattle.rules.specs.Ast.{list};
 ghost use Rattle.rules.specs.Standing.{exprAt, exprsAt, paramAt, paramsAt};
 ghost use Rattle.rules.specs.Statements.{checkEmitField, checkEmitFields};
@@ -27,10 +29,11 @@ ghost use Rattle.emits.specs.Emit.{EmitIn, emitRule, FieldIn, FieldsIn, 
 fn mismatch(want: u8, got: u8, straight: bool) -> bool
     ensures { λ r. ⌜ Mismatches want got straight r ⌝ }
 {
-    if want == 6 {
-        return (got != 6) | !straight;
+    if want == codes::NAME {
+        return (got != codes::NAME) | !straight;
     }
-    (((got == 6) | (got == 9)) | (want == 9)) | ((got == 3) & one_word(want))
+    (((got == codes::NAME) | (got == codes::COLLECTION)) | (want == codes::COLLECTION))
+        | ((got == codes::ADDRESS) & one_word(want))
 }
 
 // Judges the argument at line arg, of the type got, for the parameter at line param, of the type want.
@@ -109,7 +112,7 @@ fn check_fields(
 // `check_emit_fields` of the `emit` at line i.
 fn check_emit_fields(sheet: &[u8], lines: &[u16], env: Env, table: &mut [u8], i: usize) -> Done
     requires { ⌜ EmitIn (now sheet) (now lines) env (now table) i ⌝ }
-    ensures { λ r. ⌜ Does (now (sheet .entry)) (checkEmitFields (envOf (now (sheet .entry)) (now (table .entry)) env) (nameAt (now (sheet .entry)) (now (lines .entry)) i) (list (exprsAt (now (sheet .entry)) (entry (now (lines .entry)) i 5) (suc i)))) (now (table .entry)) r (now (table .exit)) ⌝ }
+    ensures { λ r. ⌜ Does (now (sheet .entry)) (checkEmitFields (envOf (now (sheet .entry)) (now (table .entry)) env) (nameAt (now (sheet .entry)) (now (lines .entry)) i) (list (exprsAt (now (sheet .entry)) (emitArgCount (now (lines .entry)) i) (suc i)))) (now (table .entry)) r (now (table .exit)) ⌝ }
 {
     match event_named(sheet, lines, name(sheet, lines, i)) {
         Found::At(event) => check_fields(
@@ -118,9 +121,9 @@ fn check_emit_fields(sheet: &[u8], lines: &[u16], env: Env, table: &mut [u8], i:
             env,
             table,
             i + 1,
-            first(lines, i),
+            emit_arg_count(lines, i),
             event + 1,
-            first(lines, event),
+            param_count(lines, event),
         ),
         Found::Nothing => Done::Fine,
     }
@@ -129,9 +132,9 @@ fn check_emit_fields(sheet: &[u8], lines: &[u16], env: Env, table: &mut [u8], i:
 // The `emit` at line i: all arguments are typed, then judged by the event's parameters.
 pub fn check_emit(sheet: &[u8], lines: &[u16], env: Env, table: &mut [u8], i: usize) -> Done
     requires { ⌜ EmitIn (now sheet) (now lines) env (now table) i ⌝ }
-    ensures { λ r. ⌜ Does (now (sheet .entry)) (emitRule (envOf (now (sheet .entry)) (now (table .entry)) env) (nameAt (now (sheet .entry)) (now (lines .entry)) i) (list (exprsAt (now (sheet .entry)) (entry (now (lines .entry)) i 5) (suc i)))) (now (table .entry)) r (now (table .exit)) ⌝ }
+    ensures { λ r. ⌜ Does (now (sheet .entry)) (emitRule (envOf (now (sheet .entry)) (now (table .entry)) env) (nameAt (now (sheet .entry)) (now (lines .entry)) i) (list (exprsAt (now (sheet .entry)) (emitArgCount (now (lines .entry)) i) (suc i)))) (now (table .entry)) r (now (table .exit)) ⌝ }
 {
-    match ask_each(sheet, lines, env, table, i + 1, first(lines, i)) {
+    match ask_each(sheet, lines, env, table, i + 1, emit_arg_count(lines, i)) {
         Done::Fine => check_emit_fields(sheet, lines, env, table, i),
         Done::Refused(r) => Done::Refused(r),
     }

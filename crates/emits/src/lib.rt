@@ -1,4 +1,4 @@
-// `emit` statements, and who receives funds or issues an asset: of module 5 what walks arguments.
+// `emit` statements, and who receives funds or issues an asset.
 mod emit;
 mod recipient;
 

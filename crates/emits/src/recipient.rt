@@ -1,18 +1,20 @@
 // `refuse_name_recipient`.
-use declared::Done;
-use declared::Refusal;
 use env::Env;
 use env::Typed;
+use grammar::kinds;
+use refusals::Done;
+use refusals::Refusal;
+use rules::codes;
+use sheet::call_arg_count;
 use sheet::end;
 use sheet::kind;
 use sheet::name;
-use sheet::second;
-use text::place_in;
+use text::index_in;
 use typing::ty_of;
 ghost use Rattle.rules.specs.Ast.{list};
 ghost use Rattle.rules.specs.Standing.{exprAt, exprsAt};
 ghost use Rattle.rules.specs.Statements.{refuseNameRecipient};
-ghost use Rattle.declared.specs.Lines.{ExprAt};
+ghost use Rattle.lookups.specs.Lines.{ExprAt};
 ghost use Rattle.env.specs.Force.{envOf};
 ghost use Rattle.typing.specs.Asks.{Asks, AsksAll, Does};
 ghost use Rattle.emits.specs.Recipient.{JudgesRecipient, recipientRule, recipientsRule, Recipients};
@@ -22,10 +24,10 @@ fn recipients(sheet: &[u8], lines: &[u16], callee: usize) -> usize
     requires { ⌜ ExprAt (now sheet) (now lines) callee ⌝ }
     ensures { λ r. ⌜ Recipients (now (sheet .entry)) callee r ⌝ }
 {
-    if kind(lines, callee) != 21 {
+    if kind(lines, callee) != kinds::ID {
         return 0;
     }
-    let place = place_in(name(sheet, lines, callee), b"send mint_asset send_asset ");
+    let place = index_in(name(sheet, lines, callee), b"send mint_asset send_asset ");
     if place < 2 {
         return 1;
     }
@@ -39,7 +41,7 @@ fn recipients(sheet: &[u8], lines: &[u16], callee: usize) -> usize
 fn judge_recipient(arg: usize, ty: u8) -> Done
     ensures { λ r. ⌜ JudgesRecipient arg ty r ⌝ }
 {
-    if ty == 6 {
+    if ty == codes::NAME {
         Done::Refused(Refusal::Recipient(arg))
     } else {
         Done::Fine
@@ -89,10 +91,10 @@ pub fn refuse_name_recipient(
     requires { ⌜ Asks (now sheet) (now lines) env (now table) i ⌝ }
     ensures { λ r. ⌜ Does (now (sheet .entry)) (refuseNameRecipient (envOf (now (sheet .entry)) (now (table .entry)) env) (exprAt (now (sheet .entry)) i)) (now (table .entry)) r (now (table .exit)) ⌝ }
 {
-    if kind(lines, i) != 31 {
+    if kind(lines, i) != kinds::CALL {
         return Done::Fine;
     }
-    let args = second(lines, i);
+    let args = call_arg_count(lines, i);
     let due = recipients(sheet, lines, i + 1);
     if args < due {
         return check_recipients(sheet, lines, env, table, end(lines, i + 1), args);

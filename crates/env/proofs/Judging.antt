@@ -12,25 +12,27 @@ use borrow.Author.Tests.{eq-eqb, ne-eqb, not-true, not-false}
 use Rattle.rules.specs.Text.{lit}
 use Rattle.rules.specs.Ast.{UnaryOp, Not as NotOp, Neg as NegOp, unaryOps, Add, Sub, Mul, Div, Rem, Shr, binOps, Expr, span}
 use Rattle.rules.specs.Asking.{Ty, Int, Boolean, Address, TName, Unknown, code, Res, Rule, ret, _>>_, expect}
-use Rattle.rules.specs.Kept.{tyOfMark}
-use Rattle.rules.specs.Declared.{eqTy, isTy, numeric, compatible, isZeroLiteral}
+use Rattle.rules.specs.Kept.{tyOfMark, IsCode, tyFrom}
+use Rattle.rules.specs.Types.{eqTy, isTy, numeric, compatible, isZeroLiteral}
 use Rattle.rules.specs.Standing.{exprAt}
-use Rattle.rules.specs.Typing.{expectNumericOr, expectNumber, judgeUnary, logical, arithmetic, ordering, equality, judgeBinary, judgeKey, isNameParam, notText, negText, logicalText, arithmeticText, orderingText, namesText, comparedText}
+use Rattle.rules.specs.Typing.{expectNumericOr, expectNumber, judgeUnary, logical, arithmetic, ordering, equality, judgeBinary, judgeKey, isNameParam, notText, negText, logicalText, arithmeticText, orderingText, namesComparedText, comparedText}
 use Rattle.rules.proofs.All.{All}
 use Rattle.rules.proofs.Parts.{stop, _also_, pick}
-use Rattle.declared.specs.Answers.{Answers}
-use Rattle.declared.specs.Codes.{IsCode, tyFrom}
-use Rattle.declared.specs.Refusal.{refusalOf, doneOf}
-use Rattle.declared.specs.declared.refusal.Refusal.{Refusal}
-use Rattle.declared.specs.declared.refusal.Refusal.the-variants.{Not, Neg, Logical, Arithmetic, Ordering, Names, Compared, Amount, Straight, ByName, Holds}
-use Rattle.declared.specs.declared.refusal.Done.the-variants.{Fine, Refused as Wrong}
-use Rattle.declared.proofs.Answers.{gives, fits, misfits, passes, refuses}
-use Rattle.declared.proofs.Codes.{same-code}
+use Rattle.refusals.specs.Answers.{Answers}
+use Rattle.refusals.specs.Refusal.{refusalOf, doneOf}
+use Rattle.refusals.specs.declared.refusal.Refusal.{Refusal}
+use Rattle.refusals.specs.declared.refusal.Refusal.the-variants.{Not, Neg, Logical, Arithmetic, Ordering, NamesCompared, Compared, Amount, NameNotParam, NameWanted, Holds}
+use Rattle.refusals.specs.declared.refusal.Done.the-variants.{Fine, Refused as Wrong}
+use Rattle.refusals.proofs.Answers.{gives, fits, misfits, passes, refuses}
+use Rattle.lookups.proofs.Codes.{same-code}
 use Rattle.env.specs.Answers.{typedOf, bothOf, Judged, Judged2, JudgedIn, JudgesAmount, JudgesKey}
 use Rattle.env.specs.Force.{envOf}
 use Rattle.env.specs.declared.env.Env.{Env}
 use Rattle.env.specs.declared.judge.Typed.{Typed}
 use Rattle.env.specs.declared.judge.Typed.the-variants.{Is, Refused}
+use Rattle.grammar.specs.Kinds as kinds
+use Rattle.rules.specs.Codes as codes
+use Rattle.grammar.specs.Operators as ops
 
 -- ------------------------------------------------------------ operands
 
@@ -145,35 +147,35 @@ neg-op (suc (suc o)) h = refl
 -- ------------------------------------------------------------ equality
 
 -- whether a type is an address, or a name
-is-address : (c : ℕ) → eqTy (tyFrom c) Address ≡ eqb c 3
+is-address : (c : ℕ) → eqTy (tyFrom c) Address ≡ eqb c codes.address
 unfolding eqTy code
-is-address c = same-code c 3 (omega arith) (omega arith)
+is-address c = same-code c codes.address (omega arith) (omega arith)
 
-is-name : (c : ℕ) → eqTy (tyFrom c) TName ≡ eqb c 6
+is-name : (c : ℕ) → eqTy (tyFrom c) TName ≡ eqb c codes.name
 unfolding eqTy code
-is-name c = same-code c 6 (omega arith) (omega arith)
+is-name c = same-code c codes.name (omega arith) (omega arith)
 
 module _ (s : List ℕ) (i j c d : ℕ) where
-  named : (x : Bool) → (eqb c 6 || eqb d 6) ≡ x → not (eqTy (tyFrom c) TName || eqTy (tyFrom d) TName) ≡ not x
+  named : (x : Bool) → (eqb c codes.name || eqb d codes.name) ≡ x → not (eqTy (tyFrom c) TName || eqTy (tyFrom d) TName) ≡ not x
   named x e = rw (is-name c, is-name d, e) refl
 
-  pub names-wrong : (eqb c 6 || eqb d 6) ≡ true → JudgedIn s (equality (exprAt s i) (exprAt s j)) c d (Refused (Names i))
+  pub names-wrong : (eqb c codes.name || eqb d codes.name) ≡ true → JudgedIn s (equality (exprAt s i) (exprAt s j)) c d (Refused (NamesCompared i))
   unfolding equality typedOf refusalOf
-  names-wrong e = record { judged = refuses _ 41 (span (exprAt s i)) namesText _ (named true e); valid = tt }
+  names-wrong e = record { judged = refuses _ 41 (span (exprAt s i)) namesComparedText _ (named true e); valid = tt }
 
-  module _ (b x y : Bool) (n : (eqb c 6 || eqb d 6) ≡ false) (h : b ≡ compatible (tyFrom c) (tyFrom d))
-      (p : x ≡ (eqb c 3 && isZeroLiteral (exprAt s j))) (q : y ≡ (eqb d 3 && isZeroLiteral (exprAt s i))) where
+  module _ (b x y : Bool) (n : (eqb c codes.name || eqb d codes.name) ≡ false) (h : b ≡ compatible (tyFrom c) (tyFrom d))
+      (p : x ≡ (eqb c codes.address && isZeroLiteral (exprAt s j))) (q : y ≡ (eqb d codes.address && isZeroLiteral (exprAt s i))) where
     comparable :
         (compatible (tyFrom c) (tyFrom d) || (eqTy (tyFrom c) Address && isZeroLiteral (exprAt s j)) || (eqTy (tyFrom d) Address && isZeroLiteral (exprAt s i)))
         ≡ (b || x || y)
     comparable = rw (h, p, q, is-address c, is-address d) refl
 
-    pub compared-fine : (b || x || y) ≡ true → JudgedIn s (equality (exprAt s i) (exprAt s j)) c d (Is 2)
+    pub compared-fine : (b || x || y) ≡ true → JudgedIn s (equality (exprAt s i) (exprAt s j)) c d (Is codes.boolean)
     unfolding equality typedOf tyFrom tyOfMark
     compared-fine e =
         record {
           judged =
-              passes _ 41 (span (exprAt s i)) namesText _ _ (named false n)
+              passes _ 41 (span (exprAt s i)) namesComparedText _ _ (named false n)
               (passes _ 42 (span (exprAt s j)) (comparedText (tyFrom c) (tyFrom d)) _ _ (comparable ∙ e) (gives Boolean));
           valid = (omega arith, omega arith);
         }
@@ -183,7 +185,7 @@ module _ (s : List ℕ) (i j c d : ℕ) where
     compared-wrong e =
         record {
           judged =
-              passes _ 41 (span (exprAt s i)) namesText _ _ (named false n)
+              passes _ 41 (span (exprAt s i)) namesComparedText _ _ (named false n)
               (refuses _ 42 (span (exprAt s j)) (comparedText (tyFrom c) (tyFrom d)) _ (comparable ∙ e));
           valid = tt;
         }
@@ -203,19 +205,19 @@ module _ (s : List ℕ) (a b : Expr) (c d : ℕ) (r : Typed) (o : ℕ) where
   abbrev ByOp : ℕ → Type 0
   ByOp k = JudgedIn s (judgeBinary (getD binOps k Shr) a b) c d r
 
-  pub logical-op : o < 2 → JudgedIn s (logical a b) c d r → ByOp o
+  pub logical-op : o < ops.binEq → JudgedIn s (logical a b) c d r → ByOp o
   unfolding judgeBinary
-  logical-op e h = pick {P = ByOp} {i = 0} {n = 2} o (h also h also stop) (omega arith) e
+  logical-op e h = pick {P = ByOp} {i = ops.binOr} {n = 2} o (h also h also stop) (omega arith) e
 
-  pub equality-op : 2 ≤ o → o < 4 → JudgedIn s (equality a b) c d r → ByOp o
+  pub equality-op : ops.binEq ≤ o → o < ops.binLt → JudgedIn s (equality a b) c d r → ByOp o
   unfolding judgeBinary
-  equality-op k e h = pick {P = ByOp} {i = 2} {n = 2} o (h also h also stop) k e
+  equality-op k e h = pick {P = ByOp} {i = ops.binEq} {n = 2} o (h also h also stop) k e
 
-  pub ordering-op : 4 ≤ o → o < 8 → JudgedIn s (ordering a b) c d r → ByOp o
+  pub ordering-op : ops.binLt ≤ o → o < ops.binAdd → JudgedIn s (ordering a b) c d r → ByOp o
   unfolding judgeBinary
-  ordering-op k e h = pick {P = ByOp} {i = 4} {n = 4} o (h also h also h also h also stop) k e
+  ordering-op k e h = pick {P = ByOp} {i = ops.binLt} {n = 4} o (h also h also h also h also stop) k e
 
-  pub arithmetic-op : 8 ≤ o → JudgedIn s (arithmetic a b) c d r → ByOp o
+  pub arithmetic-op : ops.binAdd ≤ o → JudgedIn s (arithmetic a b) c d r → ByOp o
   unfolding judgeBinary
   arithmetic-op k h =
       rw (let q : o ≡ suc (suc (suc (suc (suc (suc (suc (suc (o - 8)))))))) = omega arith in q)
@@ -225,11 +227,11 @@ module _ (s : List ℕ) (a b : Expr) (c d : ℕ) (r : Typed) (o : ℕ) where
 
 -- the code t of the amount's type
 module _ (callee arg c t : ℕ) (k : t ≡ code (tyFrom c)) where
-  pub amount-fine : (eqb t 1 || (eqb t 4 || eqb t 10)) ≡ true → JudgesAmount callee arg c Fine
+  pub amount-fine : (eqb t codes.int || (eqb t codes.asset || eqb t codes.unknown)) ≡ true → JudgesAmount callee arg c Fine
   unfolding isTy eqTy code doneOf
   amount-fine e = record { judged = λ s. fits _ 32 _ _ (rw (← k, or-false) e) }
 
-  pub amount-wrong : (eqb t 1 || (eqb t 4 || eqb t 10)) ≡ false → JudgesAmount callee arg c (Wrong (Amount callee arg))
+  pub amount-wrong : (eqb t codes.int || (eqb t codes.asset || eqb t codes.unknown)) ≡ false → JudgesAmount callee arg c (Wrong (Amount callee arg))
   unfolding isTy eqTy code doneOf refusalOf
   amount-wrong e = record { judged = λ s. misfits _ 32 _ _ (rw (← k, or-false) e) }
 
@@ -241,33 +243,33 @@ implies false b = refl
 
 -- what `straight` answers for the code d
 module _ (d : ℕ) (x : Bool) where
-  pub straight-other : d ≢ 6 → true ≡ (not (eqb d 6) || x)
-  straight-other e = rw (ne-eqb d 6 e) refl
+  pub straight-other : d ≢ codes.name → true ≡ (not (eqb d codes.name) || x)
+  straight-other e = rw (ne-eqb d codes.name e) refl
 
-  pub straight-name : (b : Bool) → d ≡ 6 → b ≡ x → b ≡ (not (eqb d 6) || x)
-  straight-name b e q = rw (eq-eqb d 6 e) q
+  pub straight-name : (b : Bool) → d ≡ codes.name → b ≡ x → b ≡ (not (eqb d codes.name) || x)
+  straight-name b e q = rw (eq-eqb d codes.name e) q
 
-module _ (s : List ℕ) (env : Env) (field : ℕ) (key : Bool) (arg c d : ℕ) (b : Bool) (p : b ≡ (not (eqb d 6) || isNameParam (envOf s [] env) (exprAt s arg))) where
+module _ (s : List ℕ) (env : Env) (field : ℕ) (key : Bool) (arg c d : ℕ) (b : Bool) (p : b ≡ (not (eqb d codes.name) || isNameParam (envOf s [] env) (exprAt s arg))) where
   is-straight : (x : Bool) → b ≡ x → (not (eqTy (tyFrom d) TName) || isNameParam (envOf s [] env) (exprAt s arg)) ≡ x
   is-straight x e = rw (is-name d) (sym p ∙ e)
 
-  pub straight-wrong : not b ≡ true → JudgesKey s env field key arg c d (Wrong (Straight field arg))
+  pub straight-wrong : not b ≡ true → JudgesKey s env field key arg c d (Wrong (NameNotParam field arg))
   unfolding judgeKey doneOf refusalOf
   straight-wrong e = record { judged = refuses _ 33 _ _ _ (is-straight false (not-true b e)) }
 
   module _ (n : not b ≡ false) where
-    is-named : (not (eqTy (tyFrom c) TName) || eqTy (tyFrom d) TName) ≡ not (eqb c 6 && not (eqb d 6))
-    is-named = rw (is-name c, is-name d) (implies (eqb c 6) (eqb d 6))
+    is-named : (not (eqTy (tyFrom c) TName) || eqTy (tyFrom d) TName) ≡ not (eqb c codes.name && not (eqb d codes.name))
+    is-named = rw (is-name c, is-name d) (implies (eqb c codes.name) (eqb d codes.name))
 
-    pub name-wrong : (eqb c 6 && not (eqb d 6)) ≡ true → JudgesKey s env field key arg c d (Wrong (ByName field arg))
+    pub name-wrong : (eqb c codes.name && not (eqb d codes.name)) ≡ true → JudgesKey s env field key arg c d (Wrong (NameWanted field arg))
     unfolding judgeKey doneOf refusalOf
     name-wrong e = record { judged = passes _ 33 _ _ _ _ (is-straight true (not-false b n)) (refuses _ 34 _ _ _ (is-named ∙ rw e refl)) }
 
-    module _ (x : Bool) (m : (eqb c 6 && not (eqb d 6)) ≡ false) (h : x ≡ compatible (tyFrom c) (tyFrom d)) where
-      holds : ((key && eqTy (tyFrom d) TName) || compatible (tyFrom c) (tyFrom d)) ≡ ((key && eqb d 6) || x)
+    module _ (x : Bool) (m : (eqb c codes.name && not (eqb d codes.name)) ≡ false) (h : x ≡ compatible (tyFrom c) (tyFrom d)) where
+      holds : ((key && eqTy (tyFrom d) TName) || compatible (tyFrom c) (tyFrom d)) ≡ ((key && eqb d codes.name) || x)
       holds = rw (h, is-name d) refl
 
-      pub key-fine : ((key && eqb d 6) || x) ≡ true → JudgesKey s env field key arg c d Fine
+      pub key-fine : ((key && eqb d codes.name) || x) ≡ true → JudgesKey s env field key arg c d Fine
       unfolding judgeKey doneOf
       key-fine e =
           record {
@@ -276,7 +278,7 @@ module _ (s : List ℕ) (env : Env) (field : ℕ) (key : Bool) (arg c d : ℕ) (
                 (passes _ 34 _ _ _ _ (is-named ∙ rw m refl) (fits _ 35 _ _ (holds ∙ e)));
           }
 
-      pub key-wrong : ((key && eqb d 6) || x) ≡ false → JudgesKey s env field key arg c d (Wrong (Holds field arg c d))
+      pub key-wrong : ((key && eqb d codes.name) || x) ≡ false → JudgesKey s env field key arg c d (Wrong (Holds field arg c d))
       unfolding judgeKey doneOf refusalOf
       key-wrong e =
           record {

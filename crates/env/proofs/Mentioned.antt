@@ -3,15 +3,14 @@ use mathlib.Core.Logic.{_≢_}
 use mathlib.Core.Path.{_≡_, refl, sym, ap, _∙_}
 use mathlib.Core.List.{List, [], _∷_, append-nil}
 use mathlib.Core.Bool.{Bool, true, false, _||_, _&&_, or-assoc, or-false}
-use Prim.Native.Nat.{ℕ, zero, suc, _+_, _-_, _/_, _<_, _≤_}
+use Prim.Native.Nat.{ℕ, zero, suc, _+_, _-_, _<_, _≤_}
 use native.Mathlib.Omega.{arith}
 use lib.Dec.{eqb, ltb}
-use lib.ListN.{length}
 use borrow.Author.Tests.{eq-eqb, ne-eqb}
 use Rattle.grammar.specs.Grammar as grammar
 use Rattle.sheet.specs.Line.{Line}
-use Rattle.sheet.specs.Load.{sorts, times}
-use Rattle.sheet.specs.Scratch.{kindAt, nameAt, endAt}
+use Rattle.sheet.specs.Load.{sorts, copies}
+use Rattle.sheet.specs.Scratch.{kindAt, nameAt, endAt, lineCount}
 use Rattle.sheet.specs.Tree.{Node, node, Nodes, nil, more, before}
 use Rattle.sheet.specs.Held.{Held, held, HeldAll, no-tree, tree, Among, Parted, Formed, formed, FormedAll, none-due, one-due}
 use Rattle.sheet.proofs.Holds.{all-le}
@@ -24,35 +23,36 @@ use Rattle.rules.proofs.Parts.{stop, _also_, pick, parts}
 use Rattle.rules.proofs.Exprs.{line-at}
 use Rattle.rules.proofs.Lets.{past-on, not-stale}
 use Rattle.rules.proofs.Standing.{stands}
-use Rattle.declared.specs.Found.{foundNode, Of, Stretch, Last}
-use Rattle.declared.specs.declared.model.Found.{Found}
-use Rattle.declared.specs.declared.model.Found.the-variants.{At, Nothing}
+use Rattle.lookups.specs.Found.{foundNode, FoundKind, Stretch, Last}
+use Rattle.lookups.specs.declared.model.Found.{Found}
+use Rattle.lookups.specs.declared.model.Found.the-variants.{At, Nothing}
 use Rattle.env.specs.Force.{lets, endsIn, envOf, InForce, ExprIn}
 use Rattle.env.specs.declared.env.Env.{Env}
 use Rattle.env.proofs.Lets.{let-end, endsBehind, ends-past, among-later}
+use Rattle.grammar.specs.Kinds as kinds
 
 -- ------------------------------------------------------------ one line
 
 -- line i is an `id` with one of the names
 abbrev pub hit : (s S : List ℕ) → List Name → ℕ → Bool
-hit s S xs i = eqb (kindAt S i) 21 && among (nameAt s S i) xs
+hit s S xs i = eqb (kindAt S i) kinds.id && among (nameAt s S i) xs
 
 pub bound-lets : (s S : List ℕ) (env : Env) → InForce s S env → Stretch s S (env .bound) (env .body)
 bound-lets s S env f = record { loaded = f .loaded; sort = grammar.Stmt; row = f .locals }
 
 module _ (s S : List ℕ) (env : Env) (i at k : ℕ) (f : InForce s S env) (e : k ≡ kindAt S at) where
-  pub no-id : (r : Bool) → k ≢ 21 → r ≡ false → r ≡ hit s S (later i (endsIn s env)) at
-  no-id r q z = z ∙ rw (← e, ne-eqb k 21 q) refl
+  pub no-id : (r : Bool) → k ≢ kinds.id → r ≡ false → r ≡ hit s S (later i (endsIn s env)) at
+  no-id r q z = z ∙ rw (← e, ne-eqb k kinds.id q) refl
 
-  module _ (x : Name) (r : Found) (q : k ≡ 21) (n : x ≡ nameAt s S at) (l : Last s S 16 x (env .bound) (env .body) r) where
+  module _ (x : Name) (r : Found) (q : k ≡ kinds.id) (n : x ≡ nameAt s S at) (l : Last s S kinds.let' x (env .bound) (env .body) r) where
     by-search : endsBehind s i (foundNode s r) ≡ hit s S (later i (endsIn s env)) at
     unfolding lets
-    by-search = ap (endsBehind s i) (l .found) ∙ rw (← e, eq-eqb k 21 q, ← n) (sym (among-later s S env f x i))
+    by-search = ap (endsBehind s i) (l .found) ∙ rw (← e, eq-eqb k kinds.id q, ← n) (sym (among-later s S env f x i))
 
     pub is-later : (j v : ℕ) (b : Bool) → r ≡ At j → v ≡ endAt S j → b ≡ ltb i v → b ≡ hit s S (later i (endsIn s env)) at
     unfolding foundNode
     is-later j v b h w z =
-        let g : Of S 16 (At j) = rw h at (l .kind) in
+        let g : FoundKind S kinds.let' (At j) = rw h at (l .kind) in
         z ∙ rw (w, ← let-end (f .loaded) j (g .0) (g .1)) (rw h at by-search)
 
     pub not-later : r ≡ Nothing → false ≡ hit s S (later i (endsIn s env)) at
@@ -81,49 +81,49 @@ any-split p i j k g h =
 -- a line's expression mentions a name by itself or in its parts, which are expressions
 record Mentions (xs : List Name) (i : ℕ) (l : Line) (ps : Nodes) : Type 0 where
   count : ℕ
-  exprs : FormedAll (times count grammar.Expr) ps
-  is : has xs (exprOf (node i l ps)) ≡ ((eqb (l .kind) 21 && among (l .name) xs) || hasAny xs (exprsOf ps))
+  exprs : FormedAll (copies count grammar.Expr) ps
+  is : has xs (exprOf (node i l ps)) ≡ ((eqb (l .kind) kinds.id && among (l .name) xs) || hasAny xs (exprsOf ps))
 
 module _ (xs : List Name) (i : ℕ) (l : Line) where
   abbrev self : Bool
-  self = eqb (l .kind) 21 && among (l .name) xs
+  self = eqb (l .kind) kinds.id && among (l .name) xs
 
   no-part : {ps : Nodes} → has xs (exprOf (node i l nil)) ≡ self → FormedAll [] ps → Mentions xs i l ps
-  unfolding times exprsOf hasAny
+  unfolding copies exprsOf hasAny
   no-part h none-due = record { count = 0; exprs = none-due; is = rw or-false h }
 
   one-part : {ps : Nodes} → ((t : Node) → has xs (exprOf (node i l (more t nil))) ≡ (self || has xs (exprOf t))) → FormedAll (grammar.Expr ∷ []) ps → Mentions xs i l ps
-  unfolding times exprsOf hasAny
+  unfolding copies exprsOf hasAny
   one-part h (one-due {t = t} f none-due) = record { count = 1; exprs = one-due f none-due; is = rw or-false (h t) }
 
   two-parts : {ps : Nodes} → ((t u : Node) → has xs (exprOf (node i l (more t (more u nil)))) ≡ (self || (has xs (exprOf t) || has xs (exprOf u)))) → FormedAll (grammar.Expr ∷ grammar.Expr ∷ []) ps → Mentions xs i l ps
-  unfolding times exprsOf hasAny
+  unfolding copies exprsOf hasAny
   two-parts h (one-due {t = t} f (one-due {t = u} g none-due)) =
       record { count = 2; exprs = one-due f (one-due g none-due); is = rw or-false (h t u) }
 
-  some-parts : {ps : Nodes} (k : ℕ) → ((t : Node) (ns : Nodes) → has xs (exprOf (node i l (more t ns))) ≡ (self || (has xs (exprOf t) || hasAny xs (exprsOf ns)))) → FormedAll (grammar.Expr ∷ times k grammar.Expr) ps → Mentions xs i l ps
-  unfolding times exprsOf hasAny
+  some-parts : {ps : Nodes} (k : ℕ) → ((t : Node) (ns : Nodes) → has xs (exprOf (node i l (more t ns))) ≡ (self || (has xs (exprOf t) || hasAny xs (exprsOf ns)))) → FormedAll (grammar.Expr ∷ copies k grammar.Expr) ps → Mentions xs i l ps
+  unfolding copies exprsOf hasAny
   some-parts k h (one-due {t = t} {ns = ns} f g) = record { count = suc k; exprs = one-due f g; is = h t ns }
 
   -- by the line's kind
   mentions : (ps : Nodes) → Among grammar.Expr (l .kind) → Parted l → FormedAll (sorts (l .parts)) ps → Mentions xs i l ps
-  unfolding sorts times exprOf exprsOf has hasAny leafHas identLeaf
+  unfolding sorts copies exprOf exprsOf has hasAny leafHas identLeaf
   mentions ps a p f =
-      pick {P = λ k. l .kind ≡ k → Mentions xs i l ps} {i = 20} {n = 14} (l .kind)
-      ((λ e. no-part (rw (exprOf, e) refl) (rw (parts l 20 p e) at f))
-      also (λ e. no-part (rw (exprOf, e) refl) (rw (parts l 21 p e) at f))
-      also (λ e. no-part (rw (exprOf, e) refl) (rw (parts l 22 p e) at f))
-      also (λ e. no-part (rw (exprOf, e) refl) (rw (parts l 23 p e) at f))
-      also (λ e. no-part (rw (exprOf, e) refl) (rw (parts l 24 p e) at f))
-      also (λ e. no-part (rw (exprOf, e) refl) (rw (parts l 25 p e) at f))
-      also (λ e. no-part (rw (exprOf, e) refl) (rw (parts l 26 p e) at f))
-      also (λ e. no-part (rw (exprOf, e) refl) (rw (parts l 27 p e) at f))
-      also (λ e. one-part (λ t. rw (exprOf, e) refl) (rw (parts l 28 p e) at f))
-      also (λ e. two-parts (λ t u. rw (exprOf, e) refl) (rw (parts l 29 p e) at f))
-      also (λ e. one-part (λ t. rw (exprOf, e) refl) (rw (parts l 30 p e) at f))
-      also (λ e. let g = parts l 31 p e in some-parts (g .0) (λ t ns. rw (exprOf, e) refl) (rw (g .1, append-nil) at f))
-      also (λ e. one-part (λ t. rw (exprOf, e) refl) (rw (parts l 32 p e) at f))
-      also (λ e. one-part (λ t. rw (exprOf, e) refl) (rw (parts l 33 p e) at f))
+      pick {P = λ k. l .kind ≡ k → Mentions xs i l ps} {i = kinds.int} {n = 14} (l .kind)
+      ((λ e. no-part (rw (exprOf, e) refl) (rw (parts l kinds.int p e) at f))
+      also (λ e. no-part (rw (exprOf, e) refl) (rw (parts l kinds.id p e) at f))
+      also (λ e. no-part (rw (exprOf, e) refl) (rw (parts l kinds.date p e) at f))
+      also (λ e. no-part (rw (exprOf, e) refl) (rw (parts l kinds.str p e) at f))
+      also (λ e. no-part (rw (exprOf, e) refl) (rw (parts l kinds.caller p e) at f))
+      also (λ e. no-part (rw (exprOf, e) refl) (rw (parts l kinds.native p e) at f))
+      also (λ e. no-part (rw (exprOf, e) refl) (rw (parts l kinds.inasset p e) at f))
+      also (λ e. no-part (rw (exprOf, e) refl) (rw (parts l kinds.now p e) at f))
+      also (λ e. one-part (λ t. rw (exprOf, e) refl) (rw (parts l kinds.un p e) at f))
+      also (λ e. two-parts (λ t u. rw (exprOf, e) refl) (rw (parts l kinds.bin p e) at f))
+      also (λ e. one-part (λ t. rw (exprOf, e) refl) (rw (parts l kinds.dot p e) at f))
+      also (λ e. let g = parts l kinds.call p e in some-parts (g .0) (λ t ns. rw (exprOf, e) refl) (rw (g .1, append-nil) at f))
+      also (λ e. one-part (λ t. rw (exprOf, e) refl) (rw (parts l kinds.checked p e) at f))
+      also (λ e. one-part (λ t. rw (exprOf, e) refl) (rw (parts l kinds.wrapping p e) at f))
       also stop)
       (a .0) (a .1) refl
 
@@ -134,9 +134,9 @@ within (held h y r) = let q = all-le r in (h, omega arith)
 
 module _ {s S : List ℕ} (d : Loaded s S) (xs : List Name) where
   mutual
-    unfolding any exprsOf hasAny times before
+    unfolding any exprsOf hasAny copies before
 
-    tree-has : {i : ℕ} {t : Node} → Held S (length S / 8) i t → Formed grammar.Expr t → nodeAt s i ≡ t → has xs (exprOf t) ≡ any (hit s S xs) i (endAt S i - i)
+    tree-has : {i : ℕ} {t : Node} → Held S (lineCount S) i t → Formed grammar.Expr t → nodeAt s i ≡ t → has xs (exprOf t) ≡ any (hit s S xs) i (endAt S i - i)
     tree-has {i} (held {l = l} {ps = ps} h y r) (formed a p f) e =
         let t = stands d i h in
         let m = mentions xs i l ps a p f in
@@ -148,7 +148,7 @@ module _ {s S : List ℕ} (d : Loaded s S) (xs : List Name) where
         m .is
         ∙ rw (let z : endAt S i - i ≡ suc (endAt S i - suc i) = omega arith in z, y .kind, name, trees-has r (m .count) (m .exprs) (treesFrom s (endAt S i)) behind) refl
 
-    trees-has : {i j : ℕ} {ps : Nodes} → HeldAll S (length S / 8) i j ps → (k : ℕ) → FormedAll (times k grammar.Expr) ps → (rest : Nodes) → treesFrom s i ≡ before ps rest
+    trees-has : {i j : ℕ} {ps : Nodes} → HeldAll S (lineCount S) i j ps → (k : ℕ) → FormedAll (copies k grammar.Expr) ps → (rest : Nodes) → treesFrom s i ≡ before ps rest
         → hasAny xs (exprsOf ps) ≡ any (hit s S xs) i (j - i)
     trees-has {i} no-tree zero none-due rest e = rw (let z : i - i ≡ 0 = omega arith in z) refl
     trees-has {i} {j} (tree {t = t} {ns = ns} h r) (suc k) (one-due f fs) rest e =

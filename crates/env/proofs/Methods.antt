@@ -12,7 +12,7 @@ use lib.Dec.{eqb, ltb}
 use lib.ListN.{getD}
 use borrow.Author.Tests.{eq-eqb, ne-eqb, lt-ltb, le-ltb, not-true, not-false}
 use Rattle.text.specs.Text.{bytes, same, ended}
-use Rattle.text.specs.Word.{place, split}
+use Rattle.text.specs.Word.{indexIn, split}
 use Rattle.grammar.specs.Grammar as grammar
 use Rattle.grammar.specs.Grammar.{words}
 use Rattle.sheet.specs.Scratch.{kindAt, nameAt}
@@ -20,29 +20,31 @@ use Rattle.sheet.specs.Say.{nspanAt}
 use Rattle.rules.specs.Text.{Name, is, isOne}
 use Rattle.rules.specs.Ast.{Expr, Field, span, typeName}
 use Rattle.rules.specs.Asking.{Ty, Int, Boolean, Asset, Word64, Time, Unknown, code, expect, ifSome}
-use Rattle.rules.specs.Declared.{declaredArg, eqTy, isTy}
+use Rattle.rules.specs.Types.{declaredArg, eqTy, isTy}
 use Rattle.rules.specs.Typing as typing
 use Rattle.rules.specs.Typing.{Dot, dotOf, identIs, keyedField, isPool, keyedOpFits, keyedOpText, expectKeyedOp, receiverText, expectAssetReceiver, tyOfDot, tyOfGet, tyOfCall}
 use Rattle.rules.specs.Standing.{exprAt, typeAt, fieldAt, Loaded, Here}
 use Rattle.rules.proofs.Exprs.{dot-at, ident-at, is-dot-at}
 use Rattle.rules.proofs.Parts.{stop, _also_, pick}
 use Rattle.rules.proofs.Standing.{row-first}
-use Rattle.declared.specs.Answers.{Answers}
-use Rattle.declared.specs.Found.{foundNode, foundField}
-use Rattle.declared.specs.Lines.{Typed}
-use Rattle.declared.specs.Refusal.{dotAt, refusalOf, doneOf}
-use Rattle.declared.specs.declared.model.Found.{Found}
-use Rattle.declared.specs.declared.model.Found.the-variants.{At, Nothing}
-use Rattle.declared.specs.declared.refusal.Refusal.the-variants.{Receiver, KeyedOp}
-use Rattle.declared.specs.declared.refusal.Done.{Done}
-use Rattle.declared.specs.declared.refusal.Done.the-variants.{Fine, Refused}
-use Rattle.declared.proofs.Answers.{gives, fits, misfits}
-use Rattle.declared.proofs.Tables.{one-place, wordsIn, valuesIn, place-most, pick-place}
-use Rattle.declared.proofs.Types.{type-name}
+use Rattle.refusals.specs.Answers.{Answers}
+use Rattle.lookups.specs.Found.{foundNode, foundField}
+use Rattle.lookups.specs.Lines.{TypeAt}
+use Rattle.refusals.specs.Refusal.{dotAt, refusalOf, doneOf}
+use Rattle.lookups.specs.declared.model.Found.{Found}
+use Rattle.lookups.specs.declared.model.Found.the-variants.{At, Nothing}
+use Rattle.refusals.specs.declared.refusal.Refusal.the-variants.{Receiver, KeyedOp}
+use Rattle.refusals.specs.declared.refusal.Done.{Done}
+use Rattle.refusals.specs.declared.refusal.Done.the-variants.{Fine, Refused}
+use Rattle.refusals.proofs.Answers.{gives, fits, misfits}
+use Rattle.lookups.proofs.Tables.{one-place, wordsIn, valuesIn, place-most, pick-place}
+use Rattle.lookups.proofs.Types.{type-name}
 use Rattle.env.specs.Calls.{dotCodes, methodCodes, wantsOf, keyedOf, keyedRecord, KeyedOf, Callee, opRule, getTy, methodTy, callTy}
 use Rattle.env.specs.Force.{envOf, ExprIn, KeyedFound}
 use Rattle.env.specs.declared.env.Env.{Env}
 use Rattle.env.proofs.Lookups.{behind, either-word}
+use Rattle.grammar.specs.Kinds as kinds
+use Rattle.rules.specs.Codes as codes
 
 -- ------------------------------------------------------------ dots
 
@@ -52,11 +54,11 @@ dots = "amount signer_bits first len "
 abbrev dotTypes : List (String × Ty)
 dotTypes = ("amount", Int) ∷ ("signer_bits", Word64) ∷ ("first", Time) ∷ ("len", Int) ∷ []
 
-pub dot-most : (x : Name) (p : ℕ) → p ≡ place x (split (bytes dots)) → p < 5
+pub dot-most : (x : Name) (p : ℕ) → p ≡ indexIn x (split (bytes dots)) → p < 5
 unfolding split ended
 dot-most x p e = omega (arith, place-most x (wordsIn dotTypes))
 
-pub dot-type : (x : Name) (p r : ℕ) → p ≡ place x (split (bytes dots)) → r ≡ getD dotCodes p 0 → r ≡ code (tyOfDot x)
+pub dot-type : (x : Name) (p r : ℕ) → p ≡ indexIn x (split (bytes dots)) → r ≡ getD dotCodes p 0 → r ≡ code (tyOfDot x)
 unfolding tyOfDot split ended code
 dot-type x p r e f =
     f
@@ -78,7 +80,7 @@ module _ (x : Name) (b : Bool) (w : b ≡ same x (bytes "set")) where
   unfolding wantsOf is
   wants-two q = rw (wantsOf, ← w, q) refl
 
-  module _ (p : ℕ) (q : b ≡ false) (e : p ≡ place x (split (bytes "insert remove contains get credit debit "))) where
+  module _ (p : ℕ) (q : b ≡ false) (e : p ≡ indexIn x (split (bytes "insert remove contains get credit debit "))) where
     of-one : isOne x oneKey ≡ ltb p 6
     unfolding split ended
     of-one = one-place x oneKey ∙ rw e refl
@@ -93,7 +95,7 @@ module _ (x : Name) (b : Bool) (w : b ≡ same x (bytes "set")) where
 
 -- ------------------------------------------------------------ the callee
 
--- the dot at a line of kind 30
+-- the dot at a line whose record is a `dot`
 abbrev theDot : List ℕ → List ℕ → ℕ → Dot
 theDot s S i = record { base = exprAt s (suc i); name = nameAt s S i; nspan = nspanAt s S i }
 
@@ -102,42 +104,42 @@ unfolding dotAt
 dot-told s i d e = rw (dotAt, e) refl
 
 module _ {s S : List ℕ} {i k : ℕ} (d : Loaded s S) (h : Here S grammar.Expr i) (e : k ≡ kindAt S i) where
-  not-dot : k ≢ 30 → dotOf (exprAt s i) ≡ none
-  not-dot n = is-dot-at d h ∙ rw (← e, ne-eqb k 30 n) refl
+  not-dot : k ≢ kinds.dot → dotOf (exprAt s i) ≡ none
+  not-dot n = is-dot-at d h ∙ rw (← e, ne-eqb k kinds.dot n) refl
 
-  is-dot : k ≡ 30 → dotOf (exprAt s i) ≡ some (theDot s S i)
-  is-dot q = is-dot-at d h ∙ rw (← e, eq-eqb k 30 q) refl
+  is-dot : k ≡ kinds.dot → dotOf (exprAt s i) ≡ some (theDot s S i)
+  is-dot q = is-dot-at d h ∙ rw (← e, eq-eqb k kinds.dot q) refl
 
 module _ (s S : List ℕ) (env : Env) (i : ℕ) (h : ExprIn s S env i) (k : ℕ) (e : k ≡ kindAt S i) where
-  none-here : k ≢ 30 → dotOf (exprAt s i) ≡ none
+  none-here : k ≢ kinds.dot → dotOf (exprAt s i) ≡ none
   none-here = not-dot (h .force .loaded) (h .here) e
 
-  dot-here : k ≡ 30 → dotOf (exprAt s i) ≡ some (theDot s S i)
+  dot-here : k ≡ kinds.dot → dotOf (exprAt s i) ≡ some (theDot s S i)
   dot-here = is-dot (h .force .loaded) (h .here) e
 
-  pub base-in : k ≡ 30 → ExprIn s S env (i + 1)
+  pub base-in : k ≡ kinds.dot → ExprIn s S env (i + 1)
   base-in q =
       rw (add-one i)
       (record { force = h .force; here = row-first (dot-at (h .force .loaded) (h .here) (sym e ∙ q) .1) })
 
-  pub uses-none : k ≢ 30 → KeyedOf s S env i Nothing
+  pub uses-none : k ≢ kinds.dot → KeyedOf s S env i Nothing
   unfolding keyedOf keyedRecord foundField foundNode
-  uses-none n = record { found = rw (keyedOf, none-here n) refl; node = rw (keyedRecord, ← e, ne-eqb k 30 n) refl; kind = tt }
+  uses-none n = record { found = rw (keyedOf, none-here n) refl; node = rw (keyedRecord, ← e, ne-eqb k kinds.dot n) refl; kind = tt }
 
-  pub uses : (r : Found) → k ≡ 30 → KeyedFound s S env (i + 1) r → KeyedOf s S env i r
+  pub uses : (r : Found) → k ≡ kinds.dot → KeyedFound s S env (i + 1) r → KeyedOf s S env i r
   unfolding keyedOf keyedRecord
   uses r q f =
       record {
         found = f .found ∙ rw (keyedOf, dot-here q, add-one i) refl;
-        node = f .node ∙ rw (keyedRecord, ← e, eq-eqb k 30 q, add-one i) refl;
+        node = f .node ∙ rw (keyedRecord, ← e, eq-eqb k kinds.dot q, add-one i) refl;
         kind = f .kind;
       }
 
-  pub no-receiver : k ≢ 30 → Answers (expectAssetReceiver (envOf s [] env) (exprAt s i)) (doneOf s Fine)
+  pub no-receiver : k ≢ kinds.dot → Answers (expectAssetReceiver (envOf s [] env) (exprAt s i)) (doneOf s Fine)
   unfolding expectAssetReceiver ifSome doneOf
   no-receiver n = rw (expectAssetReceiver, none-here n) (gives tt)
 
-  module _ (q : k ≡ 30) (x : Name) (n : x ≡ nameAt s S i) (p : ℕ) (f : p ≡ place x (split (bytes "merge split "))) where
+  module _ (q : k ≡ kinds.dot) (x : Name) (n : x ≡ nameAt s S i) (p : ℕ) (f : p ≡ indexIn x (split (bytes "merge split "))) where
     -- the rule, by the name's place
     receiver : expectAssetReceiver (envOf s [] env) (exprAt s i)
         ≡ expect (not (ltb p 2) || isPool (envOf s [] env) (exprAt s (suc i))) 30 (span (dotAt s i .base)) (receiverText (dotAt s i .name))
@@ -168,16 +170,16 @@ module _ (s S : List ℕ) (env : Env) (i : ℕ) (h : ExprIn s S env i) (k : ℕ)
 
 -- ------------------------------------------------------------ Maps and Registries
 
-module _ (s S : List ℕ) (i : ℕ) (h : Typed s S i) (y : Name) (n : y ≡ nameAt s S i) where
+module _ (s S : List ℕ) (i : ℕ) (h : TypeAt s S i) (y : Name) (n : y ≡ nameAt s S i) where
   the-name : typeName (typeAt s i) ≡ y
   the-name = sym (n ∙ type-name s S i h)
 
   module _ (x : Name) (b : Bool) (w : b ≡ same y (bytes "Registry")) where
-    pub registry-op : (p : ℕ) → b ≡ true → p ≡ place x (split (bytes "insert remove contains ")) → ltb p 3 ≡ keyedOpFits (typeAt s i) x
+    pub registry-op : (p : ℕ) → b ≡ true → p ≡ indexIn x (split (bytes "insert remove contains ")) → ltb p 3 ≡ keyedOpFits (typeAt s i) x
     unfolding keyedOpFits is split ended
     registry-op p q e = rw (keyedOpFits, the-name, ← w, q, e) (sym (one-place x ("insert" ∷ "remove" ∷ "contains" ∷ [])))
 
-    module _ (p : ℕ) (q : b ≡ false) (e : p ≡ place x (split (bytes "set get contains remove "))) where
+    module _ (p : ℕ) (q : b ≡ false) (e : p ≡ indexIn x (split (bytes "set get contains remove "))) where
       plain-op : isOne x ("set" ∷ "get" ∷ "contains" ∷ "remove" ∷ []) ≡ ltb p 4
       unfolding split ended
       plain-op = one-place x ("set" ∷ "get" ∷ "contains" ∷ "remove" ∷ []) ∙ rw e refl
@@ -187,25 +189,25 @@ module _ (s S : List ℕ) (i : ℕ) (h : Typed s S i) (y : Name) (n : y ≡ name
       map-op f = rw (keyedOpFits, the-name, ← w, q, plain-op, lt-ltb p 4 f) refl
 
       pub amount-op : (m : Bool) (v : ℕ) → 4 ≤ p → m ≡ isOne x ("credit" ∷ "debit" ∷ []) → v ≡ code (declaredArg (typeAt s i) 1)
-          → (m && eqb v 1) ≡ keyedOpFits (typeAt s i) x
+          → (m && eqb v codes.int) ≡ keyedOpFits (typeAt s i) x
       unfolding keyedOpFits is eqTy code
       amount-op m v f g u = rw (keyedOpFits, the-name, ← w, q, plain-op, le-ltb p 4 f, g, u) refl
 
   module _ (b : Bool) (w : b ≡ same y (bytes "Map")) where
-    pub no-map : not b ≡ true → 1 ≡ code (getTy (typeAt s i))
+    pub no-map : not b ≡ true → codes.int ≡ code (getTy (typeAt s i))
     unfolding getTy is code
     no-map q = rw (getTy, the-name, ← w, not-true b q) refl
 
     module _ (v : ℕ) (q : not b ≡ false) (u : v ≡ code (declaredArg (typeAt s i) 1)) where
-      which : isTy (declaredArg (typeAt s i) 1) (Unknown ∷ Time ∷ []) ≡ (eqb v 10 || eqb v 7)
+      which : isTy (declaredArg (typeAt s i) 1) (Unknown ∷ Time ∷ []) ≡ (eqb v codes.unknown || eqb v codes.time)
       unfolding isTy eqTy code
       which = rw (u, or-false) refl
 
-      pub no-value : (eqb v 10 || eqb v 7) ≡ true → 1 ≡ code (getTy (typeAt s i))
+      pub no-value : (eqb v codes.unknown || eqb v codes.time) ≡ true → codes.int ≡ code (getTy (typeAt s i))
       unfolding getTy is code
       no-value t = rw (getTy, the-name, ← w, not-false b q, which, t) refl
 
-      pub its-value : (eqb v 10 || eqb v 7) ≡ false → v ≡ code (getTy (typeAt s i))
+      pub its-value : (eqb v codes.unknown || eqb v codes.time) ≡ false → v ≡ code (getTy (typeAt s i))
       unfolding getTy is
       its-value t = u ∙ rw (getTy, the-name, ← w, not-false b q, which, t) refl
 
@@ -222,39 +224,39 @@ methodTypes g = ("contains", Boolean) ∷ ("split", Asset) ∷ ("get", g) ∷ []
 module _ (Γ : typing.Env) (e : Expr) (o : Option Field) (g : o ≡ keyedOf Γ e) where
   pub uses-op : opRule o e ≡ expectKeyedOp Γ e
   unfolding keyedOf opRule expectKeyedOp ifSome
-  uses-op = go (dotOf e) g
+  uses-op = by-cases (dotOf e) g
     where
-      go : (x : Option Dot) → o ≡ elim x [ none ↦ none | some d ↦ keyedField Γ (d .base) ]
+      by-cases : (x : Option Dot) → o ≡ elim x [ none ↦ none | some d ↦ keyedField Γ (d .base) ]
           → ifSome x (λ d. ifSome o (λ f. expect (keyedOpFits (f .ty) (d .name)) 31 (d .nspan) (keyedOpText (d .name) f)))
           ≡ ifSome x (λ d. ifSome (keyedField Γ (d .base)) (λ f. expect (keyedOpFits (f .ty) (d .name)) 31 (d .nspan) (keyedOpText (d .name) f)))
-      go none q = refl
-      go (some d) q = rw q refl
+      by-cases none q = refl
+      by-cases (some d) q = rw q refl
 
   pub uses-type : callTy o e ≡ tyOfCall Γ e
   unfolding keyedOf callTy methodTy tyOfCall
-  uses-type = go (dotOf e) refl
+  uses-type = by-cases (dotOf e) refl
     where
-      go : (x : Option Dot) → dotOf e ≡ x → callTy o e ≡ tyOfCall Γ e
-      go none q = rw (callTy, tyOfCall, q) refl
-      go (some d) q = let u = rw (keyedOf, q) at g in rw (callTy, tyOfCall, q, u) refl
+      by-cases : (x : Option Dot) → dotOf e ≡ x → callTy o e ≡ tyOfCall Γ e
+      by-cases none q = rw (callTy, tyOfCall, q) refl
+      by-cases (some d) q = let u = rw (keyedOf, q) at g in rw (callTy, tyOfCall, q, u) refl
 
 module _ (s S : List ℕ) (i : ℕ) (keyed : Found) (h : Callee s S i keyed) where
   its-type : (f : ℕ) → keyed ≡ At f → fieldAt s f .ty ≡ typeAt s (suc f)
-  its-type f e = behind 6 s S (h .expr .loaded) keyed f e (h .kind) (omega arith) (omega arith) .field
+  its-type f e = behind kinds.field s S (h .expr .loaded) keyed f e (h .kind) (omega arith) (omega arith) .field
 
-  abbrev Judges : Done → Type 0
-  Judges r = Answers (opRule (foundField s keyed) (exprAt s i)) (doneOf s r)
+  abbrev JudgesMethod : Done → Type 0
+  JudgesMethod r = Answers (opRule (foundField s keyed) (exprAt s i)) (doneOf s r)
 
   module _ (k : ℕ) (q : k ≡ kindAt S i) where
-    pub op-nowhere : k ≢ 30 → Judges Fine
+    pub op-nowhere : k ≢ kinds.dot → JudgesMethod Fine
     unfolding opRule ifSome doneOf
     op-nowhere z = rw (opRule, not-dot (h .expr .loaded) (h .expr .here) q z) (gives tt)
 
-    module _ (z : k ≡ 30) where
+    module _ (z : k ≡ kinds.dot) where
       here : dotOf (exprAt s i) ≡ some (theDot s S i)
       here = is-dot (h .expr .loaded) (h .expr .here) q z
 
-      pub no-op : keyed ≡ Nothing → Judges Fine
+      pub no-op : keyed ≡ Nothing → JudgesMethod Fine
       unfolding opRule ifSome foundField doneOf
       no-op e = rw (opRule, here, e) (gives tt)
 
@@ -265,15 +267,15 @@ module _ (s S : List ℕ) (i : ℕ) (keyed : Found) (h : Callee s S i keyed) whe
             let v : keyedOpFits (fieldAt s f .ty) (nameAt s S i) ≡ b = sym (w ∙ rw (its-type f e, n, add-one f) refl) in
             rw (opRule, here, e, dot-told s i (theDot s S i) here, v) refl
 
-        pub good-op : b ≡ true → Judges Fine
+        pub good-op : b ≡ true → JudgesMethod Fine
         unfolding doneOf
         good-op t = rw op (fits b 31 _ _ t)
 
-        pub bad-op : b ≡ false → Judges (Refused (KeyedOp i f))
+        pub bad-op : b ≡ false → JudgesMethod (Refused (KeyedOp i f))
         unfolding doneOf refusalOf
         bad-op t = rw op (misfits b 31 _ _ t)
 
-  module _ (x : Name) (n : x ≡ nameAt s S i) (p : ℕ) (e : p ≡ place x (split (bytes methods))) where
+  module _ (x : Name) (n : x ≡ nameAt s S i) (p : ℕ) (e : p ≡ indexIn x (split (bytes methods))) where
     pub method-most : p < 4
     unfolding split ended
     method-most = omega (arith, place-most x (wordsIn (methodTypes Int)))
@@ -298,28 +300,28 @@ module _ (s S : List ℕ) (i : ℕ) (keyed : Found) (h : Callee s S i keyed) whe
         rw (add-one f, k, its-type f k) refl in
         q ∙ rw (of-place (getTy (typeAt s (f + 1))) g, z) refl
 
-    pub no-get : p ≡ 2 → keyed ≡ Nothing → 1 ≡ code (methodTy (nameAt s S i) (foundField s keyed))
+    pub no-get : p ≡ 2 → keyed ≡ Nothing → codes.int ≡ code (methodTy (nameAt s S i) (foundField s keyed))
     unfolding tyOfGet foundField code
     no-get z k = rw (of-place Int (rw k refl), z) refl
 
   module _ (k : ℕ) (e : k ≡ kindAt S i) where
-    pub typed-method : (r : ℕ) → k ≡ 30 → r ≡ code (methodTy (nameAt s S i) (foundField s keyed)) → r ≡ code (callTy (foundField s keyed) (exprAt s i))
+    pub typed-method : (r : ℕ) → k ≡ kinds.dot → r ≡ code (methodTy (nameAt s S i) (foundField s keyed)) → r ≡ code (callTy (foundField s keyed) (exprAt s i))
     unfolding callTy
     typed-method r q f = f ∙ rw (callTy, is-dot (h .expr .loaded) (h .expr .here) e q) refl
 
-    module _ (q : k ≢ 30) (x : Name) (n : x ≡ nameAt s S i) (b : Bool) (w : b ≡ same x (bytes "mint")) where
-      mints : identIs (exprAt s i) "mint" ≡ (eqb k 21 && b)
+    module _ (q : k ≢ kinds.dot) (x : Name) (n : x ≡ nameAt s S i) (b : Bool) (w : b ≡ same x (bytes "mint")) where
+      mints : identIs (exprAt s i) "mint" ≡ (eqb k kinds.id && b)
       unfolding identIs is
-      mints = rw (identIs, ident-at (h .expr .loaded) (h .expr .here), ← e, ← n, w) (go (eqb k 21))
+      mints = rw (identIs, ident-at (h .expr .loaded) (h .expr .here), ← e, ← n, w) (by-cases (eqb k kinds.id))
         where
-          go : (t : Bool) → _≡_ {A = Bool} (elim (cond t (some x) none) [ none ↦ false | some y ↦ same y (bytes "mint") ]) (t && same x (bytes "mint"))
-          go true = refl
-          go false = refl
+          by-cases : (t : Bool) → _≡_ {A = Bool} (elim (cond t (some x) none) [ none ↦ false | some y ↦ same y (bytes "mint") ]) (t && same x (bytes "mint"))
+          by-cases true = refl
+          by-cases false = refl
 
-      pub minted : (eqb k 21 && b) ≡ true → 4 ≡ code (callTy (foundField s keyed) (exprAt s i))
+      pub minted : (eqb k kinds.id && b) ≡ true → codes.asset ≡ code (callTy (foundField s keyed) (exprAt s i))
       unfolding callTy code
       minted t = rw (callTy, not-dot (h .expr .loaded) (h .expr .here) e q, mints, t) refl
 
-      pub not-minted : (eqb k 21 && b) ≡ false → 10 ≡ code (callTy (foundField s keyed) (exprAt s i))
+      pub not-minted : (eqb k kinds.id && b) ≡ false → codes.unknown ≡ code (callTy (foundField s keyed) (exprAt s i))
       unfolding callTy code
       not-minted t = rw (callTy, not-dot (h .expr .loaded) (h .expr .here) e q, mints, t) refl

@@ -5,19 +5,19 @@ use mathlib.Core.List.{List, [], _∷_}
 use mathlib.Core.Path.{_≡_}
 use Rattle.rules.specs.Ast.{span}
 use Rattle.rules.specs.Asking.{Ty, Int, Asset, Unknown, Res, ok, refused, Rule, expect}
-use Rattle.rules.specs.Declared.{isTy}
+use Rattle.rules.specs.Types.{isTy}
 use Rattle.rules.specs.Typing.{judgeKey, amountText}
 use Rattle.rules.specs.Standing.{exprAt, fieldAt}
-use Rattle.declared.specs.Answers.{Answers}
-use Rattle.declared.specs.Codes.{IsCode, tyFrom}
-use Rattle.declared.specs.Lines.{ExprAt}
-use Rattle.declared.specs.Refusal.{dotAt, refusalOf, doneOf}
-use Rattle.declared.specs.declared.refusal.Refusal.{Refusal}
-use Rattle.declared.specs.declared.refusal.Done.{Done}
+use Rattle.refusals.specs.Answers.{Answers}
+use Rattle.lookups.specs.Lines.{ExprAt}
+use Rattle.refusals.specs.Refusal.{dotAt, refusalOf, doneOf}
+use Rattle.refusals.specs.declared.refusal.Refusal.{Refusal}
+use Rattle.refusals.specs.declared.refusal.Done.{Done}
 use Rattle.env.specs.Force.{envOf}
 use Rattle.env.specs.declared.env.Env.{Env}
 use Rattle.env.specs.declared.judge.Typed.{Typed}
 use Rattle.env.specs.declared.judge.Typed.the-variants.{Is, Refused}
+use Rattle.rules.specs.Kept.{IsCode, tyFrom}
 
 unfoldable pub typedOf : List ℕ → Typed → Res Ty
 typedOf s (Is c) = ok (tyFrom c)

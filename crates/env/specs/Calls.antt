@@ -10,23 +10,25 @@ use Rattle.sheet.specs.Tree.{Node}
 use Rattle.rules.specs.Text.{Name, is, isOne, pick}
 use Rattle.rules.specs.Ast.{Type', Expr, Field, typeName}
 use Rattle.rules.specs.Asking.{Ty, Int, Boolean, Asset, Time, Unknown, Rule, expect, ifSome}
-use Rattle.rules.specs.Declared.{declaredArg, isTy}
+use Rattle.rules.specs.Types.{declaredArg, isTy}
 use Rattle.rules.specs.Typing as typing
 use Rattle.rules.specs.Typing.{dotOf, identIs, keyedField, keyedOpFits, keyedOpText, tyOfGet}
 use Rattle.rules.specs.Standing.{exprAt}
-use Rattle.declared.specs.Found.{foundNode, foundField, Of}
-use Rattle.declared.specs.Lines.{ExprAt}
-use Rattle.declared.specs.declared.model.Found.{Found}
+use Rattle.lookups.specs.Found.{foundNode, foundField, FoundKind}
+use Rattle.lookups.specs.Lines.{ExprAt}
+use Rattle.lookups.specs.declared.model.Found.{Found}
 use Rattle.env.specs.Force.{envOf, keyedNode}
 use Rattle.env.specs.declared.env.Env.{Env}
+use Rattle.grammar.specs.Kinds as kinds
+use Rattle.rules.specs.Codes as codes
 
 -- the codes of a dot's type by the place of its name in the code's table, and of any other name
 abbrev pub dotCodes : List ℕ
-dotCodes = 1 ∷ 5 ∷ 7 ∷ 1 ∷ 10 ∷ []
+dotCodes = codes.int ∷ codes.word64 ∷ codes.time ∷ codes.int ∷ codes.unknown ∷ []
 
 -- ... of a call's type by its method; that of `get` is looked up
 abbrev pub methodCodes : List ℕ
-methodCodes = 2 ∷ 4 ∷ 1 ∷ 10 ∷ []
+methodCodes = codes.boolean ∷ codes.asset ∷ codes.int ∷ codes.unknown ∷ []
 
 -- how many arguments of a method are judged by declared types
 unfoldable pub wantsOf : Name → ℕ
@@ -43,17 +45,17 @@ keyedOf Γ callee = elim (dotOf callee) [ none ↦ none | some d ↦ keyedField 
 
 -- ... and its record
 unfoldable pub keyedRecord : List ℕ → List ℕ → Env → ℕ → Option Node
-keyedRecord s S env callee = cond (eqb (kindAt S callee) 30) (keyedNode s S env (suc callee)) none
+keyedRecord s S env callee = cond (eqb (kindAt S callee) kinds.dot) (keyedNode s S env (suc callee)) none
 
 pub record KeyedOf (s S : List ℕ) (env : Env) (callee : ℕ) (r : Found) : Type 0 where
   pub found : foundField s r ≡ keyedOf (envOf s [] env) (exprAt s callee)
   pub node : foundNode s r ≡ keyedRecord s S env callee
-  pub kind : Of S 6 r
+  pub kind : FoundKind S kinds.field r
 
 -- a callee stands at a line, and `keyed` is a field or nothing
 pub record Callee (s S : List ℕ) (callee : ℕ) (keyed : Found) : Type 0 where
   pub expr : ExprAt s S callee
-  pub kind : Of S 6 keyed
+  pub kind : FoundKind S kinds.field keyed
 
 -- `expectKeyedOp` of a callee that uses this Map or Registry, if any
 unfoldable pub opRule : Option Field → Expr → Rule Unit

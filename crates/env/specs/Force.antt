@@ -1,26 +1,26 @@
 -- The rules' `Env` of the code's, and what the code asks of it.
-use Prim.Native.Nat.{ℕ, suc, _/_, _≤_}
+use Prim.Native.Nat.{ℕ, suc, _≤_}
 use mathlib.Core.List.{List, [], _∷_, map}
 use mathlib.Core.Bool.{true, false}
 use mathlib.Core.Option.{Option, none, some}
 use mathlib.Core.Path.{_≡_}
 use lib.ListN.{length, getD}
 use Rattle.grammar.specs.Grammar as grammar
-use Rattle.sheet.specs.Scratch.{entry, skip}
+use Rattle.sheet.specs.Scratch.{skip, lineCount, itemCount}
 use Rattle.sheet.specs.Tree.{Node, node}
 use Rattle.rules.specs.Text.{Name, is, isOne, get, lastNamed}
 use Rattle.rules.specs.Ast.{lineAfter, fieldOf, paramOf, typeName}
 use Rattle.rules.specs.Asking.{Ty, Address, Unknown, code}
-use Rattle.rules.specs.Kept.{Table}
-use Rattle.rules.specs.Declared.{tyOfDecl}
+use Rattle.rules.specs.Kept.{Table, tyFrom}
+use Rattle.rules.specs.Types.{tyOfDecl}
 use Rattle.rules.specs.Model.{fieldNamed}
 use Rattle.rules.specs.Typing as typing
 use Rattle.rules.specs.Check.{paramTypes}
 use Rattle.rules.specs.Standing.{nodeName, nodesAt, exprAt, modelIn, Loaded, Here, Row}
-use Rattle.declared.specs.Codes.{tyFrom}
-use Rattle.declared.specs.Found.{ofKind, allFields, foundNode, foundField, Of}
-use Rattle.declared.specs.declared.model.Found.{Found}
+use Rattle.lookups.specs.Found.{ofKind, allFields, foundNode, foundField, FoundKind}
+use Rattle.lookups.specs.declared.model.Found.{Found}
 use Rattle.env.specs.declared.env.Env.{Env}
+use Rattle.grammar.specs.Kinds as kinds
 
 unfoldable pub paramsIn : List ℕ → Env → List (Name × Ty)
 paramsIn s env = paramTypes (map paramOf (nodesAt s (env .count) (env .params)))
@@ -34,7 +34,7 @@ unfoldable pub namedEnd : List ℕ → Node → Name × ℕ
 namedEnd s (node i l ps) = (l .name, lineAfter (exprAt s (suc i)))
 
 unfoldable pub lets : List ℕ → (count line : ℕ) → List Node
-lets s m i = ofKind 16 (nodesAt s m i)
+lets s m i = ofKind kinds.let' (nodesAt s m i)
 
 -- the bound `let`s, each with the first line behind it
 unfoldable pub endsIn : List ℕ → Env → List (Name × ℕ)
@@ -67,7 +67,7 @@ pub record ExprIn (s S : List ℕ) (env : Env) (i : ℕ) : Type 0 where
 -- the lines of an `Env` are there, and the table has a byte a line
 pub record Ready (s S : List ℕ) (env : Env) (T : Table) : Type 0 where
   pub force : InForce s S env
-  pub room : length S / 8 ≤ length T
+  pub room : lineCount S ≤ length T
 
 -- ------------------------------------------------------------ what is found
 
@@ -86,7 +86,7 @@ unfoldable pub fieldNode : List ℕ → List ℕ → Env → ℕ → Option Node
 fieldNode s S env i =
     elim (typing.identOf (exprAt s i)) [
       | none ↦ none
-      | some x ↦ elim (get x (paramsIn s env)) [ some t ↦ none | none ↦ lastNamed nodeName x (allFields (nodesAt s (entry S 0 5) 1)) ]
+      | some x ↦ elim (get x (paramsIn s env)) [ some t ↦ none | none ↦ lastNamed nodeName x (allFields (nodesAt s (itemCount S 0) 1)) ]
     ]
 
 -- ... where it is a Map or Registry
@@ -99,11 +99,11 @@ keyedNode s S env i =
 
 -- No local changes these, so the table is left out.
 pub record FieldFound (s S : List ℕ) (env : Env) (i : ℕ) (r : Found) : Type 0 where
-  pub found : foundField s r ≡ typing.fieldOf (envOf s [] env) (exprAt s i)
+  pub found : foundField s r ≡ typing.stateFieldOf (envOf s [] env) (exprAt s i)
   pub node : foundNode s r ≡ fieldNode s S env i
-  pub kind : Of S 6 r
+  pub kind : FoundKind S kinds.field r
 
 pub record KeyedFound (s S : List ℕ) (env : Env) (i : ℕ) (r : Found) : Type 0 where
   pub found : foundField s r ≡ typing.keyedField (envOf s [] env) (exprAt s i)
   pub node : foundNode s r ≡ keyedNode s S env i
-  pub kind : Of S 6 r
+  pub kind : FoundKind S kinds.field r

@@ -2,14 +2,16 @@
 use crate::env::Env;
 use crate::env::is_pool;
 use crate::env::keyed_field;
-use declared::Done;
-use declared::Found;
-use declared::Refusal;
-use declared::declared_arg;
+use grammar::kinds;
+use lookups::Found;
+use lookups::declared_arg;
+use refusals::Done;
+use refusals::Refusal;
+use rules::codes;
 use sheet::kind;
 use sheet::name;
+use text::index_in;
 use text::is_word;
-use text::place_in;
 ghost use mathlib.Core.List.{[], _∷_};
 ghost use mathlib.Core.Path.{_≡_};
 ghost use Prim.Native.Nat.{_<_};
@@ -19,10 +21,10 @@ ghost use Rattle.rules.specs.Standing.{exprAt, typeAt};
 ghost use Rattle.rules.specs.Text.{isOne};
 ghost use Rattle.rules.specs.Typing.{expectAssetReceiver, keyedOpFits, tyOfDot};
 ghost use Rattle.sheet.specs.Scratch.{nameAt};
-ghost use Rattle.declared.specs.Answers.{Answers};
-ghost use Rattle.declared.specs.Found.{foundField};
-ghost use Rattle.declared.specs.Lines.{Typed};
-ghost use Rattle.declared.specs.Refusal.{doneOf};
+ghost use Rattle.refusals.specs.Answers.{Answers};
+ghost use Rattle.lookups.specs.Found.{foundField};
+ghost use Rattle.lookups.specs.Lines.{TypeAt};
+ghost use Rattle.refusals.specs.Refusal.{doneOf};
 ghost use Rattle.env.specs.Calls.{Callee, callTy, dotCodes, getTy, KeyedOf, methodCodes, methodTy, opRule, wantsOf};
 ghost use Rattle.env.specs.Force.{envOf, ExprIn};
 
@@ -30,7 +32,7 @@ ghost use Rattle.env.specs.Force.{envOf, ExprIn};
 pub fn ty_of_dot(x: &[u8]) -> u8
     ensures { λ r. ⌜ r ≡ code (tyOfDot (now (x .entry))) ⌝ }
 {
-    dot_code(place_in(x, b"amount signer_bits first len "))
+    dot_code(index_in(x, b"amount signer_bits first len "))
 }
 
 fn dot_code(place: usize) -> u8
@@ -40,7 +42,13 @@ fn dot_code(place: usize) -> u8
     DOTS[place]
 }
 
-const DOTS: [u8; 5] = [1, 5, 7, 1, 10];
+const DOTS: [u8; 5] = [
+    codes::INT,
+    codes::WORD64,
+    codes::TIME,
+    codes::INT,
+    codes::UNKNOWN,
+];
 
 // How many arguments of this method are judged by the types that the Map or Registry declares.
 pub fn wants(method: &[u8]) -> usize
@@ -49,7 +57,7 @@ pub fn wants(method: &[u8]) -> usize
     if is_word(method, b"set") {
         return 2;
     }
-    if place_in(method, b"insert remove contains get credit debit ") < 6 {
+    if index_in(method, b"insert remove contains get credit debit ") < 6 {
         1
     } else {
         0
@@ -68,7 +76,7 @@ pub fn keyed_of(sheet: &[u8], lines: &[u16], env: Env, callee: usize) -> Found
     requires { ⌜ ExprIn (now sheet) (now lines) env callee ⌝ }
     ensures { λ r. ⌜ KeyedOf (now (sheet .entry)) (now (lines .entry)) env callee r ⌝ }
 {
-    if kind(lines, callee) != 30 {
+    if kind(lines, callee) != kinds::DOT {
         return Found::Nothing;
     }
     keyed_field(sheet, lines, env, callee + 1)
@@ -79,10 +87,10 @@ pub fn expect_asset_receiver(sheet: &[u8], lines: &[u16], env: Env, callee: usiz
     requires { ⌜ ExprIn (now sheet) (now lines) env callee ⌝ }
     ensures { λ r. ⌜ Answers (expectAssetReceiver (envOf (now (sheet .entry)) [] env) (exprAt (now (sheet .entry)) callee)) (doneOf (now (sheet .entry)) r) ⌝ }
 {
-    if kind(lines, callee) != 30 {
+    if kind(lines, callee) != kinds::DOT {
         return Done::Fine;
     }
-    if place_in(name(sheet, lines, callee), b"merge split ") == 2 {
+    if index_in(name(sheet, lines, callee), b"merge split ") == 2 {
         return Done::Fine;
     }
     if is_pool(sheet, lines, env, callee + 1) {
@@ -94,16 +102,16 @@ pub fn expect_asset_receiver(sheet: &[u8], lines: &[u16], env: Env, callee: usiz
 
 // Whether the Map or Registry of the type at line ty has the method.
 fn keyed_op_fits(sheet: &[u8], lines: &[u16], ty: usize, method: &[u8]) -> bool
-    requires { ⌜ Typed (now sheet) (now lines) ty ⌝ }
+    requires { ⌜ TypeAt (now sheet) (now lines) ty ⌝ }
     ensures { λ r. ⌜ r ≡ keyedOpFits (typeAt (now (sheet .entry)) ty) (now (method .entry)) ⌝ }
 {
     if is_word(name(sheet, lines, ty), b"Registry") {
-        return place_in(method, b"insert remove contains ") < 3;
+        return index_in(method, b"insert remove contains ") < 3;
     }
-    if place_in(method, b"set get contains remove ") < 4 {
+    if index_in(method, b"set get contains remove ") < 4 {
         return true;
     }
-    moves_amount(method) & (declared_arg(sheet, lines, ty, 1) == 1)
+    moves_amount(method) & (declared_arg(sheet, lines, ty, 1) == codes::INT)
 }
 
 // `expect_keyed_op`: the Map or Registry that the callee uses, if any, has the method.
@@ -111,7 +119,7 @@ pub fn expect_keyed_op(sheet: &[u8], lines: &[u16], callee: usize, keyed: Found)
     requires { ⌜ Callee (now sheet) (now lines) callee keyed ⌝ }
     ensures { λ r. ⌜ Answers (opRule (foundField (now (sheet .entry)) keyed) (exprAt (now (sheet .entry)) callee)) (doneOf (now (sheet .entry)) r) ⌝ }
 {
-    if kind(lines, callee) != 30 {
+    if kind(lines, callee) != kinds::DOT {
         return Done::Fine;
     }
     match keyed {
@@ -126,17 +134,17 @@ pub fn expect_keyed_op(sheet: &[u8], lines: &[u16], callee: usize, keyed: Found)
     }
 }
 
-// The type that `get` gives on the Map or Registry at line field.
+// The type that `get` gives on a Map or Registry, whose declared type stands at line ty.
 fn ty_of_get(sheet: &[u8], lines: &[u16], ty: usize) -> u8
-    requires { ⌜ Typed (now sheet) (now lines) ty ⌝ }
+    requires { ⌜ TypeAt (now sheet) (now lines) ty ⌝ }
     ensures { λ r. ⌜ r ≡ code (getTy (typeAt (now (sheet .entry)) ty)) ⌝ }
 {
     if !is_word(name(sheet, lines, ty), b"Map") {
-        return 1;
+        return codes::INT;
     }
     let value = declared_arg(sheet, lines, ty, 1);
-    if (value == 10) | (value == 7) {
-        1
+    if (value == codes::UNKNOWN) | (value == codes::TIME) {
+        codes::INT
     } else {
         value
     }
@@ -147,13 +155,13 @@ fn ty_of_method(sheet: &[u8], lines: &[u16], callee: usize, keyed: Found) -> u8
     requires { ⌜ Callee (now sheet) (now lines) callee keyed ⌝ }
     ensures { λ r. ⌜ r ≡ code (methodTy (nameAt (now (sheet .entry)) (now (lines .entry)) callee) (foundField (now (sheet .entry)) keyed)) ⌝ }
 {
-    let place = place_in(name(sheet, lines, callee), b"contains split get ");
+    let place = index_in(name(sheet, lines, callee), b"contains split get ");
     if place != 2 {
         return method_code(place);
     }
     match keyed {
         Found::At(field) => ty_of_get(sheet, lines, field + 1),
-        Found::Nothing => 1,
+        Found::Nothing => codes::INT,
     }
 }
 
@@ -164,7 +172,7 @@ fn method_code(place: usize) -> u8
     METHODS[place]
 }
 
-const METHODS: [u8; 4] = [2, 4, 1, 10];
+const METHODS: [u8; 4] = [codes::BOOLEAN, codes::ASSET, codes::INT, codes::UNKNOWN];
 
 // `ty_of_call`: the type of a call, by its callee.
 pub fn ty_of_call(sheet: &[u8], lines: &[u16], callee: usize, keyed: Found) -> u8
@@ -172,12 +180,12 @@ pub fn ty_of_call(sheet: &[u8], lines: &[u16], callee: usize, keyed: Found) -> u
     ensures { λ r. ⌜ r ≡ code (callTy (foundField (now (sheet .entry)) keyed) (exprAt (now (sheet .entry)) callee)) ⌝ }
 {
     let k = kind(lines, callee);
-    if k == 30 {
+    if k == kinds::DOT {
         return ty_of_method(sheet, lines, callee, keyed);
     }
-    if (k == 21) & is_word(name(sheet, lines, callee), b"mint") {
-        4
+    if (k == kinds::ID) & is_word(name(sheet, lines, callee), b"mint") {
+        codes::ASSET
     } else {
-        10
+        codes::UNKNOWN
     }
 }

@@ -1,9 +1,11 @@
 // `Env` and its lookups by name.
-use declared::Found;
-use declared::field_named;
-use declared::last_named;
-use declared::ty_of_decl;
-use declared::type_code;
+use grammar::kinds;
+use lookups::Found;
+use lookups::field_named;
+use lookups::last_named;
+use lookups::ty_of_decl;
+use lookups::type_code;
+use rules::codes;
 use sheet::kind;
 use sheet::name;
 use text::is_word;
@@ -31,7 +33,7 @@ fn param(sheet: &[u8], lines: &[u16], env: Env, x: &[u8]) -> u8
     requires { ⌜ InForce (now sheet) (now lines) env ⌝ }
     ensures { λ r. ⌜ r ≡ markOf (get (now (x .entry)) (paramsIn (now (sheet .entry)) env)) ⌝ }
 {
-    match last_named(sheet, lines, 7, x, env.params, env.count) {
+    match last_named(sheet, lines, kinds::PARAM, x, env.params, env.count) {
         Found::At(i) => ty_of_decl(sheet, lines, i + 1),
         Found::Nothing => 0,
     }
@@ -44,7 +46,13 @@ fn ty_of_field(sheet: &[u8], lines: &[u16], x: &[u8]) -> u8
 {
     match field_named(sheet, lines, x) {
         Found::At(i) => ty_of_decl(sheet, lines, i + 1),
-        Found::Nothing => { if is_word(x, b"deployer") { 3 } else { 10 } }
+        Found::Nothing => {
+            if is_word(x, b"deployer") {
+                codes::ADDRESS
+            } else {
+                codes::UNKNOWN
+            }
+        }
     }
 }
 
@@ -57,7 +65,7 @@ pub fn ty_of_ident(sheet: &[u8], lines: &[u16], env: Env, table: &[u8], x: &[u8]
     if ty != 0 {
         return ty;
     }
-    match last_named(sheet, lines, 16, x, env.body, env.bound) {
+    match last_named(sheet, lines, kinds::LET, x, env.body, env.bound) {
         Found::At(i) => type_code(table[i + 1]),
         Found::Nothing => ty_of_field(sheet, lines, x),
     }
@@ -68,10 +76,10 @@ pub fn is_name_param(sheet: &[u8], lines: &[u16], env: Env, i: usize) -> bool
     requires { ⌜ ExprIn (now sheet) (now lines) env i ⌝ }
     ensures { λ r. ⌜ r ≡ isNameParam (envOf (now (sheet .entry)) [] env) (exprAt (now (sheet .entry)) i) ⌝ }
 {
-    if kind(lines, i) != 21 {
+    if kind(lines, i) != kinds::ID {
         return false;
     }
-    param(sheet, lines, env, name(sheet, lines, i)) == 6
+    param(sheet, lines, env, name(sheet, lines, i)) == codes::NAME
 }
 
 // The state field of the bare name at line i, which no parameter has; a local doesn't hide it.
@@ -79,7 +87,7 @@ fn field_of(sheet: &[u8], lines: &[u16], env: Env, i: usize) -> Found
     requires { ⌜ ExprIn (now sheet) (now lines) env i ⌝ }
     ensures { λ r. ⌜ FieldFound (now (sheet .entry)) (now (lines .entry)) env i r ⌝ }
 {
-    if kind(lines, i) != 21 {
+    if kind(lines, i) != kinds::ID {
         return Found::Nothing;
     }
     let x = name(sheet, lines, i);

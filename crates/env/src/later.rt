@@ -1,7 +1,8 @@
-// Document 01's exception for `let`s: a line whose kept type is not the answer.
+// The exception for `let`s: a line whose kept type is not the answer.
 use crate::env::Env;
-use declared::Found;
-use declared::last_named;
+use grammar::kinds;
+use lookups::Found;
+use lookups::last_named;
 use sheet::end;
 use sheet::kind;
 use sheet::name;
@@ -15,19 +16,20 @@ ghost use Rattle.rules.specs.Text.{among};
 ghost use Rattle.rules.specs.Typing.{later};
 ghost use Rattle.rules.specs.Typing.{stale as staleOf};
 ghost use Rattle.env.specs.Force.{endsIn, envOf, ExprIn, InForce};
+ghost use Rattle.grammar.specs.Kinds as kinds;
 
 // Whether line at is an `id` with the name of a bound `let` that ends behind line i. Of those of a name the last ends last.
 fn is_later(sheet: &[u8], lines: &[u16], env: Env, i: usize, at: usize) -> bool
     requires { ⌜ InForce (now sheet) (now lines) env ⌝ }
-    ensures { λ r. ⌜ r ≡ (eqb (kindAt (now (lines .entry)) at) 21 && among (nameAt (now (sheet .entry)) (now (lines .entry)) at) (later i (endsIn (now (sheet .entry)) env))) ⌝ }
+    ensures { λ r. ⌜ r ≡ (eqb (kindAt (now (lines .entry)) at) kinds.id && among (nameAt (now (sheet .entry)) (now (lines .entry)) at) (later i (endsIn (now (sheet .entry)) env))) ⌝ }
 {
-    if kind(lines, at) != 21 {
+    if kind(lines, at) != kinds::ID {
         return false;
     }
     match last_named(
         sheet,
         lines,
-        16,
+        kinds::LET,
         name(sheet, lines, at),
         env.body,
         env.bound,

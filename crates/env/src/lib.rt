@@ -1,4 +1,4 @@
-// What is in force where a type is asked, and the judging of types: of module 4 what asks nothing itself.
+// What is in force where a type is asked, and the judging of types. Nothing here asks a type.
 mod call;
 mod env;
 mod judge;

@@ -10,9 +10,9 @@ use lib.Dec.{eqb, ltb}
 use lib.ListN.{length, getD}
 use Prim.Native.String.{String}
 use Rattle.text.specs.Text.{bytes, ended, same}
-use Rattle.text.specs.Word.{place, split}
+use Rattle.text.specs.Word.{indexIn, split}
 use Rattle.text.proofs.Words.{same-is}
-use Rattle.grammar.specs.Grammar.{assignOps, unOps, binOps, Sort, Contract, Item, Field, Param, Ty, Arg, Clause, Stmt, Expr, rows, none, first, within, wordsOf, kindFor}
+use Rattle.grammar.specs.Grammar.{assignOps, unOps, binOps, Sort, Contract, Item, Field, Param, Ty, Arg, Clause, Stmt, Expr, recordsFor, noKind, firstKind, within, wordsOf, kindFor}
 use Rattle.grammar.specs.Table.{sortOf}
 
 -- the words of a sort's records, as the code has them
@@ -27,7 +27,7 @@ table Clause = "limits denies mints after "
 table Stmt = "guard let emit assign do "
 table Expr = "int id date str caller native inasset now un bin dot call checked wrapping "
 
-pub words-of : (s : Sort) → split (bytes (table s)) ≡ wordsOf (rows s)
+pub words-of : (s : Sort) → split (bytes (table s)) ≡ wordsOf (recordsFor s)
 unfolding split ended
 words-of Contract = refl
 words-of Item = refl
@@ -55,45 +55,45 @@ bin-words = refl
 -- whether the words vs stand in ws at the places from k on
 standing : List (List ℕ) → ℕ → List (List ℕ) → Bool
 standing ws k [] = true
-standing ws k (v ∷ vs) = eqb (place v ws) k && standing ws (suc k) vs
+standing ws k (v ∷ vs) = eqb (indexIn v ws) k && standing ws (suc k) vs
 
-stands : (ws : List (List ℕ)) (k : ℕ) (vs : List (List ℕ)) (i : ℕ) → standing ws k vs ≡ true → i < length vs → place (getD vs i []) ws ≡ k + i
+stands : (ws : List (List ℕ)) (k : ℕ) (vs : List (List ℕ)) (i : ℕ) → standing ws k vs ≡ true → i < length vs → indexIn (getD vs i []) ws ≡ k + i
 unfolding standing
 stands ws k [] i e h = absurd (omega arith)
-stands ws k (v ∷ vs) zero e h = go (eqb (place v ws) k) refl e
+stands ws k (v ∷ vs) zero e h = by-cases (eqb (indexIn v ws) k) refl e
   where
-    go : (t : Bool) → eqb (place v ws) k ≡ t → t && standing ws (suc k) vs ≡ true → place v ws ≡ k + 0
-    go true q f = omega (arith, eqb-true (place v ws) k q)
-    go false q f = absurd (true≢false (sym f))
-stands ws k (v ∷ vs) (suc i) e h = go (eqb (place v ws) k) e (λ f. stands ws (suc k) vs i f (omega arith))
+    by-cases : (t : Bool) → eqb (indexIn v ws) k ≡ t → t && standing ws (suc k) vs ≡ true → indexIn v ws ≡ k + 0
+    by-cases true q f = omega (arith, eqb-true (indexIn v ws) k q)
+    by-cases false q f = absurd (true≢false (sym f))
+stands ws k (v ∷ vs) (suc i) e h = by-cases (eqb (indexIn v ws) k) e (λ f. stands ws (suc k) vs i f (omega arith))
   where
-    go : (t : Bool) → t && standing ws (suc k) vs ≡ true → (standing ws (suc k) vs ≡ true → place (getD vs i []) ws ≡ suc k + i)
-        → place (getD vs i []) ws ≡ k + suc i
-    go true f g = omega (arith, g f)
-    go false f g = absurd (true≢false (sym f))
+    by-cases : (t : Bool) → t && standing ws (suc k) vs ≡ true → (standing ws (suc k) vs ≡ true → indexIn (getD vs i []) ws ≡ suc k + i)
+        → indexIn (getD vs i []) ws ≡ k + suc i
+    by-cases true f g = omega (arith, g f)
+    by-cases false f g = absurd (true≢false (sym f))
 
 -- A word is tried, the one at place k: r is k where the field w is that word, else the number of words.
-tried : (ws : List (List ℕ)) → standing ws 0 ws ≡ true → (w : List ℕ) (k r : ℕ) → r ≡ cond (same w (getD ws k [])) k (length ws) → r < length ws → r ≡ place w ws
-tried ws o w k r e h = go (same w (getD ws k [])) refl e
+tried : (ws : List (List ℕ)) → standing ws 0 ws ≡ true → (w : List ℕ) (k r : ℕ) → r ≡ cond (same w (getD ws k [])) k (length ws) → r < length ws → r ≡ indexIn w ws
+tried ws o w k r e h = by-cases (same w (getD ws k [])) refl e
   where
-    go : (t : Bool) → same w (getD ws k []) ≡ t → r ≡ cond t k (length ws) → r ≡ place w ws
-    go true s q = rw (same-is w (getD ws k []) s) (omega (arith, stands ws 0 ws k o (omega arith)))
-    go false s q = absurd (omega arith)
+    by-cases : (t : Bool) → same w (getD ws k []) ≡ t → r ≡ cond t k (length ws) → r ≡ indexIn w ws
+    by-cases true s q = rw (same-is w (getD ws k []) s) (omega (arith, stands ws 0 ws k o (omega arith)))
+    by-cases false s q = absurd (omega arith)
 
-pub tried-expr : (w : List ℕ) (k r : ℕ) → r ≡ cond (same w (getD (wordsOf (rows Expr)) k [])) k 14 → r < 14 → r ≡ place w (wordsOf (rows Expr))
-unfolding place same standing
-tried-expr = tried (wordsOf (rows Expr)) refl
+pub tried-expr : (w : List ℕ) (k r : ℕ) → r ≡ cond (same w (getD (wordsOf (recordsFor Expr)) k [])) k 14 → r < 14 → r ≡ indexIn w (wordsOf (recordsFor Expr))
+unfolding indexIn same standing
+tried-expr = tried (wordsOf (recordsFor Expr)) refl
 
-pub tried-bin : (w : List ℕ) (k r : ℕ) → r ≡ cond (same w (getD binOps k [])) k 14 → r < 14 → r ≡ place w binOps
-unfolding place same standing
+pub tried-bin : (w : List ℕ) (k r : ℕ) → r ≡ cond (same w (getD binOps k [])) k 14 → r < 14 → r ≡ indexIn w binOps
+unfolding indexIn same standing
 tried-bin = tried binOps refl
 
-pub kind-at : (s : Sort) (w : List ℕ) (p r : ℕ) → p ≡ place w (wordsOf (rows s)) → r ≡ within (first s) (length (rows s)) p → r ≡ kindFor s w
+pub kind-at : (s : Sort) (w : List ℕ) (p r : ℕ) → p ≡ indexIn w (wordsOf (recordsFor s)) → r ≡ within (firstKind s) (length (recordsFor s)) p → r ≡ kindFor s w
 unfolding kindFor
 kind-at s w p r f g = g ∙ rw f
 
 -- an arm of `kind_for`
-pub kind-arm : (s : Sort) (w : List ℕ) (p r : ℕ) → p ≡ place w (split (bytes (table s))) → r ≡ within (first s) (length (rows s)) p → r ≡ kindFor s w
+pub kind-arm : (s : Sort) (w : List ℕ) (p r : ℕ) → p ≡ indexIn w (split (bytes (table s))) → r ≡ within (firstKind s) (length (recordsFor s)) p → r ≡ kindFor s w
 kind-arm s w p r f g = kind-at s w p r (f ∙ rw (words-of s)) g
 
 -- the numbers that have no arm of their own
@@ -108,19 +108,19 @@ other-sort (suc (suc (suc (suc (suc (suc zero)))))) a b c d e f g h = absurd (g 
 other-sort (suc (suc (suc (suc (suc (suc (suc zero))))))) a b c d e f g h = absurd (h refl)
 other-sort (suc (suc (suc (suc (suc (suc (suc (suc n)))))))) a b c d e f g h = refl
 
-within-most : (k n p : ℕ) → k + n ≤ none → within k n p ≤ none
-within-most k n p h = go (ltb p n) refl
+within-most : (k n p : ℕ) → k + n ≤ noKind → within k n p ≤ noKind
+within-most k n p h = by-cases (ltb p n) refl
   where
-    go : (t : Bool) → ltb p n ≡ t → cond t (k + p) none ≤ none
-    go true e = omega (arith, ltb-true p n e)
-    go false e = omega arith
+    by-cases : (t : Bool) → ltb p n ≡ t → cond t (k + p) noKind ≤ noKind
+    by-cases true e = omega (arith, ltb-true p n e)
+    by-cases false e = omega arith
 
--- a kind that isn't `none` is a record's
-pub kind-known : (s : Sort) (w : List ℕ) (k : ℕ) → k ≡ kindFor s w → k ≢ none → k < none
+-- a kind that isn't `noKind` is a record's
+pub kind-known : (s : Sort) (w : List ℕ) (k : ℕ) → k ≡ kindFor s w → k ≢ noKind → k < noKind
 unfolding kindFor
-kind-known s w k e h = omega (arith, rw (← e) at (within-most (first s) (length (rows s)) (place w (wordsOf (rows s))) (room s)))
+kind-known s w k e h = omega (arith, rw (← e) at (within-most (firstKind s) (length (recordsFor s)) (indexIn w (wordsOf (recordsFor s))) (room s)))
   where
-    room : (s : Sort) → first s + length (rows s) ≤ none
+    room : (s : Sort) → firstKind s + length (recordsFor s) ≤ noKind
     room Contract = omega arith
     room Item = omega arith
     room Field = omega arith

@@ -8,11 +8,11 @@ use lib.Dec.{leb}
 use lib.ListN.{length, getD, List·getD-append}
 use lib.Seq.{getD-append-add}
 use borrow.Author.Tests.{leb-true}
-use Rattle.grammar.specs.Grammar.{Rule, span, name, text, assignOp, unOp, binOp, count, flag, Row, records, rowOf}
-use Rattle.grammar.specs.Table.{ruleNumbers, toldSorts, three, tableOf, ruleTable, lengthTable, numbersOf, sortTable, sortNumbers, groupSorts}
+use Rattle.grammar.specs.Grammar.{Expr, noKind, Rule, span, name, text, assignOp, unOp, binOp, count, flag, Record, records, recordOf}
+use Rattle.grammar.specs.Table.{ruleNumbers, toldSorts, mostFields, mostGroups, three, four, sortNumber, tableOf, ruleTable, lengthTable, numbersOf, sortTable, sortNumbers, groupSorts}
 
 -- entry j of row k of a table whose rows have w entries
-pub table-at : {A : Type 0} (f : Row → List A) (w : ℕ) (d : A) (none : Row) → ((r : Row) → length (f r) ≡ w) → (rs : List Row) (k j : ℕ) → k < length rs → j < w
+pub table-at : {A : Type 0} (f : Record → List A) (w : ℕ) (d : A) (none : Record) → ((r : Record) → length (f r) ≡ w) → (rs : List Record) (k j : ℕ) → k < length rs → j < w
     → getD (tableOf f rs) (w * k + j) d ≡ getD (f (getD rs k none)) j d
 table-at f w d none e [] k j hk hj = absurd (omega arith)
 table-at f w d none e (r ∷ rs) zero j hk hj =
@@ -21,18 +21,19 @@ table-at f w d none e (r ∷ rs) (suc k) j hk hj =
     rw (let q : w * suc k + j ≡ length (f r) + (w * k + j) = omega (arith, e r) in q)
     (getD-append-add (f r) (tableOf f rs) (w * k + j) d ∙ table-at f w d none e rs k j (omega arith) hj)
 
-three-at : (xs : List ℕ) (j : ℕ) → j < 3 → getD (three 0 xs) j 0 ≡ getD xs j 0
-three-at xs zero h = refl
-three-at xs (suc zero) h = refl
-three-at xs (suc (suc zero)) h = refl
-three-at xs (suc (suc (suc j))) h = absurd (omega arith)
+four-at : (xs : List ℕ) (j : ℕ) → j < mostFields → getD (four 0 xs) j 0 ≡ getD xs j 0
+four-at xs zero h = refl
+four-at xs (suc zero) h = refl
+four-at xs (suc (suc zero)) h = refl
+four-at xs (suc (suc (suc zero))) h = refl
+four-at xs (suc (suc (suc (suc j)))) h = absurd (omega arith)
 
-pub rule-at : (k j : ℕ) → k < 34 → j < 3 → getD ruleTable (3 * k + j) 0 ≡ getD (numbersOf k) j 0
+pub rule-at : (k j : ℕ) → k < noKind → j < mostFields → getD ruleTable (mostFields * k + j) 0 ≡ getD (numbersOf k) j 0
 rule-at k j hk hj =
-    table-at (λ r. three 0 (ruleNumbers (length (r .always)) (r .rules))) 3 0 _ (λ r. refl) records k j hk hj ∙ three-at (numbersOf k) j hj
+    table-at (λ r. four 0 (ruleNumbers (length (r .always)) (r .rules))) mostFields 0 _ (λ r. refl) records k j hk hj ∙ four-at (numbersOf k) j hj
 
 -- a table of one number a record
-pub number-at : (f : Row → ℕ) (k : ℕ) → k < 34 → getD (tableOf (λ r. f r ∷ []) records) k 0 ≡ f (rowOf k)
+pub number-at : (f : Record → ℕ) (k : ℕ) → k < noKind → getD (tableOf (λ r. f r ∷ []) records) k 0 ≡ f (recordOf k)
 number-at f k h =
     ap (λ i. getD (tableOf (λ r. f r ∷ []) records) i 0) (let q : k ≡ 1 * k + 0 = omega arith in q)
     ∙ table-at (λ r. f r ∷ []) 1 0 _ (λ r. refl) records k 0 h (omega arith)
@@ -49,35 +50,35 @@ numbers-length g (binOp ∷ rs) = ap suc (numbers-length g rs)
 numbers-length g (count s ∷ rs) = ap suc (numbers-length (suc g) rs)
 numbers-length g (flag s ∷ rs) = ap suc (numbers-length (suc g) rs)
 
-pub numbers-count : (k : ℕ) → length (numbersOf k) ≡ length (rowOf k .rules)
-numbers-count k = numbers-length (length (rowOf k .always)) (rowOf k .rules)
+pub numbers-count : (k : ℕ) → length (numbersOf k) ≡ length (recordOf k .rules)
+numbers-count k = numbers-length (length (recordOf k .always)) (recordOf k .rules)
 
-abbrev pub every : (Row → Bool) → List Row → Bool
+abbrev pub every : (Record → Bool) → List Record → Bool
 every t [] = true
 every t (r ∷ rs) = t r && every t rs
 
 -- what every row passes, the row at a place passes
-at-place : (t : Row → Bool) (none : Row) (rs : List Row) (k : ℕ) → every t rs ≡ true → k < length rs → t (getD rs k none) ≡ true
+pub at-place : (t : Record → Bool) (none : Record) (rs : List Record) (k : ℕ) → every t rs ≡ true → k < length rs → t (getD rs k none) ≡ true
 at-place t none [] k e h = absurd (omega arith)
 at-place t none (r ∷ rs) zero e h = and-eq-true-iff (t r) (every t rs) .0 e .0
 at-place t none (r ∷ rs) (suc k) e h = at-place t none rs k (and-eq-true-iff (t r) (every t rs) .0 e .1) (omega arith)
 
 -- a number of a record that is at most n in all of them
-pub at-most : (f : Row → ℕ) (n k : ℕ) → every (λ r. leb (f r) n) records ≡ true → k < 34 → f (rowOf k) ≤ n
-at-most f n k e h = leb-true (f (rowOf k)) n (at-place (λ r. leb (f r) n) _ records k e h)
+pub at-most : (f : Record → ℕ) (n k : ℕ) → every (λ r. leb (f r) n) records ≡ true → k < noKind → f (recordOf k) ≤ n
+at-most f n k e h = leb-true (f (recordOf k)) n (at-place (λ r. leb (f r) n) _ records k e h)
 
 -- how many fields a record has
-pub fields-at : (k n : ℕ) → k < 34 → n ≡ getD lengthTable k 0 → (n ≡ length (rowOf k .rules)) × (n ≤ 3)
+pub fields-at : (k n : ℕ) → k < noKind → n ≡ getD lengthTable k 0 → (n ≡ length (recordOf k .rules)) × (n ≤ mostFields)
 fields-at k n h e =
     let f = e ∙ number-at (λ r. length (r .rules)) k h in
-    (f, rw f (at-most (λ r. length (r .rules)) 3 k refl h))
+    (f, rw f (at-most (λ r. length (r .rules)) mostFields k refl h))
 
-pub few-always : (k : ℕ) → k < 34 → length (rowOf k .always) ≤ 1
+pub few-always : (k : ℕ) → k < noKind → length (recordOf k .always) ≤ 1
 few-always k = at-most (λ r. length (r .always)) 1 k refl
 
-pub few-parts : (k : ℕ) → k < 34 → length (rowOf k .always) + length (toldSorts (rowOf k .rules)) ≤ 3
-few-parts k = at-most (λ r. length (r .always) + length (toldSorts (r .rules))) 3 k refl
+pub few-parts : (k : ℕ) → k < noKind → length (recordOf k .always) + length (toldSorts (recordOf k .rules)) ≤ mostGroups
+few-parts k = at-most (λ r. length (r .always) + length (toldSorts (r .rules))) mostGroups k refl
 
 -- the sort of a record's parts, by groups
-pub sort-at : (k g : ℕ) → k < 34 → g < 3 → getD sortTable (3 * k + g) 0 ≡ getD (three 8 (sortNumbers (groupSorts (rowOf k)))) g 0
-sort-at k g h j = table-at (λ r. three 8 (sortNumbers (groupSorts r))) 3 0 _ (λ r. refl) records k g h j
+pub sort-at : (k g : ℕ) → k < noKind → g < mostGroups → getD sortTable (mostGroups * k + g) 0 ≡ getD (three (sortNumber Expr) (sortNumbers (groupSorts (recordOf k)))) g 0
+sort-at k g h j = table-at (λ r. three (sortNumber Expr) (sortNumbers (groupSorts r))) mostGroups 0 _ (λ r. refl) records k g h j

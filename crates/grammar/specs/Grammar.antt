@@ -1,4 +1,4 @@
--- The records of a sheet: document 01, 'The sheet', as tables.
+-- The records of a sheet as tables: of each its word, its fields, its parts, and where it may stand.
 use Prim.Native.Nat.{ℕ, _+_}
 use Prim.Native.String.{String}
 use mathlib.Core.Bool.{cond}
@@ -6,7 +6,8 @@ use mathlib.Core.List.{List, [], _∷_, _++_}
 use lib.Dec.{ltb}
 use lib.ListN.{length, getD}
 use Rattle.text.specs.Text.{bytes}
-use Rattle.text.specs.Word.{place}
+use Rattle.text.specs.Word.{indexIn}
+use Rattle.grammar.specs.Kinds as kinds
 
 abbrev pub words : List String → List (List ℕ)
 words [] = []
@@ -22,13 +23,13 @@ pub data Rule : Type 0 where
   count flag : Sort → Rule
 
 -- a record: its word, its fields, and the parts that it always has, which come before those that its fields tell
-pub record Row : Type 0 where
+pub record Record : Type 0 where
   pub word : String
   pub rules : List Rule
   pub always : List (ℕ × Sort)
 
-abbrev pub row : String → List Rule → List (ℕ × Sort) → Row
-row w rs ps = record { word = w; rules = rs; always = ps }
+abbrev pub form : String → List Rule → List (ℕ × Sort) → Record
+form w rs ps = record { word = w; rules = rs; always = ps }
 
 -- the operators of each record that has one
 abbrev pub assignOps : List (List ℕ)
@@ -47,83 +48,84 @@ one s = (1, s) ∷ []
 abbrev two : Sort → List (ℕ × Sort)
 two s = (2, s) ∷ []
 
-abbrev typeRow : Row
-typeRow = row "type" (span ∷ name ∷ count Arg ∷ []) []
+abbrev typeRecord : Record
+typeRecord = form "type" (span ∷ name ∷ count Arg ∷ []) []
 
 -- the records that may stand where a sort is due
-abbrev pub rows : Sort → List Row
-rows Contract = row "contract" (count Item ∷ []) [] ∷ []
-rows Item =
-    row "state" (count Field ∷ []) []
-    ∷ row "event" (name ∷ count Param ∷ []) []
-    ∷ row "invariant" [] (one Expr)
-    ∷ row "genesis" (count Stmt ∷ []) []
-    ∷ row "entry" (count Param ∷ count Clause ∷ count Stmt ∷ []) []
+abbrev pub recordsFor : Sort → List Record
+recordsFor Contract = form "contract" (count Item ∷ []) [] ∷ []
+recordsFor Item =
+    form "state" (count Field ∷ []) []
+    ∷ form "event" (name ∷ count Param ∷ []) []
+    ∷ form "invariant" [] (one Expr)
+    ∷ form "genesis" (count Stmt ∷ []) []
+    ∷ form "entry" (count Param ∷ count Clause ∷ count Stmt ∷ []) []
     ∷ []
-rows Field = row "field" (span ∷ name ∷ flag Expr ∷ []) (one Ty) ∷ []
-rows Param = row "param" (name ∷ []) (one Ty) ∷ []
-rows Ty = typeRow ∷ []
-rows Arg = typeRow ∷ row "num" (text ∷ []) [] ∷ row "mofn" [] [] ∷ []
-rows Clause =
-    row "limits" [] (one Expr)
-    ∷ row "denies" [] (one Expr)
-    ∷ row "mints" [] []
-    ∷ row "after" (flag Expr ∷ flag Expr ∷ []) []
+recordsFor Field = form "field" (span ∷ name ∷ flag Expr ∷ []) (one Ty) ∷ []
+recordsFor Param = form "param" (name ∷ []) (one Ty) ∷ []
+recordsFor Ty = typeRecord ∷ []
+recordsFor Arg = typeRecord ∷ form "num" (text ∷ []) [] ∷ form "mofn" [] [] ∷ []
+recordsFor Clause =
+    form "limits" [] (one Expr)
+    ∷ form "denies" [] (one Expr)
+    ∷ form "mints" [] []
+    ∷ form "after" (flag Expr ∷ flag Expr ∷ []) []
     ∷ []
-rows Stmt =
-    row "guard" [] (one Expr)
-    ∷ row "let" (name ∷ []) (one Expr)
-    ∷ row "emit" (name ∷ count Expr ∷ []) []
-    ∷ row "assign" (span ∷ assignOp ∷ []) (two Expr)
-    ∷ row "do" [] (one Expr)
+recordsFor Stmt =
+    form "guard" [] (one Expr)
+    ∷ form "let" (name ∷ []) (one Expr)
+    ∷ form "emit" (name ∷ count Expr ∷ []) []
+    ∷ form "assign" (span ∷ assignOp ∷ []) (two Expr)
+    ∷ form "do" [] (one Expr)
     ∷ []
-rows Expr =
-    row "int" (span ∷ text ∷ []) []
-    ∷ row "id" (span ∷ name ∷ []) []
-    ∷ row "date" (span ∷ []) []
-    ∷ row "str" (span ∷ []) []
-    ∷ row "caller" (span ∷ []) []
-    ∷ row "native" (span ∷ []) []
-    ∷ row "inasset" (span ∷ []) []
-    ∷ row "now" (span ∷ []) []
-    ∷ row "un" (span ∷ unOp ∷ []) (one Expr)
-    ∷ row "bin" (span ∷ binOp ∷ []) (two Expr)
-    ∷ row "dot" (span ∷ name ∷ span ∷ []) (one Expr)
-    ∷ row "call" (span ∷ count Expr ∷ []) (one Expr)
-    ∷ row "checked" (span ∷ []) (one Expr)
-    ∷ row "wrapping" (span ∷ []) (one Expr)
+recordsFor Expr =
+    form "int" (span ∷ text ∷ []) []
+    ∷ form "id" (span ∷ name ∷ []) []
+    ∷ form "date" (span ∷ []) []
+    ∷ form "str" (span ∷ []) []
+    ∷ form "caller" (span ∷ []) []
+    ∷ form "native" (span ∷ []) []
+    ∷ form "inasset" (span ∷ []) []
+    ∷ form "now" (span ∷ []) []
+    ∷ form "un" (span ∷ unOp ∷ []) (one Expr)
+    ∷ form "bin" (span ∷ binOp ∷ []) (two Expr)
+    ∷ form "dot" (span ∷ name ∷ span ∷ []) (one Expr)
+    ∷ form "call" (span ∷ count Expr ∷ []) (one Expr)
+    ∷ form "checked" (span ∷ []) (one Expr)
+    ∷ form "wrapping" (span ∷ []) (one Expr)
     ∷ []
 
 -- A record's kind is its place among all of them.
-abbrev pub records : List Row
-records = rows Contract ++ rows Item ++ rows Field ++ rows Param ++ rows Arg ++ rows Clause ++ rows Stmt ++ rows Expr
+abbrev pub records : List Record
+records = recordsFor Contract ++ recordsFor Item ++ recordsFor Field ++ recordsFor Param ++ recordsFor Arg ++ recordsFor Clause ++ recordsFor Stmt ++ recordsFor Expr
 
 -- the kind of the first record of a sort
-abbrev pub first : Sort → ℕ
-first Contract = 0
-first Item = 1
-first Field = 6
-first Param = 7
-first Ty = 8
-first Arg = 8
-first Clause = 11
-first Stmt = 15
-first Expr = 20
+abbrev pub firstKind : Sort → ℕ
+firstKind Contract = kinds.contract
+firstKind Item = kinds.state
+firstKind Field = kinds.field
+firstKind Param = kinds.param
+firstKind Ty = kinds.type
+firstKind Arg = kinds.type
+firstKind Clause = kinds.limits
+firstKind Stmt = kinds.guard
+firstKind Expr = kinds.int
 
 -- no record's kind
-abbrev pub none : ℕ
-none = 34
+abbrev pub noKind : ℕ
+noKind = 34
 
-abbrev pub rowOf : ℕ → Row
-rowOf k = getD records k (row "" [] [])
+abbrev pub recordOf : ℕ → Record
+recordOf k = getD records k (form "" [] [])
 
--- the kind of the record with the word w where a sort is due, or none
+-- the kind of the record at place p of n, where the first of them has kind k; `noKind` where p is not below n
 abbrev pub within : ℕ → ℕ → ℕ → ℕ
-within k n p = cond (ltb p n) (k + p) none
+within k n p = cond (ltb p n) (k + p) noKind
 
-abbrev pub wordsOf : List Row → List (List ℕ)
+abbrev pub wordsOf : List Record → List (List ℕ)
 wordsOf [] = []
 wordsOf (r ∷ rs) = bytes (r .word) ∷ wordsOf rs
 
+-- the kind of the record with the word w where the sort s is due, or `noKind`
 unfoldable pub kindFor : Sort → List ℕ → ℕ
-kindFor s w = within (first s) (length (rows s)) (place w (wordsOf (rows s)))
+kindFor s w = within (firstKind s) (length (recordsFor s)) (indexIn w (wordsOf (recordsFor s)))

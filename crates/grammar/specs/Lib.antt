@@ -1,2 +1,4 @@
+pub mod Kinds
+pub mod Operators
 pub mod Grammar
 pub mod Table

@@ -1,5 +1,8 @@
 // The records of a sheet: their words, fields and parts, as numbers.
-mod kinds;
+pub mod field_rules;
+pub mod kinds;
+pub mod ops;
+pub mod sorts;
 mod tables;
 mod words;
 
@@ -8,4 +11,4 @@ pub use tables::always;
 pub use tables::fields;
 pub use tables::part_sort;
 pub use tables::rule;
-pub use words::place_bin;
+pub use words::index_bin;

@@ -1,19 +1,15 @@
 // The fields and parts of each record, by its kind: what specs/Table.antt makes of the grammar.
+// A table is made where it is read: bytes are made in a few instructions, numbers one by one.
+use text::wide;
 ghost use mathlib.Core.Path.{_≡_};
 ghost use Prim.Native.Nat.{_*_, _+_, _<_};
 ghost use lib.ListN.{getD};
-ghost use Rattle.grammar.specs.Table.{alwaysTable, lengthTable, ruleTable, sortTable};
-
-// A table is made where it is read: bytes are made in a few instructions, numbers one by one.
-fn wide(x: u8) -> usize
-    ensures { λ r. ⌜ r ≡ x ⌝ }
-{
-    x as usize
-}
+ghost use Rattle.grammar.specs.Grammar.{noKind};
+ghost use Rattle.grammar.specs.Table.{alwaysTable, lengthTable, mostFields, mostGroups, ruleTable, sortTable};
 
 // The number of fields after the word.
 pub fn fields(kind: usize) -> usize
-    requires { ⌜ kind < 34 ⌝ }
+    requires { ⌜ kind < noKind ⌝ }
     ensures { λ r. ⌜ r ≡ getD lengthTable kind 0 ⌝ }
 {
     wide(LENGTHS[kind])
@@ -21,15 +17,15 @@ pub fn fields(kind: usize) -> usize
 
 // The number of the rule of field j.
 pub fn rule(kind: usize, j: usize) -> u8
-    requires { ⌜ (kind < 34) × (j < 3) ⌝ }
-    ensures { λ r. ⌜ r ≡ getD ruleTable (3 * kind + j) 0 ⌝ }
+    requires { ⌜ (kind < noKind) × (j < mostFields) ⌝ }
+    ensures { λ r. ⌜ r ≡ getD ruleTable (mostFields * kind + j) 0 ⌝ }
 {
-    RULES[3 * kind + j]
+    RULES[MOST_FIELDS * kind + j]
 }
 
 // The number of parts that the record always has.
 pub fn always(kind: usize) -> usize
-    requires { ⌜ kind < 34 ⌝ }
+    requires { ⌜ kind < noKind ⌝ }
     ensures { λ r. ⌜ r ≡ getD alwaysTable kind 0 ⌝ }
 {
     wide(ALWAYS[kind])
@@ -37,17 +33,24 @@ pub fn always(kind: usize) -> usize
 
 // The sort of the parts of group g.
 pub fn part_sort(kind: usize, g: usize) -> u8
-    requires { ⌜ (kind < 34) × (g < 3) ⌝ }
-    ensures { λ r. ⌜ r ≡ getD sortTable (3 * kind + g) 0 ⌝ }
+    requires { ⌜ (kind < noKind) × (g < mostGroups) ⌝ }
+    ensures { λ r. ⌜ r ≡ getD sortTable (mostGroups * kind + g) 0 ⌝ }
 {
-    SORTS[3 * kind + g]
+    SORTS[MOST_GROUPS * kind + g]
 }
 
-const RULES: [u8; 102] = [
+// How many fields a record has at most, behind its word, and how many groups of parts.
+const MOST_FIELDS: usize = 4;
+
+const MOST_GROUPS: usize = 3;
+
+const RULES: [u8; 136] = [
     7,
     0,
     0,
+    0,
     7,
+    0,
     0,
     0,
     2,
@@ -56,22 +59,34 @@ const RULES: [u8; 102] = [
     0,
     0,
     0,
+    0,
+    0,
     7,
+    0,
     0,
     0,
     7,
     8,
     9,
+    0,
     1,
     2,
     11,
+    0,
     2,
+    0,
     0,
     0,
     1,
     2,
     7,
+    0,
     3,
+    0,
+    0,
+    0,
+    0,
+    0,
     0,
     0,
     0,
@@ -92,11 +107,15 @@ const RULES: [u8; 102] = [
     0,
     0,
     0,
+    0,
+    0,
     2,
+    0,
     0,
     0,
     2,
     7,
+    0,
     0,
     1,
     4,
@@ -104,46 +123,62 @@ const RULES: [u8; 102] = [
     0,
     0,
     0,
+    0,
+    0,
     1,
     3,
+    0,
     0,
     1,
     2,
     0,
-    1,
-    0,
     0,
     1,
     0,
-    0,
-    1,
     0,
     0,
     1,
     0,
     0,
+    0,
     1,
     0,
     0,
+    0,
     1,
+    0,
+    0,
+    0,
+    1,
+    0,
+    0,
+    0,
+    1,
+    0,
     0,
     0,
     1,
     5,
     0,
+    0,
     1,
     6,
+    0,
     0,
     1,
     2,
     1,
+    0,
     1,
     8,
     0,
+    0,
     1,
     0,
     0,
+    0,
     1,
+    0,
     0,
     0,
 ];

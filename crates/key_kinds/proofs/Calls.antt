@@ -12,8 +12,8 @@ use borrow.Author.Tests.{ne-eqb}
 use Rattle.grammar.specs.Grammar as grammar
 use Rattle.sheet.specs.Held.{Held, held, HeldAll, no-tree, tree, Formed, formed, FormedAll, none-due, one-due, Parted}
 use Rattle.sheet.specs.Line.{Line}
-use Rattle.sheet.specs.Load.{sorts, times}
-use Rattle.sheet.specs.Scratch.{entry, kindAt, endAt, skip}
+use Rattle.sheet.specs.Load.{sorts, copies}
+use Rattle.sheet.specs.Scratch.{kindAt, endAt, skip, callArgCount, targetCount, fromCount, emitArgCount, paramCount, clauseCount, bodyCount}
 use Rattle.sheet.specs.Tree.{Node, Nodes, takeNodes}
 use Rattle.sheet.proofs.Holds.{all-le, held-less}
 use Rattle.rules.specs.Ast.{Expr, leaf, unary, binary, field, call, wrap, Exprs, nil, more, Clause, limits, denies, mints, after, Stmt, guard, bind, emit, assign, do', list, nodes, exprOf, exprsOf}
@@ -22,11 +22,13 @@ use Rattle.rules.specs.Standing.{exprAt, exprsAt, nodesAt, clauseAt, clausesAt,
 use Rattle.rules.specs.Typing.{dotOf}
 use Rattle.rules.proofs.Exprs.{by-kind}
 use Rattle.rules.proofs.Forest.{joined, partsOf, Left, left-row, left-at, left-over, exprs-join, skip-least}
+use Rattle.rules.proofs.Walks.{all-joined}
 use Rattle.rules.proofs.Parts.{stop as end', _also_, pick, parts}
 use Rattle.rules.proofs.Records.{entry-at, guard-at, let-at, emit-at, assign-at, do-at, limits-at, denies-at, mints-at, after-at, stmts-next, clauses-next, no-stmts, no-clauses}
 use Rattle.rules.proofs.Standing.{stands, exprs-next, row-first, row-rest, row-nth, row-take}
-use Rattle.declared.specs.Lines.{EntryAt}
+use Rattle.lookups.specs.Lines.{EntryAt}
 use Rattle.key_kinds.specs.Uses.{callAt}
+use Rattle.grammar.specs.Kinds as kinds
 
 -- ------------------------------------------------------------ lines
 
@@ -61,9 +63,9 @@ module _ (s S : List ℕ) where
       ∙ calls-add i (j - i) (k - j)
       ∙ ap (λ l. calls s S i j ++ callsIn s S l (k - j)) (let q : i + (j - i) ≡ j = omega arith in q)
 
-  other-line : (i : ℕ) → kindAt S i ≢ 31 → callAt s S i ≡ []
+  other-line : (i : ℕ) → kindAt S i ≢ kinds.call → callAt s S i ≡ []
   unfolding callAt
-  other-line i h = rw (callAt, ne-eqb (kindAt S i) 31 h) refl
+  other-line i h = rw (callAt, ne-eqb (kindAt S i) kinds.call h) refl
 
 -- ------------------------------------------------------------ expressions
 
@@ -85,10 +87,9 @@ own-parts (field l s e n m) = sym (append-nil _)
 own-parts (call l s c es) = refl
 own-parts (wrap l s w e) = sym (append-nil _)
 
-all-joined : (es fs : Exprs) → keyedCallsAll (joined es fs) ≡ keyedCallsAll es ++ keyedCallsAll fs
-unfolding keyedCallsAll joined
-all-joined nil fs = refl
-all-joined (more e es) fs = ap (λ ks. keyedCalls e ++ ks) (all-joined es fs) ∙ sym (append-assoc (keyedCalls e) _ _)
+calls-joined : (es fs : Exprs) → keyedCallsAll (joined es fs) ≡ keyedCallsAll es ++ keyedCallsAll fs
+unfolding keyedCallsAll
+calls-joined = all-joined _++_ [] keyedCalls keyedCallsAll (λ ks. refl) append-assoc refl (λ e es. refl)
 
 all-listed : (es : Exprs) → keyedIn (list es) ≡ keyedCallsAll es
 unfolding keyedCallsAll keyedIn list
@@ -104,8 +105,8 @@ module _ {s S : List ℕ} (d : Loaded s S) where
   own-at : {i : ℕ} → Here S grammar.Expr i → own (exprAt s i) ≡ callAt s S i
   unfolding callAt
   own-at {i} h =
-      by-kind d h (λ k e. own e ≡ cond (eqb k 31) (keyedHere (dotOf (exprAt s (suc i))) (exprsAt s (entry S i 6) (endAt S (suc i)))) [])
-      (λ k a b. rw (ne-eqb k 31 (omega arith)) refl) refl refl refl refl (λ k w a. rw (ne-eqb k 31 (omega arith)) refl)
+      by-kind d h (λ k e. own e ≡ cond (eqb k kinds.call) (keyedHere (dotOf (exprAt s (suc i))) (exprsAt s (callArgCount S i) (endAt S (suc i)))) [])
+      (λ k a b. rw (ne-eqb k kinds.call (omega arith)) refl) refl refl refl refl (λ k w a. rw (ne-eqb k kinds.call (omega arith)) refl)
 
   -- the lines of expressions
   left-calls : (k : ℕ) {i end : ℕ} {es : Exprs} → end - i ≡ k → Left s S i end es → keyedCallsAll es ≡ callsIn s S i k
@@ -116,7 +117,7 @@ module _ {s S : List ℕ} (d : Loaded s S) where
       ap keyedCallsAll (a .is)
       ∙ ap (λ ks. ks ++ keyedCallsAll (a .rest)) (own-parts (exprAt s i))
       ∙ append-assoc (own (exprAt s i)) _ _
-      ∙ rw (← all-joined (partsOf (exprAt s i)) (a .rest), left-calls k (let q : end - suc i ≡ k = omega arith in q) (a .inside), own-at (a .here)) refl
+      ∙ rw (← calls-joined (partsOf (exprAt s i)) (a .rest), left-calls k (let q : end - suc i ≡ k = omega arith in q) (a .inside), own-at (a .here)) refl
 
 -- ------------------------------------------------------------ records with expressions
 
@@ -126,7 +127,7 @@ record Bare (s S : List ℕ) (i : ℕ) (es : List Expr) : Type 0 where
   row : Row S grammar.Expr count (suc i)
   ends : skip S count (suc i) ≡ endAt S i
   are : es ≡ list (exprsAt s count (suc i))
-  kind : kindAt S i ≢ 31
+  kind : kindAt S i ≢ kinds.call
 
 module _ {s S : List ℕ} (d : Loaded s S) where
   bare-calls : {i : ℕ} {es : List Expr} → i < endAt S i → Bare s S i es → keyedIn es ≡ calls s S i (endAt S i)
@@ -148,21 +149,20 @@ module _ {s S : List ℕ} (d : Loaded s S) where
   maybe-expr (suc (suc a)) j h f = absurd (omega arith)
 
   list-joined : (es fs : Exprs) → list (joined es fs) ≡ list es ++ list fs
-  unfolding list joined
-  list-joined nil fs = refl
-  list-joined (more e es) fs = ap (λ xs. e ∷ xs) (list-joined es fs)
+  unfolding list
+  list-joined = all-joined _++_ [] (λ e. e ∷ []) list (λ es. refl) append-assoc refl (λ e es. refl)
 
   clause-bare : (i : ℕ) → Here S grammar.Clause i → Bare s S i (clauseExprs (clauseAt s i ∷ []))
   unfolding clauseExprs skip list exprsAt takeNodes exprsOf
   clause-bare i h =
-      pick {P = λ k. kindAt S i ≡ k → Bare s S i (clauseExprs (clauseAt s i ∷ []))} {i = 11} {n = 4} (kindAt S i)
+      pick {P = λ k. kindAt S i ≡ k → Bare s S i (clauseExprs (clauseAt s i ∷ []))} {i = kinds.limits} {n = 4} (kindAt S i)
       ((λ e. let q = limits-at d h e in record { count = 1; row = q .1; ends = q .2; are = rw (q .0) (sym (one-expr (row-first (q .1)))); kind = omega arith })
       also (λ e. let q = denies-at d h e in record { count = 1; row = q .1; ends = q .2; are = rw (q .0) (sym (one-expr (row-first (q .1)))); kind = omega arith })
       also (λ e. let q = mints-at d h e in record { count = 0; row = q .1; ends = q .2; are = rw (q .0) refl; kind = omega arith })
       also (λ e.
       let q = after-at d h e in
-      let a = entry S i 5 in
-      let b = entry S i 6 in
+      let a = targetCount S i in
+      let b = fromCount S i in
       let r = q .1 in
       record {
         count = a + b;
@@ -179,10 +179,10 @@ module _ {s S : List ℕ} (d : Loaded s S) where
   stmt-bare : (i : ℕ) → Here S grammar.Stmt i → Bare s S i (bodyExprs (stmtAt s i ∷ []))
   unfolding bodyExprs list exprsAt takeNodes exprsOf
   stmt-bare i h =
-      pick {P = λ k. kindAt S i ≡ k → Bare s S i (bodyExprs (stmtAt s i ∷ []))} {i = 15} {n = 5} (kindAt S i)
+      pick {P = λ k. kindAt S i ≡ k → Bare s S i (bodyExprs (stmtAt s i ∷ []))} {i = kinds.guard} {n = 5} (kindAt S i)
       ((λ e. let q = guard-at d h e in record { count = 1; row = q .1; ends = q .2; are = rw (q .0) (sym (one-expr (row-first (q .1)))); kind = omega arith })
       also (λ e. let q = let-at d h e in record { count = 1; row = q .1; ends = q .2; are = rw (q .0) (sym (one-expr (row-first (q .1)))); kind = omega arith })
-      also (λ e. let q = emit-at d h e in record { count = entry S i 5; row = q .1; ends = q .2; are = rw (q .0) (append-nil _); kind = omega arith })
+      also (λ e. let q = emit-at d h e in record { count = emitArgCount S i; row = q .1; ends = q .2; are = rw (q .0) (append-nil _); kind = omega arith })
       also (λ e.
       let q = assign-at d h e in
       record {
@@ -246,25 +246,25 @@ module _ {s S : List ℕ} (d : Loaded s S) where
 
 -- where the sort is due, no expression stands
 abbrev Quiet : grammar.Sort → Type 0
-Quiet σ = (7 ≤ grammar.first σ) × (grammar.first σ + length (grammar.rows σ) ≤ 11)
+Quiet σ = (kinds.param ≤ grammar.firstKind σ) × (grammar.firstKind σ + length (grammar.recordsFor σ) ≤ kinds.limits)
 
 abbrev Quiets : List grammar.Sort → Type 0
 Quiets [] = Unit
 Quiets (σ ∷ σs) = Quiet σ × Quiets σs
 
-quiet-times : (k : ℕ) → Quiets (times k grammar.Arg ++ [])
-unfolding times
+quiet-times : (k : ℕ) → Quiets (copies k grammar.Arg ++ [])
+unfolding copies
 quiet-times zero = tt
 quiet-times (suc k) = ((omega arith, omega arith), quiet-times k)
 
-quiet-parts : (l : Line) → 7 ≤ l .kind → l .kind < 11 → Parted l → Quiets (sorts (l .parts))
-unfolding sorts times
+quiet-parts : (l : Line) → kinds.param ≤ l .kind → l .kind < kinds.limits → Parted l → Quiets (sorts (l .parts))
+unfolding sorts copies
 quiet-parts l a b p =
-    pick {P = λ k. l .kind ≡ k → Quiets (sorts (l .parts))} {i = 7} {n = 4} (l .kind)
-    ((λ e. rw (parts l 7 p e) ((omega arith, omega arith), tt))
-    also (λ e. let g = parts l 8 p e in rw (g .1) (quiet-times (g .0)))
-    also (λ e. rw (parts l 9 p e) tt)
-    also (λ e. rw (parts l 10 p e) tt)
+    pick {P = λ k. l .kind ≡ k → Quiets (sorts (l .parts))} {i = kinds.param} {n = 4} (l .kind)
+    ((λ e. rw (parts l kinds.param p e) ((omega arith, omega arith), tt))
+    also (λ e. let g = parts l kinds.type p e in rw (g .1) (quiet-times (g .0)))
+    also (λ e. rw (parts l kinds.num p e) tt)
+    also (λ e. rw (parts l kinds.mofn p e) tt)
     also end')
     a b refl
 
@@ -297,13 +297,13 @@ unfolding entryExprs
 entry-calls {s} {S} {e} h =
     let d = h .loaded in
     let p = entry-at d (h .within) (h .kind) in
-    let j = skip S (entry S e 5) (suc e) in
-    let k = skip S (entry S e 6) j in
+    let j = skip S (paramCount S e) (suc e) in
+    let k = skip S (clauseCount S e) j in
     let a = skip-least (p .params) in
     let b = skip-least (p .clauses) in
     let c = skip-least (p .body) in
     ap (λ x. keyedIn (entryExprs x)) (p .is)
-    ∙ keyed-append (clauseExprs (clausesAt s (entry S e 6) j)) (bodyExprs (stmtsAt s (entry S e 7) k))
+    ∙ keyed-append (clauseExprs (clausesAt s (clauseCount S e) j)) (bodyExprs (stmtsAt s (bodyCount S e) k))
     ∙ rw (clauses-calls d (p .clauses), stmts-calls d (p .body), p .ends) refl
     ∙ sym (calls-split s S j k (endAt S e) (omega (arith, b)) (omega (arith, c, p .ends)))
     ∙ sym (calls-split s S (suc e) j (endAt S e) (omega (arith, a)) (omega (arith, b, c, p .ends)) ∙ rw (params-calls d (p .params)) refl)

@@ -4,40 +4,43 @@ use mathlib.Core.Path.{_≡_, refl, sym, ap, _∙_}
 use mathlib.Core.List.{List, [], _∷_, _++_}
 use mathlib.Core.Bool.{Bool, true, false, cond, not, _&&_, true≢false}
 use mathlib.Core.Option.{Option, none, some}
-use Prim.Native.Nat.{ℕ, zero, suc, _+_, _-_, _/_, _<_, _≤_}
+use Prim.Native.Nat.{ℕ, zero, suc, _+_, _-_, _<_, _≤_}
 use native.Mathlib.Numerals.{add-one}
 use native.Mathlib.Omega.{arith}
 use lib.Dec.{eqb}
-use lib.ListN.{length, replicate, length-replicate, getD-replicate}
+use lib.ListN.{replicate, length-replicate, getD-replicate}
 use borrow.Author.Tests.{eq-eqb, ne-eqb, eqb-true, eqb-false, not-true, not-false}
 use Rattle.grammar.specs.Grammar as grammar
-use Rattle.sheet.specs.Scratch.{entry, kindAt, endAt, nameAt, skip}
-use Rattle.sheet.specs.Tree.{takeNodes}
+use Rattle.sheet.specs.Scratch.{kindAt, endAt, nameAt, skip, lineCount, callArgCount, itemCount}
+use Rattle.sheet.specs.Tree.{Node, takeNodes}
 use Rattle.sheet.proofs.Holds.{all-le, all-most}
 use Rattle.rules.specs.Text.{Name, isOne}
 use Rattle.rules.specs.Ast.{Expr, Exprs, nil, more, span, exprsOf}
 use Rattle.rules.specs.Arithmetic.{any}
 use Rattle.rules.specs.KeyKinds.{Keyed, keyedHere, Use, isKeyed, isNameKey, usesOf, uses, checkKeyKinds}
-use Rattle.rules.specs.Model.{Model}
-use Rattle.rules.specs.Standing.{exprAt, exprsAt, namedAt, modelIn, Loaded, Here, Row}
+use Rattle.rules.specs.Model.{Model, build}
+use Rattle.rules.specs.Standing.{nodeAt, nodesAt, exprAt, exprsAt, namedAt, modelIn, Loaded, Here, Row}
 use Rattle.rules.specs.Typing.{Dot, identOf, dotOf}
 use Rattle.rules.proofs.Exprs.{call-at, dot-at, ident-at, is-dot-at}
 use Rattle.rules.proofs.Records.{named}
+use Rattle.rules.proofs.Rows.{records, RowWalk, row-over, row-here, row-found, row-onward}
 use Rattle.rules.proofs.Standing.{stands, exprs-next, row-first, row-rest, row-nth}
-use Rattle.declared.specs.Answers.{Answers}
-use Rattle.declared.specs.Found.{ItemAt}
-use Rattle.declared.specs.Lines.{FewLines, ExprAt}
-use Rattle.declared.specs.Refusal.{doneOf}
-use Rattle.declared.specs.declared.model.Found.{Found}
-use Rattle.declared.specs.declared.model.Found.the-variants.{At, Nothing}
-use Rattle.declared.specs.declared.refusal.Refusal.{Refusal}
-use Rattle.declared.specs.declared.refusal.Done.{Done}
-use Rattle.declared.specs.declared.refusal.Done.the-variants.{Fine, Refused}
-use Rattle.declared.proofs.Fields.{items-at}
-use Rattle.declared.proofs.Items.{entriesFrom, entries-none, entries-next, entries-other}
-use Rattle.key_kinds.specs.Uses.{keyedAt, callAt, namesAt, usesAt, entryUses, itemUses, MapNamed, kindOf, Noted, Kinds, Passed, Judged, OneEntry, InEntry}
+use Rattle.refusals.specs.Answers.{Answers}
+use Rattle.lookups.specs.Found.{ItemAt}
+use Rattle.lookups.specs.Lines.{FewLines, ExprAt}
+use Rattle.refusals.specs.Refusal.{doneOf}
+use Rattle.lookups.specs.declared.model.Found.{Found}
+use Rattle.lookups.specs.declared.model.Found.the-variants.{At, Nothing}
+use Rattle.refusals.specs.declared.refusal.Refusal.{Refusal}
+use Rattle.refusals.specs.declared.refusal.Done.{Done}
+use Rattle.refusals.specs.declared.refusal.Done.the-variants.{Fine, Refused}
+use Rattle.lookups.proofs.Fields.{items-at}
+use Rattle.lookups.proofs.Items.{entriesOf, entries-next, entries-other}
+use Rattle.key_kinds.specs.Uses.{keyedAt, callAt, namesAt, usesAt, entryUses, itemUses, MapNamed, kindOf, Noted, KeyMarks, Passed, Judged, OneEntry, InEntry}
 use Rattle.key_kinds.proofs.Calls.{calls, calls-next, calls-none, entry-calls}
 use Rattle.key_kinds.proofs.Seen.{use-judged, none-judged, passed-start, passed-next, passed-refused, passed-over, all-judged}
+use Rattle.grammar.specs.Kinds as kinds
+use Rattle.sheet.specs.Line.{mostLines}
 
 -- ------------------------------------------------------------ one call
 
@@ -54,9 +57,9 @@ here-by o es dot x key fs false true false method p q r t = rw (p, q, keyedHere,
 here-by o es dot x key fs false true true true p q r t = rw (p, q, keyedHere, r refl, t) refl
 here-by o es dot x key fs false true true false p q r t = rw (p, q, keyedHere, r refl, t) refl
 
-module _ {s S : List ℕ} (d : Loaded s S) {i : ℕ} (w : i < length S / 8) where
+module _ {s S : List ℕ} (d : Loaded s S) {i : ℕ} (w : i < lineCount S) where
   -- a call's parts
-  a-call : kindAt S i ≡ 31 → Here S grammar.Expr i
+  a-call : kindAt S i ≡ kinds.call → Here S grammar.Expr i
   a-call e = record { within = w; kind = (omega arith, omega arith); after = all-le (stands d i w .held) }
 
   some-args : (m : ℕ) → Row S grammar.Expr (suc m) (suc i) → exprsAt s m (endAt S (suc i)) ≡ cond (eqb m 0) nil (more (exprAt s (endAt S (suc i))) (exprsAt s (m - 1) (endAt S (endAt S (suc i)))))
@@ -66,31 +69,31 @@ module _ {s S : List ℕ} (d : Loaded s S) {i : ℕ} (w : i < length S / 8) wher
 
   call-is : callAt s S i ≡ cond (keyedAt s S i) ((nameAt s S (suc (suc i)), exprAt s (endAt S (suc i))) ∷ []) []
   unfolding callAt keyedAt
-  call-is = go (eqb (kindAt S i) 31) refl
+  call-is = by-cases (eqb (kindAt S i) kinds.call) refl
     where
-      go : (t : Bool) → eqb (kindAt S i) 31 ≡ t → callAt s S i ≡ cond (keyedAt s S i) ((nameAt s S (suc (suc i)), exprAt s (endAt S (suc i))) ∷ []) []
-      go false q = rw (callAt, keyedAt, q) refl
-      go true q =
-          let c = call-at d (a-call (eqb-true (kindAt S i) 31 q)) (eqb-true (kindAt S i) 31 q) in
+      by-cases : (t : Bool) → eqb (kindAt S i) kinds.call ≡ t → callAt s S i ≡ cond (keyedAt s S i) ((nameAt s S (suc (suc i)), exprAt s (endAt S (suc i))) ∷ []) []
+      by-cases false q = rw (callAt, keyedAt, q) refl
+      by-cases true q =
+          let c = call-at d (a-call (eqb-true (kindAt S i) kinds.call q)) (eqb-true (kindAt S i) kinds.call q) in
           let f = row-first (c .1) in
           rw (callAt, keyedAt, q)
-          (here-by (dotOf (exprAt s (suc i))) (exprsAt s (entry S i 6) (endAt S (suc i))) _ (nameAt s S (suc (suc i))) (exprAt s (endAt S (suc i))) _ (eqb (entry S i 6) 0) (eqb (kindAt S (suc i)) 30) (eqb (kindAt S (suc (suc i))) 21) _
-          (is-dot-at d f) (some-args (entry S i 6) (c .1)) (λ z. ident-at d (row-first (dot-at d f (eqb-true (kindAt S (suc i)) 30 z) .1))) refl)
+          (here-by (dotOf (exprAt s (suc i))) (exprsAt s (callArgCount S i) (endAt S (suc i))) _ (nameAt s S (suc (suc i))) (exprAt s (endAt S (suc i))) _ (eqb (callArgCount S i) 0) (eqb (kindAt S (suc i)) kinds.dot) (eqb (kindAt S (suc (suc i))) kinds.id) _
+          (is-dot-at d f) (some-args (callArgCount S i) (c .1)) (λ z. ident-at d (row-first (dot-at d f (eqb-true (kindAt S (suc i)) kinds.dot z) .1))) refl)
 
   -- the map and the key of a keyed call
-  key-at : keyedAt s S i ≡ true → Here S grammar.Expr (endAt S (suc i)) × (suc (suc i) < length S / 8)
+  key-at : keyedAt s S i ≡ true → Here S grammar.Expr (endAt S (suc i)) × (suc (suc i) < lineCount S)
   unfolding keyedAt skip
-  key-at e = go (eqb (kindAt S i) 31) (eqb (entry S i 6) 0) (eqb (kindAt S (suc i)) 30) (eqb (kindAt S (suc (suc i))) 21) _ refl refl refl e
+  key-at e = by-cases (eqb (kindAt S i) kinds.call) (eqb (callArgCount S i) 0) (eqb (kindAt S (suc i)) kinds.dot) (eqb (kindAt S (suc (suc i))) kinds.id) _ refl refl refl e
     where
-      go : (a b c x y : Bool) → eqb (kindAt S i) 31 ≡ a → eqb (entry S i 6) 0 ≡ b → eqb (kindAt S (suc i)) 30 ≡ c → (((a && not b) && (c && x)) && y) ≡ true
-          → Here S grammar.Expr (endAt S (suc i)) × (suc (suc i) < length S / 8)
-      go true false true x y p q r z =
-          let c = call-at d (a-call (eqb-true (kindAt S i) 31 p)) (eqb-true (kindAt S i) 31 p) in
+      by-cases : (a b c x y : Bool) → eqb (kindAt S i) kinds.call ≡ a → eqb (callArgCount S i) 0 ≡ b → eqb (kindAt S (suc i)) kinds.dot ≡ c → (((a && not b) && (c && x)) && y) ≡ true
+          → Here S grammar.Expr (endAt S (suc i)) × (suc (suc i) < lineCount S)
+      by-cases true false true x y p q r z =
+          let c = call-at d (a-call (eqb-true (kindAt S i) kinds.call p)) (eqb-true (kindAt S i) kinds.call p) in
           let f = row-first (c .1) in
-          (let some : entry S i 6 ≢ 0 = eqb-false (entry S i 6) 0 q in row-nth 1 (omega (arith, some)) (c .1), row-first (dot-at d f (eqb-true (kindAt S (suc i)) 30 r) .1) .within)
-      go true false false x y p q r z = absurd (true≢false (sym z))
-      go true true c x y p q r z = absurd (true≢false (sym z))
-      go false b c x y p q r z = absurd (true≢false (sym z))
+          (let some : callArgCount S i ≢ 0 = eqb-false (callArgCount S i) 0 q in row-nth 1 (omega (arith, some)) (c .1), row-first (dot-at d f (eqb-true (kindAt S (suc i)) kinds.dot r) .1) .within)
+      by-cases true false false x y p q r z = absurd (true≢false (sym z))
+      by-cases true true c x y p q r z = absurd (true≢false (sym z))
+      by-cases false b c x y p q r z = absurd (true≢false (sym z))
 
 -- ------------------------------------------------------------ one line
 
@@ -131,7 +134,7 @@ module _ (s S : List ℕ) (e i : ℕ) (h : InEntry s S e i) (b : Bool) (eb : b �
       no-use ks z = none-judged s S ks _ (rw the-call (not-used _ _ _ (n .keyed ∙ rw z refl)))
 
       module _ (f : ℕ) (er : r ≡ At f) where
-        pub mark-within : f < 1024
+        pub mark-within : f < mostLines
         mark-within = omega (arith, n .field f er .kind .0, h .one .lines .few)
 
         pub use-fits : (ks ls : List ℕ) (key : ℕ) (v : Bool) (a : Done) → key ≡ endAt S (i + 1) → v ≡ isNameKey (namesAt s e) (exprAt s key) → Noted ks ls f v (i + 2) key a
@@ -148,12 +151,12 @@ module _ (s S : List ℕ) (e i : ℕ) (h : InEntry s S e i) (b : Bool) (eb : b �
 uses-append : (m : Model) (names : List Name) (ks ls : List Keyed) → usesOf m names (ks ++ ls) ≡ usesOf m names ks ++ usesOf m names ls
 unfolding usesOf
 uses-append m names [] ls = refl
-uses-append m names (k ∷ ks) ls = go (isKeyed m (k .0)) refl (uses-append m names ks ls)
+uses-append m names (k ∷ ks) ls = by-cases (isKeyed m (k .0)) refl (uses-append m names ks ls)
   where
-    go : (t : Bool) → isKeyed m (k .0) ≡ t → usesOf m names (ks ++ ls) ≡ usesOf m names ks ++ usesOf m names ls
+    by-cases : (t : Bool) → isKeyed m (k .0) ≡ t → usesOf m names (ks ++ ls) ≡ usesOf m names ks ++ usesOf m names ls
         → usesOf m names (k ∷ (ks ++ ls)) ≡ usesOf m names (k ∷ ks) ++ usesOf m names ls
-    go true q h = rw (usesOf, q) (ap (λ us. record { map = k .0; isName = isNameKey names (k .1); at = span (k .1) } ∷ us) h)
-    go false q h = rw (usesOf, q) h
+    by-cases true q h = rw (usesOf, q) (ap (λ us. record { map = k .0; isName = isNameKey names (k .1); at = span (k .1) } ∷ us) h)
+    by-cases false q h = rw (usesOf, q) h
 
 -- the uses from line at on are left, which the marks ls are for
 unfoldable pub leftUses : (s S : List ℕ) → (e at end : ℕ) → List Use
@@ -201,79 +204,82 @@ module _ (s S ks ls : List ℕ) (e end at : ℕ) (w : Walking s S ks ls e end at
 
 -- What `check_item` meets: an item of the kind k.
 module _ (s S : List ℕ) (i k : ℕ) (ek : k ≡ kindAt S i) where
-  pub no-entry : (ks : List ℕ) → k ≢ 5 → Judged s S ks ks (itemUses s S i) Fine
+  pub no-entry : (ks : List ℕ) → k ≢ kinds.entry → Judged s S ks ks (itemUses s S i) Fine
   unfolding itemUses
-  no-entry ks q = none-judged s S ks _ (rw (itemUses, ← ek, ne-eqb k 5 q) refl)
+  no-entry ks q = none-judged s S ks _ (rw (itemUses, ← ek, ne-eqb k kinds.entry q) refl)
 
-  pub an-entry : FewLines s S → ItemAt s S i → k ≡ 5 → OneEntry s S i
+  pub an-entry : FewLines s S → ItemAt s S i → k ≡ kinds.entry → OneEntry s S i
   an-entry f h q = record { lines = f; entry = record { loaded = f .loaded; within = h .here .within; kind = sym ek ∙ q } }
 
-  pub entry-judged : (ks ls : List ℕ) (r : Done) → k ≡ 5 → Judged s S ks ls (entryUses s i) r → Judged s S ks ls (itemUses s S i) r
+  pub entry-judged : (ks ls : List ℕ) (r : Done) → k ≡ kinds.entry → Judged s S ks ls (entryUses s i) r → Judged s S ks ls (itemUses s S i) r
   unfolding itemUses
-  entry-judged ks ls r q j = rw (itemUses, ← ek, eq-eqb k 5 q) j
+  entry-judged ks ls r q j = rw (itemUses, ← ek, eq-eqb k kinds.entry q) j
 
 -- the uses of an item and those of the items behind it
-item-next : {s S : List ℕ} (m : Model) → m ≡ modelIn s → Loaded s S → (k : ℕ) {i : ℕ} → Here S grammar.Item i
-    → uses m (entriesFrom s (suc k) i) ≡ itemUses s S i ++ uses m (entriesFrom s k (endAt S i))
+item-next : {s S : List ℕ} (m : Model) → m ≡ modelIn s → Loaded s S → {i : ℕ} → Here S grammar.Item i → (ts : List Node) → uses m (entriesOf (nodeAt s i ∷ ts)) ≡ itemUses s S i ++ uses m (entriesOf ts)
 unfolding itemUses uses entryUses namesAt
-item-next {s} {S} m em d k {i} h = go (eqb (kindAt S i) 5) refl
+item-next {s} {S} m em d {i} h ts = by-cases (eqb (kindAt S i) kinds.entry) refl
   where
-    go : (t : Bool) → eqb (kindAt S i) 5 ≡ t → uses m (entriesFrom s (suc k) i) ≡ itemUses s S i ++ uses m (entriesFrom s k (endAt S i))
-    go true q = ap (uses m) (entries-next d k h (eqb-true (kindAt S i) 5 q)) ∙ rw (itemUses, q, em) refl
-    go false q = ap (uses m) (entries-other d k h (eqb-false (kindAt S i) 5 q)) ∙ rw (itemUses, q) refl
+    by-cases : (t : Bool) → eqb (kindAt S i) kinds.entry ≡ t → uses m (entriesOf (nodeAt s i ∷ ts)) ≡ itemUses s S i ++ uses m (entriesOf ts)
+    by-cases true q = ap (uses m) (entries-next d h ts (eqb-true (kindAt S i) kinds.entry q)) ∙ rw (itemUses, q, em) refl
+    by-cases false q = ap (uses m) (entries-other d h ts (eqb-false (kindAt S i) kinds.entry q)) ∙ rw (itemUses, q) refl
 
 -- no use is seen
-no-marks : {s S : List ℕ} → FewLines s S → Kinds s S [] (replicate 1024 0)
+no-marks : {s S : List ℕ} → FewLines s S → KeyMarks s S [] (replicate mostLines 0)
 unfolding any kindOf
 no-marks {s} {S} f =
     record {
-      size = length-replicate {A = ℕ} 1024 0;
-      tells = λ u g n. rw (getD-replicate {A = ℕ} 1024 g 0 0 (omega (arith, n .kind .0, f .few))) (go (u .isName));
+      size = length-replicate {A = ℕ} mostLines 0;
+      tells = λ u g n. rw (getD-replicate {A = ℕ} mostLines g 0 0 (omega (arith, n .kind .0, f .few))) (by-cases (u .isName));
     }
   where
-    go : (b : Bool) → false ≡ eqb 0 (kindOf (not b))
-    go true = refl
-    go false = refl
+    by-cases : (b : Bool) → false ≡ eqb 0 (kindOf (not b))
+    by-cases true = refl
+    by-cases false = refl
 
 -- the items from line at on are left, which the marks ls are for
 pub record Items (s S ls : List ℕ) (left at : ℕ) : Type 0 where
   pub lines : FewLines s S
-  pub row : Row S grammar.Item left at
-  pub passed : Passed s S (replicate 1024 0) ls (uses (modelIn s) (modelIn s .entries)) (uses (modelIn s) (entriesFrom s left at))
+  pub walk : RowWalk grammar.Item nodesAt (λ ts. Passed s S (replicate mostLines 0) ls (uses (modelIn s) (modelIn s .entries)) (uses (modelIn s) (entriesOf ts))) s S left at
 
 -- all of them are judged
-all-items : {s S : List ℕ} (ls : List ℕ) (r : Done) → FewLines s S → Judged s S (replicate 1024 0) ls (uses (modelIn s) (modelIn s .entries)) r → Answers (checkKeyKinds (modelIn s)) (doneOf s r)
+all-items : {s S : List ℕ} (ls : List ℕ) (r : Done) → FewLines s S → Judged s S (replicate mostLines 0) ls (uses (modelIn s) (modelIn s .entries)) r → Answers (checkKeyKinds (modelIn s)) (doneOf s r)
 unfolding checkKeyKinds
-all-items {s} {S} ls r f j = all-judged s S (replicate 1024 0) ls _ r (no-marks f) j
+all-items {s} {S} ls r f j = all-judged s S (replicate mostLines 0) ls _ r (no-marks f) j
 
-pub items-start : (s S : List ℕ) (left : ℕ) → FewLines s S → left ≡ entry S 0 5 → Items s S (replicate 1024 0) left 1
+pub items-start : (s S : List ℕ) (left : ℕ) → FewLines s S → left ≡ itemCount S 0 → Items s S (replicate mostLines 0) left 1
 items-start s S left f e =
     let q = items-at (f .loaded) in
-    rw e (record { lines = f; row = q .1; passed = passed-start s S _ _ _ (ap (λ m. uses (modelIn s) (m .entries)) (q .0)) })
+    rw e
+    (record {
+      lines = f;
+      walk = record { loaded = f .loaded; row = q .1; known = passed-start s S _ _ _ (ap (λ m. uses (modelIn s) (m .entries)) (q .0)) };
+    })
 
 module _ (s S ls : List ℕ) (left at : ℕ) (w : Items s S ls left at) where
   pub items-over : left ≤ 0 → Answers (checkKeyKinds (modelIn s)) (doneOf s Fine)
-  unfolding uses
-  items-over h =
-      all-items ls Fine (w .lines)
-      (passed-over s S _ ls _ _ (w .passed) (ap (uses (modelIn s)) (ap (λ k. entriesFrom s k at) (let q : left ≡ 0 = omega arith in q) ∙ entries-none s at)))
+  unfolding uses build
+  items-over h = all-items ls Fine (w .lines) (passed-over s S _ ls _ _ (row-over records (w .walk) h) refl)
 
   module _ (h : 0 < left) where
-    row : Row S grammar.Item (suc (left - 1)) at
-    row = rw (let q : suc (left - 1) ≡ left = omega arith in q) (w .row)
+    here : Here S grammar.Item at
+    here = row-here (w .walk) h
 
     pub item-here : ItemAt s S at
-    item-here = record { loaded = w .lines .loaded; here = row-first row }
+    item-here = record { loaded = w .lines .loaded; here = here }
 
-    item-turn : uses (modelIn s) (entriesFrom s left at) ≡ itemUses s S at ++ uses (modelIn s) (entriesFrom s (left - 1) (endAt S at))
-    item-turn =
-        ap (λ k. uses (modelIn s) (entriesFrom s k at)) (let q : left ≡ suc (left - 1) = omega arith in q)
-        ∙ item-next (modelIn s) refl (w .lines .loaded) (left - 1) (row-first row)
+    item-turn : (ts : List Node) → uses (modelIn s) (entriesOf (nodeAt s at ∷ ts)) ≡ itemUses s S at ++ uses (modelIn s) (entriesOf ts)
+    item-turn = item-next (modelIn s) refl (w .lines .loaded) here
 
     module _ (ms : List ℕ) (r : Done) (j : Judged s S ls ms (itemUses s S at) r) where
       pub items-next : (at' : ℕ) → r ≡ Fine → at' ≡ endAt S at → Items s S ms (left - 1) at'
       items-next at' q a =
-          rw a (record { lines = w .lines; row = row-rest row; passed = passed-next s S _ ls _ _ (w .passed) ms _ _ r item-turn j q })
+          record {
+            lines = w .lines;
+            walk = row-onward records (w .walk) h at' a (λ ts z. passed-next s S _ ls _ _ z ms _ _ r (item-turn ts) j q);
+          }
 
       pub items-refused : (why : Refusal) → r ≡ Refused why → Answers (checkKeyKinds (modelIn s)) (doneOf s (Refused why))
-      items-refused why q = all-items ms (Refused why) (w .lines) (passed-refused s S _ ls _ _ (w .passed) ms _ _ r item-turn j why q)
+      items-refused why q =
+          row-found records (w .walk) h
+          (λ ts z. all-items ms (Refused why) (w .lines) (passed-refused s S _ ls _ _ z ms _ _ r (item-turn ts) j why q))

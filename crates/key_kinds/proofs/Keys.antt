@@ -3,7 +3,7 @@ use mathlib.Core.Logic.{_≢_}
 use mathlib.Core.Path.{_≡_, refl, sym, ap, _∙_}
 use mathlib.Core.List.{List, [], _∷_}
 use mathlib.Core.Bool.{Bool, true, false, not, _&&_, _||_}
-use Prim.Native.Nat.{ℕ, suc, _+_, _-_, _/_, _<_, _≤_}
+use Prim.Native.Nat.{ℕ, suc, _+_, _-_, _<_, _≤_}
 use native.Mathlib.Numerals.{add-one}
 use native.Mathlib.Omega.{arith}
 use lib.Dec.{eqb, ltb}
@@ -12,63 +12,64 @@ use borrow.Author.Tests.{eq-eqb, ne-eqb, lt-ltb, le-ltb}
 use mir.Val.{Fits}
 use mir.Syntax.{w64}
 use Rattle.text.specs.Text.{bytes, same, ended}
-use Rattle.text.specs.Word.{place, split}
+use Rattle.text.specs.Word.{indexIn, split}
 use Rattle.grammar.specs.Grammar as grammar
-use Rattle.sheet.specs.Scratch.{entry, kindAt, endAt, nameAt}
+use Rattle.sheet.specs.Scratch.{kindAt, endAt, nameAt, lineCount, callArgCount, paramCount}
 use Rattle.rules.specs.Text.{Name, is, isOne, among}
 use Rattle.rules.specs.Ast.{Param, typeName}
 use Rattle.rules.specs.KeyKinds.{isKeyed, isNameKey, nameParams}
-use Rattle.rules.specs.Standing.{exprAt, fieldAt, paramAt, paramsAt, modelIn, Loaded, Row}
+use Rattle.rules.specs.Standing.{exprAt, fieldAt, paramAt, paramsAt, modelIn, Loaded, Here}
 use Rattle.rules.proofs.Exprs.{ident-at}
-use Rattle.rules.proofs.Records.{entry-at, field-at, param-at, params-next, no-params}
-use Rattle.rules.proofs.Standing.{row-first, row-rest}
-use Rattle.declared.specs.Found.{foundField, FieldNamed}
-use Rattle.declared.specs.Lines.{EntryAt, ExprAt}
-use Rattle.declared.specs.declared.model.Found.{Found}
-use Rattle.declared.specs.declared.model.Found.the-variants.{At, Nothing}
-use Rattle.declared.proofs.Tables.{one-place}
-use Rattle.declared.proofs.Types.{type-name}
+use Rattle.rules.proofs.Records.{entry-at, field-at, param-at}
+use Rattle.rules.proofs.Rows.{params, row-here, Seeking, seek-found, seek-next, among-any}
+use Rattle.lookups.specs.Found.{foundField, FieldNamed}
+use Rattle.lookups.specs.Lines.{EntryAt, ExprAt}
+use Rattle.lookups.specs.declared.model.Found.{Found}
+use Rattle.lookups.specs.declared.model.Found.the-variants.{At, Nothing}
+use Rattle.lookups.proofs.Tables.{one-place}
+use Rattle.lookups.proofs.Types.{type-name}
 use Rattle.key_kinds.specs.Uses.{keyedAt, namesAt, MapNamed}
+use Rattle.grammar.specs.Kinds as kinds
 
 -- ------------------------------------------------------------ keyed calls
 
 module _ (s S : List ℕ) (i k : ℕ) (ek : k ≡ kindAt S i) where
-  pub no-call : k ≢ 31 → false ≡ keyedAt s S i
+  pub no-call : k ≢ kinds.call → false ≡ keyedAt s S i
   unfolding keyedAt
-  no-call q = rw (keyedAt, ← ek, ne-eqb k 31 q) refl
+  no-call q = rw (keyedAt, ← ek, ne-eqb k kinds.call q) refl
 
-  module _ (q : k ≡ 31) (k1 k2 m : ℕ) (e1 : k1 ≡ kindAt S (i + 1)) (e2 : k2 ≡ kindAt S (i + 2)) (em : m ≡ entry S i 6) where
+  module _ (q : k ≡ kinds.call) (k1 k2 m : ℕ) (e1 : k1 ≡ kindAt S (i + 1)) (e2 : k2 ≡ kindAt S (i + 2)) (em : m ≡ callArgCount S i) where
     shape : Bool
-    shape = not (eqb m 0) && (eqb k1 30 && eqb k2 21)
+    shape = not (eqb m 0) && (eqb k1 kinds.dot && eqb k2 kinds.id)
 
     by-shape : keyedAt s S i ≡ (shape && isOne (nameAt s S (suc i)) ("set" ∷ "get" ∷ "contains" ∷ "insert" ∷ "remove" ∷ "credit" ∷ "debit" ∷ []))
     unfolding keyedAt shape
     by-shape =
         let two : suc (suc i) ≡ i + 2 = omega arith in
-        rw (keyedAt, two, ← add-one i, ← e2, ← e1, ← em, ← ek, eq-eqb k 31 q) refl
+        rw (keyedAt, two, ← add-one i, ← e2, ← e1, ← em, ← ek, eq-eqb k kinds.call q) refl
 
-    pub no-key : (eqb m 0 || not (eqb k1 30 && eqb k2 21)) ≡ true → false ≡ keyedAt s S i
+    pub no-key : (eqb m 0 || not (eqb k1 kinds.dot && eqb k2 kinds.id)) ≡ true → false ≡ keyedAt s S i
     unfolding shape
-    no-key h = sym (by-shape ∙ go (eqb m 0) (eqb k1 30 && eqb k2 21) h _)
+    no-key h = sym (by-shape ∙ by-cases (eqb m 0) (eqb k1 kinds.dot && eqb k2 kinds.id) h _)
       where
-        go : (a b : Bool) → (a || not b) ≡ true → (t : Bool) → ((not a && b) && t) ≡ false
-        go true b z t = refl
-        go false true z t = absurd (let w : _≡_ {A = ℕ} 0 1 = cc in omega arith)
-        go false false z t = refl
+        by-cases : (a b : Bool) → (a || not b) ≡ true → (t : Bool) → ((not a && b) && t) ≡ false
+        by-cases true b z t = refl
+        by-cases false true z t = absurd (let w : _≡_ {A = ℕ} 0 1 = cc in omega arith)
+        by-cases false false z t = refl
 
-    pub is-keyed : (eqb m 0 || not (eqb k1 30 && eqb k2 21)) ≡ false → (p : ℕ) (x : Name) → x ≡ nameAt s S (i + 1)
-        → p ≡ place x (split (bytes "set get contains insert remove credit debit ")) → ltb p 7 ≡ keyedAt s S i
+    pub is-keyed : (eqb m 0 || not (eqb k1 kinds.dot && eqb k2 kinds.id)) ≡ false → (p : ℕ) (x : Name) → x ≡ nameAt s S (i + 1)
+        → p ≡ indexIn x (split (bytes "set get contains insert remove credit debit ")) → ltb p 7 ≡ keyedAt s S i
     unfolding shape split ended
     is-keyed h p x ex ep =
         sym
         (by-shape
-        ∙ go (eqb m 0) (eqb k1 30 && eqb k2 21) h _
+        ∙ by-cases (eqb m 0) (eqb k1 kinds.dot && eqb k2 kinds.id) h _
         ∙ rw (← add-one i, ← ex, ep) (one-place x ("set" ∷ "get" ∷ "contains" ∷ "insert" ∷ "remove" ∷ "credit" ∷ "debit" ∷ [])))
       where
-        go : (a b : Bool) → (a || not b) ≡ false → (t : Bool) → ((not a && b) && t) ≡ t
-        go true b z t = absurd (let w : _≡_ {A = ℕ} 0 1 = cc in omega arith)
-        go false true z t = refl
-        go false false z t = absurd (let w : _≡_ {A = ℕ} 0 1 = cc in omega arith)
+        by-cases : (a b : Bool) → (a || not b) ≡ false → (t : Bool) → ((not a && b) && t) ≡ t
+        by-cases true b z t = absurd (let w : _≡_ {A = ℕ} 0 1 = cc in omega arith)
+        by-cases false true z t = refl
+        by-cases false false z t = absurd (let w : _≡_ {A = ℕ} 0 1 = cc in omega arith)
 
 -- ------------------------------------------------------------ maps
 
@@ -85,7 +86,7 @@ module _ (s S : List ℕ) (x : Name) (d : Loaded s S) (r : Found) (n : FieldName
     pub behind-fits : length S < 18446744073709551616 → Fits w64 (f + 1)
     behind-fits h = omega (arith, at .kind .0)
 
-    module _ (y : Name) (p : ℕ) (ey : y ≡ nameAt s S (f + 1)) (ep : p ≡ place y (split (bytes "Map Registry "))) where
+    module _ (y : Name) (p : ℕ) (ey : y ≡ nameAt s S (f + 1)) (ep : p ≡ indexIn y (split (bytes "Map Registry "))) where
       keyed : isKeyed (modelIn s) x ≡ ltb p 2
       unfolding isKeyed foundField split ended
       keyed =
@@ -108,62 +109,51 @@ name-param s S x y z i b c ey eb ez ec = rw (eb, ec, ey, ez, add-one i) refl
 
 -- What `is_name_key` meets: a key of the kind k.
 module _ (s S : List ℕ) (e key k : ℕ) (h : EntryAt s S e) (g : ExprAt s S key) (ek : k ≡ kindAt S key) where
-  pub no-name : k ≢ 21 → false ≡ isNameKey (namesAt s e) (exprAt s key)
+  pub no-name : k ≢ kinds.id → false ≡ isNameKey (namesAt s e) (exprAt s key)
   unfolding isNameKey
-  no-name q = rw (isNameKey, ident-at (g .loaded) (g .here), ← ek, ne-eqb k 21 q) refl
+  no-name q = rw (isNameKey, ident-at (g .loaded) (g .here), ← ek, ne-eqb k kinds.id q) refl
 
-  its-name : k ≡ 21 → isNameKey (namesAt s e) (exprAt s key) ≡ among (nameAt s S key) (namesAt s e)
+  its-name : k ≡ kinds.id → isNameKey (namesAt s e) (exprAt s key) ≡ among (nameAt s S key) (namesAt s e)
   unfolding isNameKey
-  its-name q = rw (isNameKey, ident-at (g .loaded) (g .here), ← ek, eq-eqb k 21 q) refl
+  its-name q = rw (isNameKey, ident-at (g .loaded) (g .here), ← ek, eq-eqb k kinds.id q) refl
+
+-- a Q_Name parameter of the name x
+abbrev nameOf : Name → Param → Bool
+nameOf x p = is (typeName (p .ty)) "Q_Name" && same x (p .name)
 
 -- the parameters from line at on are left
-pub record Looking (s S : List ℕ) (e key : ℕ) (x : Name) (at left : ℕ) : Type 0 where
-  pub loaded : Loaded s S
-  pub row : Row S grammar.Param left at
-  pub rest : isNameKey (namesAt s e) (exprAt s key) ≡ among x (nameParams (paramsAt s left at))
+abbrev pub Looking : (s S : List ℕ) → (e key : ℕ) → Name → (at left : ℕ) → Type 0
+Looking s S e key x at left = Seeking grammar.Param paramsAt (nameOf x) (isNameKey (namesAt s e) (exprAt s key)) s S left at
 
-pub look-start : (s S : List ℕ) (e key k at left : ℕ) (x : Name) → EntryAt s S e → ExprAt s S key → k ≡ kindAt S key → k ≡ 21 → x ≡ nameAt s S key → at ≡ e + 1 → left ≡ entry S e 5
+pub look-start : (s S : List ℕ) (e key k at left : ℕ) (x : Name) → EntryAt s S e → ExprAt s S key → k ≡ kindAt S key → k ≡ kinds.id → x ≡ nameAt s S key → at ≡ e + 1 → left ≡ paramCount S e
     → Looking s S e key x at left
-unfolding namesAt
+unfolding namesAt nameParams
 look-start s S e key k at left x h g ek q ex ea el =
     let p = entry-at (h .loaded) (h .within) (h .kind) in
     rw (ea, el, add-one e)
-    (record { loaded = h .loaded; row = p .params; rest = its-name s S e key k h g ek q ∙ rw (p .is, ← ex) refl })
+    (record {
+      loaded = h .loaded;
+      row = p .params;
+      known =
+          its-name s S e key k h g ek q
+          ∙ rw (p .is, ← ex) (among-any (λ p. is (typeName (p .ty)) "Q_Name") (λ p. p .name) nameParams refl (λ p ps. refl) x (paramsAt s (paramCount S e) (suc e)));
+    })
 
-among-param : (x : Name) (p : Param) (ps : List Param) (b : Bool) → b ≡ (is (typeName (p .ty)) "Q_Name" && same x (p .name))
-    → among x (nameParams (p ∷ ps)) ≡ elim b as (λ _. Bool) [ true ↦ true | false ↦ among x (nameParams ps) ]
-unfolding among nameParams
-among-param x p ps b e = rw e (go (is (typeName (p .ty)) "Q_Name") (same x (p .name)) refl)
-  where
-    go : (t u : Bool) → same x (p .name) ≡ u
-        → among x (elim t as (λ _. List Name) [ true ↦ p .name ∷ nameParams ps | false ↦ nameParams ps ]) ≡ elim (t && u) as (λ _. Bool) [ true ↦ true | false ↦ among x (nameParams ps) ]
-    go true u q = rw (among, q) refl
-    go false u q = refl
+module _ (s S : List ℕ) (e key : ℕ) (x : Name) (at left : ℕ) (l : Looking s S e key x at left) (h : 0 < left) where
+  here : Here S grammar.Param at
+  here = row-here l h
 
-module _ (s S : List ℕ) (e key : ℕ) (x : Name) (at left : ℕ) (l : Looking s S e key x at left) where
-  pub look-over : left ≤ 0 → false ≡ isNameKey (namesAt s e) (exprAt s key)
-  unfolding among nameParams
-  look-over h = sym (l .rest ∙ rw (let q : left ≡ 0 = omega arith in q, no-params s at) refl)
+  pub look-here : at < lineCount S
+  look-here = here .within
 
-  module _ (h : 0 < left) where
-    row : Row S grammar.Param (suc (left - 1)) at
-    row = rw (let q : suc (left - 1) ≡ left = omega arith in q) (l .row)
+  module _ (b : Bool) (eb : b ≡ (is (nameAt s S (suc at)) "Q_Name" && same x (nameAt s S at))) where
+    told : b ≡ nameOf x (paramAt s at)
+    told =
+        let p = param-at (l .loaded) (here .within) (omega (arith, here .kind .0, here .kind .1)) in
+        eb ∙ rw (p .0, ← type-name s S (suc at) (record { loaded = l .loaded; here = p .1 })) refl
 
-    pub look-here : at < length S / 8
-    look-here = row-first row .within
+    pub look-found : b ≡ true → true ≡ isNameKey (namesAt s e) (exprAt s key)
+    look-found q = seek-found grammar.Param paramsAt s S _ _ left at l paramAt params h b told q
 
-    module _ (b : Bool) (eb : b ≡ (is (nameAt s S (suc at)) "Q_Name" && same x (nameAt s S at))) where
-      turn : isNameKey (namesAt s e) (exprAt s key) ≡ elim b as (λ _. Bool) [ true ↦ true | false ↦ among x (nameParams (paramsAt s (left - 1) (endAt S at))) ]
-      turn =
-          let w = row-first row in
-          let p = param-at (l .loaded) (w .within) (omega (arith, w .kind .0, w .kind .1)) in
-          let t = type-name s S (suc at) (record { loaded = l .loaded; here = p .1 }) in
-          l .rest
-          ∙ ap (λ ps. among x (nameParams ps)) (ap (λ k. paramsAt s k at) (let q : left ≡ suc (left - 1) = omega arith in q) ∙ params-next (l .loaded) (left - 1) (w .within))
-          ∙ among-param x (paramAt s at) (paramsAt s (left - 1) (endAt S at)) b (eb ∙ rw (p .0, ← t) refl)
-
-      pub look-found : b ≡ true → true ≡ isNameKey (namesAt s e) (exprAt s key)
-      look-found q = sym (turn ∙ rw q refl)
-
-      pub look-next : (at' : ℕ) → b ≡ false → at' ≡ endAt S at → Looking s S e key x at' (left - 1)
-      look-next at' q ea = rw ea (record { loaded = l .loaded; row = row-rest row; rest = turn ∙ rw q refl })
+    pub look-next : (at' : ℕ) → b ≡ false → at' ≡ endAt S at → Looking s S e key x at' (left - 1)
+    look-next at' q ea = seek-next grammar.Param paramsAt s S _ _ left at l paramAt params h b told at' q ea

@@ -17,17 +17,18 @@ use Rattle.rules.specs.Asking.{ok, refused}
 use Rattle.rules.specs.Arithmetic.{any}
 use Rattle.rules.specs.KeyKinds.{Use, differs, checkUses}
 use Rattle.rules.specs.Standing.{exprAt, namedAt, Loaded}
-use Rattle.declared.specs.Answers.{Answers, expected}
-use Rattle.declared.specs.Found.{FieldNamed}
-use Rattle.declared.specs.Refusal.{refusalOf, doneOf}
-use Rattle.declared.specs.declared.model.Found.the-variants.{At}
-use Rattle.declared.specs.declared.refusal.Refusal.{Refusal}
-use Rattle.declared.specs.declared.refusal.Refusal.the-variants.{KeyKinds}
-use Rattle.declared.specs.declared.refusal.Done.{Done}
-use Rattle.declared.specs.declared.refusal.Done.the-variants.{Fine, Refused}
-use Rattle.declared.proofs.Answers.{gives, passes, refuses}
-use Rattle.declared.proofs.Fields.{one-line, one-name}
-use Rattle.key_kinds.specs.Uses.{kindOf, Noted, Kinds, Passed, Judged}
+use Rattle.refusals.specs.Answers.{Answers, expected}
+use Rattle.lookups.specs.Found.{FieldNamed}
+use Rattle.refusals.specs.Refusal.{refusalOf, doneOf}
+use Rattle.lookups.specs.declared.model.Found.the-variants.{At}
+use Rattle.refusals.specs.declared.refusal.Refusal.{Refusal}
+use Rattle.refusals.specs.declared.refusal.Refusal.the-variants.{KeyKinds}
+use Rattle.refusals.specs.declared.refusal.Done.{Done}
+use Rattle.refusals.specs.declared.refusal.Done.the-variants.{Fine, Refused}
+use Rattle.refusals.proofs.Answers.{gives, passes, refuses}
+use Rattle.lookups.proofs.Fields.{one-line, one-name}
+use Rattle.key_kinds.specs.Uses.{kindOf, Noted, KeyMarks, Passed, Judged}
+use Rattle.sheet.specs.Line.{mostLines}
 
 -- ------------------------------------------------------------ one mark
 
@@ -55,34 +56,34 @@ cells false false k e = e
 module _ {s S : List ℕ} (d : Loaded s S) (u : Use) (f : ℕ) (n : FieldNamed s S (u .map) (At f)) where
   -- two names are the same where their fields are
   same-field : (x : Name) (g : ℕ) → FieldNamed s S x (At g) → same x (u .map) ≡ eqb g f
-  same-field x g m = go (eqb g f) refl (same x (u .map)) refl
+  same-field x g m = by-cases (eqb g f) refl (same x (u .map)) refl
     where
-      go : (t : Bool) → eqb g f ≡ t → (v : Bool) → same x (u .map) ≡ v → v ≡ t
-      go true p v q =
+      by-cases : (t : Bool) → eqb g f ≡ t → (v : Bool) → same x (u .map) ≡ v → v ≡ t
+      by-cases true p v q =
           let a : FieldNamed s S x (At f) = rw (← eqb-true g f p) m in
           sym q ∙ rw (one-name d a n) (same-self (u .map))
-      go false p true q =
+      by-cases false p true q =
           let a : FieldNamed s S (u .map) (At g) = rw (← same-is x (u .map) q) m in
           absurd (eqb-false g f p (one-line d a n))
-      go false p false q = refl
+      by-cases false p false q = refl
 
-  put-use : (seen : List Use) (ks : List ℕ) → f < 1024 → Kinds s S seen ks → eqb (getD ks f 0) (kindOf (not (u .isName))) ≡ false
-      → Kinds s S (u ∷ seen) (set ks f (kindOf (u .isName)))
+  put-use : (seen : List Use) (ks : List ℕ) → f < mostLines → KeyMarks s S seen ks → eqb (getD ks f 0) (kindOf (not (u .isName))) ≡ false
+      → KeyMarks s S (u ∷ seen) (set ks f (kindOf (u .isName)))
   unfolding any differs
   put-use seen ks h k e =
       record {
         size = length-set ks f _ ∙ k .size;
-        tells = λ v g m. rw (same-field (v .map) g m, k .tells v g m) (go v g (eqb g f) refl);
+        tells = λ v g m. rw (same-field (v .map) g m, k .tells v g m) (by-cases v g (eqb g f) refl);
       }
     where
-      go : (v : Use) (g : ℕ) (t : Bool) → eqb g f ≡ t
+      by-cases : (v : Use) (g : ℕ) (t : Bool) → eqb g f ≡ t
           → ((t && not (Bool·beq (v .isName) (u .isName))) || eqb (getD ks g 0) (kindOf (not (v .isName)))) ≡ eqb (getD (set ks f (kindOf (u .isName))) g 0) (kindOf (not (v .isName)))
-      go v g true q =
+      by-cases v g true q =
           rw (eqb-true g f q, getD-set-same ks f (kindOf (u .isName)) 0 (omega (arith, h, k .size))) (cells (v .isName) (u .isName) (getD ks f 0) e)
-      go v g false q = rw (getD-set-other ks f g (kindOf (u .isName)) 0 (eqb-false g f q)) refl
+      by-cases v g false q = rw (getD-set-other ks f g (kindOf (u .isName)) 0 (eqb-false g f q)) refl
 
   -- What `check_use` meets: the answer of `note` to this use.
-  module _ (ks ls : List ℕ) (map key : ℕ) (r : Done) (w : Noted ks ls f (u .isName) map key r) (h : f < 1024) (ex : namedAt s map ≡ u .map) (ey : span (exprAt s key) ≡ u .at) where
+  module _ (ks ls : List ℕ) (map key : ℕ) (r : Done) (w : Noted ks ls f (u .isName) map key r) (h : f < mostLines) (ex : namedAt s map ≡ u .map) (ey : span (exprAt s key) ≡ u .at) where
     abbrev other : Bool
     other = eqb (getD ks f 0) (kindOf (not (u .isName)))
 
@@ -96,25 +97,25 @@ module _ {s S : List ℕ} (d : Loaded s S) (u : Use) (f : ℕ) (n : FieldNamed s
 
     fine : r ≡ Fine → Passed s S ks ls (u ∷ []) []
     unfolding checkUses
-    fine e = go other refl
+    fine e = by-cases other refl
       where
-        go : (t : Bool) → other ≡ t → Passed s S ks ls (u ∷ []) []
-        go true q = absurd (let z : _≡_ {A = ℕ} 0 1 = cc (not-fine q, e) in omega arith)
-        go false q =
+        by-cases : (t : Bool) → other ≡ t → Passed s S ks ls (u ∷ []) []
+        by-cases true q = absurd (let z : _≡_ {A = ℕ} 0 1 = cc (not-fine q, e) in omega arith)
+        by-cases false q =
             rw (w .marks e)
             (record {
               passed = λ seen k. (u ∷ seen, put-use seen ks h k q, λ us r a. passes _ 46 _ _ _ r (rw (k .tells u f n, q) refl) a);
             })
 
-    stops : (why : Refusal) → r ≡ Refused why → (seen us : List Use) → Kinds s S seen ks → Answers (checkUses seen (u ∷ us)) (refused (refusalOf s why))
+    stops : (why : Refusal) → r ≡ Refused why → (seen us : List Use) → KeyMarks s S seen ks → Answers (checkUses seen (u ∷ us)) (refused (refusalOf s why))
     unfolding checkUses refusalOf
-    stops why e seen us k = go other refl
+    stops why e seen us k = by-cases other refl
       where
-        go : (t : Bool) → other ≡ t → Answers (checkUses seen (u ∷ us)) (refused (refusalOf s why))
-        go true q =
+        by-cases : (t : Bool) → other ≡ t → Answers (checkUses seen (u ∷ us)) (refused (refusalOf s why))
+        by-cases true q =
             let z : why ≡ KeyKinds map key = cc (not-fine q, e) in
             rw (z, ex, ey) (refuses _ 46 _ _ _ (rw (k .tells u f n, q) refl))
-        go false q = absurd (let z : _≡_ {A = ℕ} 0 1 = cc (not-refused q, e) in omega arith)
+        by-cases false q = absurd (let z : _≡_ {A = ℕ} 0 1 = cc (not-refused q, e) in omega arith)
 
     pub use-judged : Judged s S ks ls (u ∷ []) r
     use-judged = record { fine = fine; stops = stops }
@@ -155,7 +156,7 @@ module _ (s S : List ℕ) where
           }
 
   -- all of them
-  pub all-judged : (ks ls : List ℕ) (all : List Use) (r : Done) → Kinds s S [] ks → Judged s S ks ls all r → Answers (checkUses [] all) (doneOf s r)
+  pub all-judged : (ks ls : List ℕ) (all : List Use) (r : Done) → KeyMarks s S [] ks → Judged s S ks ls all r → Answers (checkUses [] all) (doneOf s r)
   unfolding doneOf checkUses
   all-judged ks ls all Fine k j =
       rw (← append-nil all) (j .fine refl .passed [] k .2 [] (ok tt) (gives tt))

@@ -1,39 +1,39 @@
 // Keyed calls, their maps and their keys.
-use declared::Found;
-use declared::field_named;
+use grammar::kinds;
+use lookups::Found;
+use lookups::field_named;
+use sheet::call_arg_count;
 use sheet::end;
-use sheet::first;
 use sheet::kind;
 use sheet::name;
-use sheet::second;
+use sheet::param_count;
+use text::index_in;
 use text::is_word;
-use text::place_in;
 ghost use mathlib.Core.Bool.{_&&_};
 ghost use mathlib.Core.Path.{_≡_};
-ghost use Prim.Native.Nat.{_/_, _<_, suc};
-ghost use lib.ListN.{length};
+ghost use Prim.Native.Nat.{_<_, suc};
 ghost use Rattle.text.specs.Text.{same};
-ghost use Rattle.sheet.specs.Scratch.{nameAt};
+ghost use Rattle.sheet.specs.Scratch.{nameAt, lineCount};
 ghost use Rattle.rules.specs.KeyKinds.{isNameKey};
 ghost use Rattle.rules.specs.Standing.{Loaded, exprAt};
 ghost use Rattle.rules.specs.Text.{is};
-ghost use Rattle.declared.specs.Lines.{EntryAt, ExprAt};
+ghost use Rattle.lookups.specs.Lines.{EntryAt, ExprAt};
 ghost use Rattle.key_kinds.specs.Uses.{MapNamed, keyedAt, namesAt};
 
 // Whether line at is a call of a map's method with a key.
 pub fn is_keyed_call(sheet: &[u8], lines: &[u16], at: usize) -> bool
-    requires { ⌜ at < length (now lines) / 8 ⌝ }
+    requires { ⌜ at < lineCount (now lines) ⌝ }
     ensures { λ r. ⌜ r ≡ keyedAt (now (sheet .entry)) (now (lines .entry)) at ⌝ }
 {
-    if kind(lines, at) != 31 {
+    if kind(lines, at) != kinds::CALL {
         return false;
     }
-    let of_name = (kind(lines, at + 1) == 30) & (kind(lines, at + 2) == 21);
-    if (second(lines, at) == 0) | !of_name {
+    let of_name = (kind(lines, at + 1) == kinds::DOT) & (kind(lines, at + 2) == kinds::ID);
+    if (call_arg_count(lines, at) == 0) | !of_name {
         return false;
     }
     let method = name(sheet, lines, at + 1);
-    place_in(method, b"set get contains insert remove credit debit ") < 7
+    index_in(method, b"set get contains insert remove credit debit ") < 7
 }
 
 // The line of the Map or Registry of the name x.
@@ -44,7 +44,7 @@ pub fn map_named(sheet: &[u8], lines: &[u16], x: &[u8]) -> Found
     match field_named(sheet, lines, x) {
         Found::Nothing => Found::Nothing,
         Found::At(field) => {
-            if place_in(name(sheet, lines, field + 1), b"Map Registry ") < 2 {
+            if index_in(name(sheet, lines, field + 1), b"Map Registry ") < 2 {
                 return Found::At(field);
             }
             Found::Nothing
@@ -54,7 +54,7 @@ pub fn map_named(sheet: &[u8], lines: &[u16], x: &[u8]) -> Found
 
 // Whether the parameter at a line has the name x and is a Q_Name.
 fn is_name_param(sheet: &[u8], lines: &[u16], x: &[u8], param: usize) -> bool
-    requires { ⌜ param < length (now lines) / 8 ⌝ }
+    requires { ⌜ param < lineCount (now lines) ⌝ }
     ensures { λ r. ⌜ r ≡ (is (nameAt (now (sheet .entry)) (now (lines .entry)) (suc param)) "Q_Name" && same (now (x .entry)) (nameAt (now (sheet .entry)) (now (lines .entry)) param)) ⌝ }
 {
     is_word(name(sheet, lines, param + 1), b"Q_Name") & is_word(x, name(sheet, lines, param))
@@ -66,12 +66,12 @@ pub fn is_name_key(sheet: &[u8], lines: &[u16], entry: usize, key: usize) -> boo
     requires { ⌜ ExprAt (now sheet) (now lines) key ⌝ }
     ensures { λ r. ⌜ r ≡ isNameKey (namesAt (now (sheet .entry)) entry) (exprAt (now (sheet .entry)) key) ⌝ }
 {
-    if kind(lines, key) != 21 {
+    if kind(lines, key) != kinds::ID {
         return false;
     }
     let x = name(sheet, lines, key);
     let mut param = entry + 1;
-    let mut left = first(lines, entry);
+    let mut left = param_count(lines, entry);
     while 0 < left {
         if is_name_param(sheet, lines, x, param) {
             return true;

@@ -1,4 +1,4 @@
-// One kind of key for each map, over loaded lines: module 6.
+// `check_key_kinds` over loaded lines: one kind of key for each Map or Registry.
 mod check;
 mod keyed;
 mod marks;

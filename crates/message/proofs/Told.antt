@@ -14,25 +14,26 @@ use Rattle.text.specs.Text.{bytes}
 use Rattle.sheet.specs.Scratch.{kindAt, nameAt}
 use Rattle.rules.specs.Text.{Name, Piece, render, digits}
 use Rattle.rules.specs.Asking.{Unknown}
-use Rattle.rules.specs.Declared.{describe, parseU128}
+use Rattle.rules.specs.Types.{describe, parseU128}
 use Rattle.rules.specs.Declarations.{typeText}
-use Rattle.rules.specs.Kept.{tyOfMark}
+use Rattle.rules.specs.Kept.{tyOfMark, tyFrom}
 use Rattle.rules.specs.Ast.{typeName}
 use Rattle.rules.specs.Standing.{nodeName, nodeAt, namedAt, typeAt, fieldAt, paramAt, Loaded}
 use Rattle.rules.proofs.Standing.{beyond}
 use Rattle.rules.proofs.Places.{is-there, named-at, type-name-at, dot-there, not-dot-at}
-use Rattle.declared.specs.Codes.{tyFrom}
-use Rattle.declared.specs.Refusal.{arity, dotAt, numberIn, literalAt, refusalOf}
-use Rattle.declared.specs.declared.refusal.Refusal.{Refusal}
-use Rattle.declared.proofs.Fields.{field-name, param-name}
-use Rattle.declared.proofs.Literals.{literal-at}
+use Rattle.refusals.specs.Refusal.{arity, dotAt, numberIn, literalAt, refusalOf}
+use Rattle.refusals.specs.declared.refusal.Refusal.{Refusal}
+use Rattle.lookups.proofs.Fields.{field-name, param-name}
+use Rattle.lookups.proofs.Literals.{literal-at}
 use Rattle.narrow.specs.Narrow.{exceedsOf}
-use Rattle.pieces.specs.Literal.{AddsLiteral}
-use Rattle.pieces.specs.Writing.{Adds}
-use Rattle.pieces.proofs.Texts.{literal-plain}
-use Rattle.pieces.proofs.Adding.{both, adds-same}
-use Rattle.pieces.proofs.Arguments.{render-append}
-use Rattle.pieces.proofs.FieldTypes.{param-type}
+use Rattle.writing.specs.Literal.{AddsLiteral}
+use Rattle.writing.specs.Writing.{Adds}
+use Rattle.writing.proofs.Texts.{literal-plain}
+use Rattle.writing.proofs.Adding.{both, adds-same}
+use Rattle.writing.proofs.Arguments.{render-append}
+use Rattle.writing.proofs.FieldTypes.{param-type}
+use Rattle.grammar.specs.Kinds as kinds
+use Rattle.rules.specs.Codes as codes
 
 -- ------------------------------------------------------------ names
 
@@ -41,11 +42,11 @@ module _ (s S : List ℕ) (i : ℕ) (d : Loaded s S) (B : List ℕ) (a : ℕ) (U
   name-said t u x e y = rw (← named-at d i, ← e) y
 
   module _ (k : ℕ) (e : k ≡ kindAt S i) where
-    pub method-said : (t u x : List ℕ) → k ≡ 30 → x ≡ nameAt s S i → Adds (t ++ (x ++ u)) B a U b → Adds (t ++ (dotAt s i .name ++ u)) B a U b
+    pub method-said : (t u x : List ℕ) → k ≡ kinds.dot → x ≡ nameAt s S i → Adds (t ++ (x ++ u)) B a U b → Adds (t ++ (dotAt s i .name ++ u)) B a U b
     unfolding dotAt
     method-said t u x q f y = rw (dotAt, dot-there d i (sym e ∙ q), ← f) y
 
-    pub no-method-said : (t u : List ℕ) → k ≢ 30 → Adds (t ++ u) B a U b → Adds (t ++ (dotAt s i .name ++ u)) B a U b
+    pub no-method-said : (t u : List ℕ) → k ≢ kinds.dot → Adds (t ++ u) B a U b → Adds (t ++ (dotAt s i .name ++ u)) B a U b
     unfolding dotAt
     no-method-said t u q y = rw (dotAt, not-dot-at d i (λ z. q (e ∙ z))) y
 
@@ -61,7 +62,7 @@ param-name-at s i = param-name (nodeAt s i)
 
 -- none of the codes that are told apart
 abbrev Rest : ℕ → Type 0
-Rest c = (((((((((Unit {0} × (c ≢ 1)) × (c ≢ 2)) × (c ≢ 3)) × (c ≢ 4)) × (c ≢ 5)) × (c ≢ 6)) × (c ≢ 7)) × (c ≢ 8)) × (c ≢ 9))
+Rest c = (((((((((Unit {0} × (c ≢ codes.int)) × (c ≢ codes.boolean)) × (c ≢ codes.address)) × (c ≢ codes.asset)) × (c ≢ codes.word64)) × (c ≢ codes.name)) × (c ≢ codes.time)) × (c ≢ codes.str)) × (c ≢ codes.collection))
 
 rest-unknown : (c : ℕ) → Rest c → tyFrom c ≡ Unknown
 unfolding tyFrom tyOfMark
@@ -194,29 +195,29 @@ module _ (s S : List ℕ) (i : ℕ) (d : Loaded s S) where
 
   -- the number of the literal at line i
   module _ (B : List ℕ) (a : ℕ) (U : List ℕ) (b k : ℕ) (e : k ≡ kindAt S i) where
-    pub no-literal : k ≢ 20 → Adds (bytes "0") B a U b → Adds (digits 39 (literalAt s i)) B a U b
-    no-literal n x = rw (literal-at d i, ← e, ne-eqb k 20 n) (zero-said B a U b x)
+    pub no-literal : k ≢ kinds.int → Adds (bytes "0") B a U b → Adds (digits 39 (literalAt s i)) B a U b
+    no-literal n x = rw (literal-at d i, ← e, ne-eqb k kinds.int n) (zero-said B a U b x)
 
-    module _ (q : k ≡ 20) (x : List ℕ) (f : x ≡ nameAt s S i) (v : Bool) (g : v ≡ exceedsOf x 0) where
+    module _ (q : k ≡ kinds.int) (x : List ℕ) (f : x ≡ nameAt s S i) (v : Bool) (g : v ≡ exceedsOf x 0) where
       number-is : literalAt s i ≡ numberIn x
-      number-is = rw (literal-at d i, ← e, eq-eqb k 20 q, f) refl
+      number-is = rw (literal-at d i, ← e, eq-eqb k kinds.int q, f) refl
 
       pub literal-there : v ≡ true → AddsLiteral x B a U b → Adds (digits 39 (literalAt s i)) B a U b
       unfolding numberIn exceedsOf
-      literal-there h y = rw number-is (go (parseU128 x) refl (sym g ∙ h))
+      literal-there h y = rw number-is (by-cases (parseU128 x) refl (sym g ∙ h))
         where
-          go : (o : Option ℕ) → parseU128 x ≡ o → exceedsOf x 0 ≡ true → Adds (digits 39 (numberIn x)) B a U b
-          go none z w = absurd (let f : _≡_ {A = ℕ} 0 1 = cc (rw (exceedsOf, z) at w) in omega arith)
-          go (some n) z w = rw (numberIn, z) (y .number n (rw f (literal-plain s S i d (is-there d i (λ o. omega (arith, e, q, o))) (sym e ∙ q))) z)
+          by-cases : (o : Option ℕ) → parseU128 x ≡ o → exceedsOf x 0 ≡ true → Adds (digits 39 (numberIn x)) B a U b
+          by-cases none z w = absurd (let f : _≡_ {A = ℕ} 0 1 = cc (rw (exceedsOf, z) at w) in omega arith)
+          by-cases (some n) z w = rw (numberIn, z) (y .number n (rw f (literal-plain s S i d (is-there d i (λ o. omega (arith, e, q, o))) (sym e ∙ q))) z)
 
       pub literal-zero : v ≡ false → Adds (bytes "0") B a U b → Adds (digits 39 (literalAt s i)) B a U b
       unfolding numberIn exceedsOf
-      literal-zero h y = rw number-is (go (parseU128 x) refl (sym g ∙ h))
+      literal-zero h y = rw number-is (by-cases (parseU128 x) refl (sym g ∙ h))
         where
-          go : (o : Option ℕ) → parseU128 x ≡ o → exceedsOf x 0 ≡ false → Adds (digits 39 (numberIn x)) B a U b
-          go none z w = rw (numberIn, z) (zero-said B a U b y)
-          go (some zero) z w = rw (numberIn, z) (zero-said B a U b y)
-          go (some (suc n)) z w = absurd (let f : _≡_ {A = ℕ} 0 1 = cc (rw (exceedsOf, z, lt-leb (suc n) 0 (omega arith)) at w) in omega arith)
+          by-cases : (o : Option ℕ) → parseU128 x ≡ o → exceedsOf x 0 ≡ false → Adds (digits 39 (numberIn x)) B a U b
+          by-cases none z w = rw (numberIn, z) (zero-said B a U b y)
+          by-cases (some zero) z w = rw (numberIn, z) (zero-said B a U b y)
+          by-cases (some (suc n)) z w = absurd (let f : _≡_ {A = ℕ} 0 1 = cc (rw (exceedsOf, z, lt-leb (suc n) 0 (omega arith)) at w) in omega arith)
 
 -- ------------------------------------------------------------ the refusals
 

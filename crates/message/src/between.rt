@@ -1,16 +1,18 @@
 // Names, types and descriptions between two fixed texts.
-use pieces::add;
-use pieces::say;
+use grammar::kinds;
+use rules::codes;
 use sheet::kind;
 use sheet::name;
+use writing::add;
+use writing::say;
 ghost use mathlib.Core.List.{_++_};
 ghost use mathlib.Core.Path.{_≡_};
 ghost use Rattle.text.specs.Text.{bytes};
-ghost use Rattle.rules.specs.Declared.{describe};
+ghost use Rattle.rules.specs.Types.{describe};
 ghost use Rattle.rules.specs.Standing.{Loaded, namedAt};
-ghost use Rattle.declared.specs.Codes.{tyFrom};
-ghost use Rattle.declared.specs.Refusal.{dotAt};
-ghost use Rattle.pieces.specs.Writing.{Adds};
+ghost use Rattle.refusals.specs.Refusal.{dotAt};
+ghost use Rattle.writing.specs.Writing.{Adds};
+ghost use Rattle.rules.specs.Kept.{tyFrom};
 
 // Adds the name of the record at line i between two texts.
 pub fn say_name(
@@ -40,7 +42,7 @@ pub fn say_method(
     requires { ⌜ Loaded (now sheet) (now lines) ⌝ }
     ensures { λ r. ⌜ Adds (bytes "`" ++ (dotAt (now (sheet .entry)) i .name ++ now (after .entry))) (now (buffer .entry)) at (now (buffer .exit)) r ⌝ }
 {
-    if kind(lines, i) == 30 {
+    if kind(lines, i) == kinds::DOT {
         return say(buffer, at, b"`", name(sheet, lines, i), after);
     }
     say(buffer, at, b"`", b"", after)
@@ -51,15 +53,15 @@ fn add_described(buffer: &mut [u8], at: usize, c: u8) -> usize
     ensures { λ r. ⌜ Adds (bytes (describe (tyFrom c))) (now (buffer .entry)) at (now (buffer .exit)) r ⌝ }
 {
     match c {
-        1 => add(buffer, at, b"number"),
-        2 => add(buffer, at, b"boolean"),
-        3 => add(buffer, at, b"address"),
-        4 => add(buffer, at, b"asset"),
-        5 => add(buffer, at, b"64 bit word"),
-        6 => add(buffer, at, b"name"),
-        7 => add(buffer, at, b"time"),
-        8 => add(buffer, at, b"string"),
-        9 => add(buffer, at, b"collection"),
+        codes::INT => add(buffer, at, b"number"),
+        codes::BOOLEAN => add(buffer, at, b"boolean"),
+        codes::ADDRESS => add(buffer, at, b"address"),
+        codes::ASSET => add(buffer, at, b"asset"),
+        codes::WORD64 => add(buffer, at, b"64 bit word"),
+        codes::NAME => add(buffer, at, b"name"),
+        codes::TIME => add(buffer, at, b"time"),
+        codes::STR => add(buffer, at, b"string"),
+        codes::COLLECTION => add(buffer, at, b"collection"),
         _ => add(buffer, at, b"value"),
     }
 }

@@ -7,15 +7,16 @@ use crate::wording::LARGEST;
 use crate::wording::OVERFLOW;
 use crate::wording::UNBOUNDED;
 use declarations::arity_of;
+use grammar::kinds;
 use narrow::exceeds;
-use pieces::add;
-use pieces::add_decimal;
-use pieces::add_literal;
-use pieces::add_type;
-use pieces::add_type_of;
-use pieces::say;
 use sheet::kind;
 use sheet::name;
+use writing::add;
+use writing::add_decimal;
+use writing::add_literal;
+use writing::add_type;
+use writing::add_type_of;
+use writing::say;
 ghost use Prim.Native.Nat.{suc};
 ghost use Rattle.rules.specs.Arithmetic.{overflowText};
 ghost use Rattle.rules.specs.Ast.{typeName};
@@ -24,9 +25,9 @@ ghost use Rattle.rules.specs.Standing.{fieldAt, Loaded, namedAt, paramAt, typeA
 ghost use Rattle.rules.specs.Statements.{emitText, literalText, slotText};
 ghost use Rattle.rules.specs.Text.{digits, render};
 ghost use Rattle.rules.specs.Typing.{comparedText, holdsText, keyedOpText};
-ghost use Rattle.declared.specs.Codes.{tyFrom};
-ghost use Rattle.declared.specs.Refusal.{arity, dotAt, literalAt};
-ghost use Rattle.pieces.specs.Writing.{Adds};
+ghost use Rattle.refusals.specs.Refusal.{arity, dotAt, literalAt};
+ghost use Rattle.writing.specs.Writing.{Adds};
+ghost use Rattle.rules.specs.Kept.{tyFrom};
 
 // 13
 pub fn add_arity(sheet: &[u8], lines: &[u16], buffer: &mut [u8], at: usize, ty: usize) -> usize
@@ -82,7 +83,7 @@ fn add_literal_at(sheet: &[u8], lines: &[u16], buffer: &mut [u8], at: usize, i: 
     requires { ⌜ Loaded (now sheet) (now lines) ⌝ }
     ensures { λ r. ⌜ Adds (digits 39 (literalAt (now (sheet .entry)) i)) (now (buffer .entry)) at (now (buffer .exit)) r ⌝ }
 {
-    if kind(lines, i) != 20 {
+    if kind(lines, i) != kinds::INT {
         return add(buffer, at, b"0");
     }
     let text = name(sheet, lines, i);

@@ -15,7 +15,6 @@ use crate::wording::ADDRESS;
 use crate::wording::AMOUNT;
 use crate::wording::ARITHMETIC;
 use crate::wording::ASSET_SLOT;
-use crate::wording::BY_NAME;
 use crate::wording::DEFAULT;
 use crate::wording::DIGEST;
 use crate::wording::DROPPED;
@@ -24,8 +23,10 @@ use crate::wording::KEY_KINDS;
 use crate::wording::LOCAL;
 use crate::wording::LOGICAL;
 use crate::wording::NAME_INTO_ADDRESS;
+use crate::wording::NAME_NOT_PARAM;
 use crate::wording::NAME_STORED;
-use crate::wording::NAMES;
+use crate::wording::NAME_WANTED;
+use crate::wording::NAMES_COMPARED;
 use crate::wording::NARROW;
 use crate::wording::NO_ARGUMENTS;
 use crate::wording::ONLY_TYPES;
@@ -37,17 +38,16 @@ use crate::wording::REACHES_FIELD;
 use crate::wording::REACHES_VALUES;
 use crate::wording::RECEIVER;
 use crate::wording::RECIPIENT;
-use crate::wording::STRAIGHT;
 use crate::wording::WRAPPING_INTO_NARROW;
-use declared::Refusal;
-use pieces::add;
-use pieces::say;
-use pieces::type_name_of;
+use refusals::Refusal;
+use writing::add;
+use writing::say;
+use writing::type_name_of;
 ghost use Rattle.rules.specs.Standing.{Loaded};
 ghost use Rattle.rules.specs.Text.{render};
-ghost use Rattle.declared.specs.Refusal.{refusalOf};
+ghost use Rattle.refusals.specs.Refusal.{refusalOf};
 ghost use Rattle.refusals.specs.Numbers.{From};
-ghost use Rattle.pieces.specs.Writing.{Adds};
+ghost use Rattle.writing.specs.Writing.{Adds};
 
 // Adds the message of a refusal.
 pub fn add_message(sheet: &[u8], lines: &[u16], buffer: &mut [u8], at: usize, r: Refusal) -> usize
@@ -58,7 +58,7 @@ pub fn add_message(sheet: &[u8], lines: &[u16], buffer: &mut [u8], at: usize, r:
         Refusal::NameStored(_) => add(buffer, at, &NAME_STORED),
         Refusal::Arity(ty) => add_arity(sheet, lines, buffer, at, ty),
         Refusal::OnlyTypes(ty) => say_name(sheet, lines, buffer, at, b"a ", ty, &ONLY_TYPES),
-        Refusal::Inner { ty, inner, is_key } => add_inner(
+        Refusal::InnerType { ty, inner, is_key } => add_inner(
             sheet,
             lines,
             buffer,
@@ -117,7 +117,7 @@ fn add_from_21(sheet: &[u8], lines: &[u16], buffer: &mut [u8], at: usize, r: Ref
             emit,
             &REACHED,
         ),
-        Refusal::Local(_) => add(buffer, at, &LOCAL),
+        Refusal::CollectionLocal(_) => add(buffer, at, &LOCAL),
         Refusal::AssetSlot(_) => add(buffer, at, &ASSET_SLOT),
         _ => add_from_25(sheet, lines, buffer, at, r),
     }
@@ -157,7 +157,7 @@ fn add_from_25(sheet: &[u8], lines: &[u16], buffer: &mut [u8], at: usize, r: Ref
             value,
             max,
         ),
-        Refusal::Slot { slot, given, .. } => add_slot(buffer, at, slot, given),
+        Refusal::SlotMismatch { slot, given, .. } => add_slot(buffer, at, slot, given),
         Refusal::Recipient(_) => add(buffer, at, &RECIPIENT),
         _ => add_from_30(sheet, lines, buffer, at, r),
     }
@@ -173,16 +173,24 @@ fn add_from_30(sheet: &[u8], lines: &[u16], buffer: &mut [u8], at: usize, r: Ref
         Refusal::Receiver(callee) => say_method(sheet, lines, buffer, at, callee, &RECEIVER),
         Refusal::KeyedOp { callee, field } => add_keyed_op(sheet, lines, buffer, at, callee, field),
         Refusal::Amount { callee, .. } => say_method(sheet, lines, buffer, at, callee, &AMOUNT),
-        Refusal::Straight { field, .. } => say_name(
+        Refusal::NameNotParam { field, .. } => say_name(
             sheet,
             lines,
             buffer,
             at,
             b"`",
             field,
-            &STRAIGHT,
+            &NAME_NOT_PARAM,
         ),
-        Refusal::ByName { field, .. } => say_name(sheet, lines, buffer, at, b"`", field, &BY_NAME),
+        Refusal::NameWanted { field, .. } => say_name(
+            sheet,
+            lines,
+            buffer,
+            at,
+            b"`",
+            field,
+            &NAME_WANTED,
+        ),
         Refusal::Holds {
             field,
             want,
@@ -205,7 +213,7 @@ fn add_from_36(sheet: &[u8], lines: &[u16], buffer: &mut [u8], at: usize, r: Ref
         Refusal::Logical(_) => add(buffer, at, &LOGICAL),
         Refusal::Arithmetic(_) => add(buffer, at, &ARITHMETIC),
         Refusal::Ordering(_) => add(buffer, at, &ORDERING),
-        Refusal::Names(_) => add(buffer, at, &NAMES),
+        Refusal::NamesCompared(_) => add(buffer, at, &NAMES_COMPARED),
         Refusal::Compared { l, r, .. } => add_compared(buffer, at, l, r),
         Refusal::EmitField { param, got, .. } => add_emit_field(
             sheet,

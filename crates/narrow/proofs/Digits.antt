@@ -17,7 +17,7 @@ use borrow.Author.Tests.{le-leb, lt-leb, le-ltb, lt-ltb, leb-true, leb-false, ne
 use Rattle.text.specs.Field.{valueFrom}
 use Rattle.text.proofs.Fields.{value-grows}
 use Rattle.rules.specs.Text.{Name}
-use Rattle.rules.specs.Declared.{noUnderscores, parse, parseU128}
+use Rattle.rules.specs.Types.{noUnderscores, parse, parseU128}
 use Rattle.narrow.specs.Narrow.{exceedsOf}
 use Rattle.narrow.specs.Wide.{valueOf, Held, Grown}
 use Rattle.narrow.specs.declared.literal.Wide.{Wide}
@@ -32,14 +32,14 @@ between most v = leb v top && not (leb v most)
 parsed : (most : ℕ) (x : Name) → elim (parse top x) as (λ _. Bool) [ none ↦ false | some n ↦ not (leb n most) ] ≡ between most (valueFrom 0 x)
 unfolding parse valueFrom
 parsed most [] = rw (le-leb 0 most (omega arith)) refl
-parsed most (b ∷ bs) = go (leb v top)
+parsed most (b ∷ bs) = by-cases (leb v top)
   where
     v : ℕ
     v = valueFrom 0 (b ∷ bs)
 
-    go : (t : Bool) → elim (elim t as (λ _. Option ℕ) [ true ↦ some v | false ↦ none ]) as (λ _. Bool) [ none ↦ false | some n ↦ not (leb n most) ] ≡ (t && not (leb v most))
-    go true = refl
-    go false = refl
+    by-cases : (t : Bool) → elim (elim t as (λ _. Option ℕ) [ true ↦ some v | false ↦ none ]) as (λ _. Bool) [ none ↦ false | some n ↦ not (leb n most) ] ≡ (t && not (leb v most))
+    by-cases true = refl
+    by-cases false = refl
 
 -- ------------------------------------------------------------ the limit
 
@@ -63,11 +63,11 @@ high-grows n b d h g e =
     record { fits = omega (arith, h .high) }
 
 flipped : (a b : ℕ) → ltb a b ≡ not (leb b a)
-flipped a b = go (leb b a) refl
+flipped a b = by-cases (leb b a) refl
   where
-    go : (t : Bool) → leb b a ≡ t → ltb a b ≡ not t
-    go true e = le-ltb a b (leb-true b a e)
-    go false e = lt-ltb a b (leb-false b a e)
+    by-cases : (t : Bool) → leb b a ≡ t → ltb a b ≡ not t
+    by-cases true e = le-ltb a b (leb-true b a e)
+    by-cases false e = lt-ltb a b (leb-false b a e)
 
 -- What `above` meets: limbs that tell of their own that the number is above most, or the number itself.
 module _ (n : Wide) (most : ℕ) (h : Held n) (f : most < 2 ^ 64) where

@@ -12,7 +12,7 @@ use lib.ListN.{getElem?}
 use borrow.Author.Tests.{ne-eqb}
 use Rattle.rules.specs.Text.{Name, is, pick}
 use Rattle.rules.specs.Ast.{Field, Arg, ofType, ofInt, mOfN, args, typeName}
-use Rattle.rules.specs.Declared.{narrowMax}
+use Rattle.rules.specs.Types.{narrowMax}
 use Rattle.rules.specs.Model.{Model, fieldNamed}
 use Rattle.rules.specs.Statements.{narrowField}
 use Rattle.rules.specs.Assets.{narrowArg, narrowValues}
@@ -49,11 +49,11 @@ Slots (e ∷ es) = Slot (e .1) × Slots es
 pick-slot : (x : Name) (es : List (String × Option ℕ)) → Slots es → Slot (pick x es none)
 unfolding pick
 pick-slot x [] h = wide
-pick-slot x (e ∷ es) h = go (is x (e .0)) (pick-slot x es (h .1))
+pick-slot x (e ∷ es) h = by-cases (is x (e .0)) (pick-slot x es (h .1))
   where
-    go : (b : Bool) → Slot (pick x es none) → Slot (elim b [ true ↦ e .1 | false ↦ pick x es none ])
-    go true g = h .0
-    go false g = g
+    by-cases : (b : Bool) → Slot (pick x es none) → Slot (elim b [ true ↦ e .1 | false ↦ pick x es none ])
+    by-cases true g = h .0
+    by-cases false g = g
 
 pub max-slot : (x : Name) → Slot (narrowMax x)
 unfolding narrowMax
@@ -68,19 +68,19 @@ arg-slot (some mOfN) = wide
 
 pub field-slot : (m : Model) (x : Name) → Slot (narrowField m x)
 unfolding narrowField
-field-slot m x = go (fieldNamed m x)
+field-slot m x = by-cases (fieldNamed m x)
   where
-    go : (o : Option Field) → Slot (elim o [ none ↦ none | some f ↦ narrowMax (typeName (f .ty)) ])
-    go none = wide
-    go (some f) = max-slot (typeName (f .ty))
+    by-cases : (o : Option Field) → Slot (elim o [ none ↦ none | some f ↦ narrowMax (typeName (f .ty)) ])
+    by-cases none = wide
+    by-cases (some f) = max-slot (typeName (f .ty))
 
 pub values-slot : (m : Model) (x : Name) → Slot (narrowValues m x)
 unfolding narrowValues
-values-slot m x = go (fieldNamed m x)
+values-slot m x = by-cases (fieldNamed m x)
   where
-    go : (o : Option Field) → Slot (elim o [ none ↦ none | some f ↦ narrowArg (getElem? (args (f .ty)) 1) ])
-    go none = wide
-    go (some f) = arg-slot (getElem? (args (f .ty)) 1)
+    by-cases : (o : Option Field) → Slot (elim o [ none ↦ none | some f ↦ narrowArg (getElem? (args (f .ty)) 1) ])
+    by-cases none = wide
+    by-cases (some f) = arg-slot (getElem? (args (f .ty)) 1)
 
 pub max-some : (x : Name) → isSome (narrowMax x) ≡ not (eqb (mostOf (narrowMax x)) 0)
 max-some x = narrow-some (max-slot x)

@@ -9,22 +9,23 @@ use native.Mathlib.Numerals.{add-one}
 use native.Mathlib.Omega.{arith}
 use lib.ListN.{getD, getElem?}
 use Rattle.text.specs.Text.{bytes, ended}
-use Rattle.text.specs.Word.{place, split}
-use Rattle.sheet.specs.Scratch.{nameAt, kindAt, endAt, entry, skip}
+use Rattle.text.specs.Word.{indexIn, split}
+use Rattle.sheet.specs.Scratch.{nameAt, kindAt, endAt, skip, typeArgCount}
 use Rattle.rules.specs.Text.{Name}
 use Rattle.rules.specs.Ast.{args}
-use Rattle.rules.specs.Declared.{narrowMax}
+use Rattle.rules.specs.Types.{narrowMax}
 use Rattle.rules.specs.Statements.{narrowField}
 use Rattle.rules.specs.Assets.{narrowArg, narrowValues}
 use Rattle.rules.specs.Standing.{typeAt, modelIn, Loaded}
-use Rattle.declared.specs.Found.{foundField, FieldNamed}
-use Rattle.declared.specs.Lines.{Typed}
-use Rattle.declared.specs.declared.model.Found.{Found}
-use Rattle.declared.specs.declared.model.Found.the-variants.{At, Nothing}
-use Rattle.declared.proofs.Behind.{TypeBehind, behind}
-use Rattle.declared.proofs.Tables.{wordsIn, valuesIn, place-most, pick-place}
-use Rattle.declared.proofs.Types.{type-name, by-kind, told, there, nth-there, nth-beyond, type-there}
+use Rattle.lookups.specs.Found.{foundField, FieldNamed}
+use Rattle.lookups.specs.Lines.{TypeAt}
+use Rattle.lookups.specs.declared.model.Found.{Found}
+use Rattle.lookups.specs.declared.model.Found.the-variants.{At, Nothing}
+use Rattle.lookups.proofs.Behind.{TypeBehind, behind}
+use Rattle.lookups.proofs.Tables.{wordsIn, valuesIn, place-most, pick-place}
+use Rattle.lookups.proofs.Types.{type-name, by-kind, argOfKind, there, nth-there, nth-beyond, type-there}
 use Rattle.narrow.specs.Narrow.{mostOf, largest}
+use Rattle.grammar.specs.Kinds as kinds
 
 -- ------------------------------------------------------------ names of types
 
@@ -41,7 +42,7 @@ most-at [] (suc p) = refl
 most-at (o ∷ os) zero = refl
 most-at (o ∷ os) (suc p) = most-at os p
 
-module _ (x : Name) (p : ℕ) (e : p ≡ place x (split (bytes names))) where
+module _ (x : Name) (p : ℕ) (e : p ≡ indexIn x (split (bytes names))) where
   pub name-most : p < 5
   unfolding split ended
   name-most = omega (arith, place-most x (wordsIn table))
@@ -53,7 +54,7 @@ module _ (x : Name) (p : ℕ) (e : p ≡ place x (split (bytes names))) where
 -- ------------------------------------------------------------ the second argument
 
 -- What `narrow_arg` meets: m arguments, of which the second stands at line j and has the kind n.
-module _ (s S : List ℕ) (i m : ℕ) (h : Typed s S i) (c : m ≡ entry S i 5) where
+module _ (s S : List ℕ) (i m : ℕ) (h : TypeAt s S i) (c : m ≡ typeArgCount S i) where
   pub arg-beyond : m ≤ 1 → 0 ≡ mostOf (narrowArg (getElem? (args (typeAt s i)) 1))
   unfolding narrowArg mostOf
   arg-beyond e = rw (nth-beyond s S i 1 m h c e) refl
@@ -63,17 +64,17 @@ module _ (s S : List ℕ) (i m : ℕ) (h : Typed s S i) (c : m ≡ entry S i 5) 
     unfolding skip
     at-second = f ∙ rw (add-one i) refl
 
-    second : getElem? (args (typeAt s i)) 1 ≡ some (told s S j n)
+    second : getElem? (args (typeAt s i)) 1 ≡ some (argOfKind s S j n)
     second = nth-there s S i 1 m h c j n e at-second g
 
-    pub arg-other : n ≢ 8 → 0 ≡ mostOf (narrowArg (getElem? (args (typeAt s i)) 1))
+    pub arg-other : n ≢ kinds.type → 0 ≡ mostOf (narrowArg (getElem? (args (typeAt s i)) 1))
     unfolding narrowArg mostOf
     arg-other q =
         rw second
-        (by-kind (λ n. n ≢ 8 → 0 ≡ mostOf (narrowArg (some (told s S j n)))) n (there s S i 1 m h c j n e at-second g) g
+        (by-kind (λ n. n ≢ kinds.type → 0 ≡ mostOf (narrowArg (some (argOfKind s S j n)))) n (there s S i 1 m h c j n e at-second g) g
         (λ y. absurd (y refl)) (λ _. refl) (λ _. refl) q)
 
-    pub arg-most : (y : Name) (v : ℕ) → n ≡ 8 → y ≡ nameAt s S j → v ≡ mostOf (narrowMax y) → v ≡ mostOf (narrowArg (getElem? (args (typeAt s i)) 1))
+    pub arg-most : (y : Name) (v : ℕ) → n ≡ kinds.type → y ≡ nameAt s S j → v ≡ mostOf (narrowMax y) → v ≡ mostOf (narrowArg (getElem? (args (typeAt s i)) 1))
     unfolding narrowArg
     arg-most y v q z w = w ∙ rw (second, q, z, type-name s S j (type-there s S i 1 m h c j n e at-second g q)) refl
 
@@ -90,7 +91,7 @@ module _ (s S : List ℕ) (x : Name) (d : Loaded s S) (r : Found) (f : FieldName
 
   module _ (i v : ℕ) (e : r ≡ At i) where
     its-type : TypeBehind s S i
-    its-type = behind 6 s S d r i e (f .kind) (omega arith) (omega arith)
+    its-type = behind kinds.field s S d r i e (f .kind) (omega arith) (omega arith)
 
     pub field-most : (y : Name) → y ≡ nameAt s S (i + 1) → v ≡ mostOf (narrowMax y) → v ≡ mostOf (narrowField (modelIn s) x)
     unfolding narrowField foundField

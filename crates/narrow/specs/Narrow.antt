@@ -5,7 +5,7 @@ use mathlib.Core.Bool.{Bool, false, not}
 use mathlib.Core.Option.{Option, none, some}
 use lib.Dec.{leb}
 use Rattle.rules.specs.Text.{Name}
-use Rattle.rules.specs.Declared.{parseU128}
+use Rattle.rules.specs.Types.{parseU128}
 
 -- the largest number of a narrow slot; 0, which is the largest of no type, where the slot isn't narrow
 unfoldable pub mostOf : Option ℕ → ℕ

@@ -1,20 +1,21 @@
 // The largest number of a narrow slot, 0 where the slot isn't narrow.
-use declared::Found;
-use declared::field_named;
+use grammar::kinds;
+use lookups::Found;
+use lookups::field_named;
 use sheet::end;
-use sheet::first;
 use sheet::kind;
 use sheet::name;
-use text::place_in;
+use sheet::type_arg_count;
+use text::index_in;
 ghost use mathlib.Core.Path.{_≡_};
 ghost use Prim.Native.Nat.{_<_};
 ghost use lib.ListN.{getD, getElem?};
 ghost use Rattle.rules.specs.Ast.{args};
 ghost use Rattle.rules.specs.Assets.{narrowArg, narrowValues};
-ghost use Rattle.rules.specs.Declared.{narrowMax};
+ghost use Rattle.rules.specs.Types.{narrowMax};
 ghost use Rattle.rules.specs.Standing.{Loaded, modelIn, typeAt};
 ghost use Rattle.rules.specs.Statements.{narrowField};
-ghost use Rattle.declared.specs.Lines.{Typed};
+ghost use Rattle.lookups.specs.Lines.{TypeAt};
 ghost use Rattle.narrow.specs.Narrow.{largest, mostOf};
 
 const LARGEST: [u64; 5] = [1, 255, 65535, 4294967295, 0];
@@ -31,7 +32,7 @@ fn largest_at(place: usize) -> u64
 pub fn narrow_max(ty: &[u8]) -> u64
     ensures { λ r. ⌜ r ≡ mostOf (narrowMax (now (ty .entry))) ⌝ }
 {
-    largest_at(place_in(ty, b"bool u8 u16 u32 "))
+    largest_at(index_in(ty, b"bool u8 u16 u32 "))
 }
 
 // The largest number of the state field x.
@@ -47,14 +48,14 @@ pub fn narrow_field(sheet: &[u8], lines: &[u16], x: &[u8]) -> u64
 
 // The largest number of the second argument of the `type` record at line ty.
 fn narrow_arg(sheet: &[u8], lines: &[u16], ty: usize) -> u64
-    requires { ⌜ Typed (now sheet) (now lines) ty ⌝ }
+    requires { ⌜ TypeAt (now sheet) (now lines) ty ⌝ }
     ensures { λ r. ⌜ r ≡ mostOf (narrowArg (getElem? (args (typeAt (now (sheet .entry)) ty)) 1)) ⌝ }
 {
-    if first(lines, ty) <= 1 {
+    if type_arg_count(lines, ty) <= 1 {
         return 0;
     }
     let at = end(lines, ty + 1);
-    if kind(lines, at) != 8 {
+    if kind(lines, at) != kinds::TYPE {
         return 0;
     }
     narrow_max(name(sheet, lines, at))

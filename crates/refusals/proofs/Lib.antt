@@ -1,3 +1,3 @@
+pub mod Answers
 pub mod Tags
 mod Spans
-mod Counting

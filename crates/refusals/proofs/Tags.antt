@@ -13,10 +13,10 @@ use types.Run.{OneOf}
 use Rattle.rules.specs.Ast.{span}
 use Rattle.rules.specs.Standing.{placeAt}
 use Rattle.rules.proofs.Places.{span-at, type-span-at}
-use Rattle.declared.specs.Refusal.{dotAt, refusalOf}
-use Rattle.declared.specs.declared.refusal.Refusal.{Refusal}
-use Rattle.declared.specs.declared.refusal.Refusal.the-variants.{NameStored, Arity, OnlyTypes, Inner, UnknownType, NoArguments, Digest, Default, Guardian, Predicate, ReachesField, ReachesValues, ReachesEvent, Local, AssetSlot, NameIntoAddress, WrappingIntoNarrow, LiteralIntoNarrow, Slot, Recipient, Receiver, KeyedOp, Amount, Straight, ByName, Holds, Not, Neg, Logical, Arithmetic, Ordering, Names, Compared, EmitField, Dropped, Overflow, KeyKinds}
-use Rattle.declared.proofs.refusal.Refusal.{the-type}
+use Rattle.refusals.specs.Refusal.{dotAt, refusalOf}
+use Rattle.refusals.specs.declared.refusal.Refusal.{Refusal}
+use Rattle.refusals.specs.declared.refusal.Refusal.the-variants.{NameStored, Arity, OnlyTypes, InnerType, UnknownType, NoArguments, Digest, Default, Guardian, Predicate, ReachesField, ReachesValues, ReachesEvent, CollectionLocal, AssetSlot, NameIntoAddress, WrappingIntoNarrow, LiteralIntoNarrow, SlotMismatch, Recipient, Receiver, KeyedOp, Amount, NameNotParam, NameWanted, Holds, Not, Neg, Logical, Arithmetic, Ordering, NamesCompared, Compared, EmitField, Dropped, Overflow, KeyKinds}
+use Rattle.refusals.proofs.refusal.Refusal.{the-type}
 use Rattle.refusals.specs.Numbers.{Numbers, From}
 use Rattle.refusals.specs.Places.{lineOf}
 
@@ -49,7 +49,7 @@ unfolding refusalOf
 number-of s (NameStored ty) = refl
 number-of s (Arity ty) = refl
 number-of s (OnlyTypes ty) = refl
-number-of s (Inner ty inner key) = refl
+number-of s (InnerType ty inner key) = refl
 number-of s (UnknownType ty) = refl
 number-of s (NoArguments ty) = refl
 number-of s (Digest named) = refl
@@ -59,25 +59,25 @@ number-of s (Predicate e) = refl
 number-of s (ReachesField target value) = refl
 number-of s (ReachesValues map value) = refl
 number-of s (ReachesEvent emit value) = refl
-number-of s (Local value) = refl
+number-of s (CollectionLocal value) = refl
 number-of s (AssetSlot target) = refl
 number-of s (NameIntoAddress target value) = refl
 number-of s (WrappingIntoNarrow target value) = refl
 number-of s (LiteralIntoNarrow target value max) = refl
-number-of s (Slot value slot given) = refl
+number-of s (SlotMismatch value slot given) = refl
 number-of s (Recipient arg) = refl
 number-of s (Receiver callee) = refl
 number-of s (KeyedOp callee field) = refl
 number-of s (Amount callee arg) = refl
-number-of s (Straight field arg) = refl
-number-of s (ByName field arg) = refl
+number-of s (NameNotParam field arg) = refl
+number-of s (NameWanted field arg) = refl
 number-of s (Holds field arg want got) = refl
 number-of s (Not inner) = refl
 number-of s (Neg inner) = refl
 number-of s (Logical operand) = refl
 number-of s (Arithmetic operand) = refl
 number-of s (Ordering operand) = refl
-number-of s (Names left) = refl
+number-of s (NamesCompared left) = refl
 number-of s (Compared right l r) = refl
 number-of s (EmitField arg param got) = refl
 number-of s (Dropped made) = refl
@@ -86,12 +86,12 @@ number-of s (KeyKinds map key) = refl
 
 -- a number that is below j or from k on, and isn't below j
 either : (j k n : ℕ) → j ≤ n → (ltb n j || leb k n) ≡ true → k ≤ n
-either j k n h = go (ltb n j) (leb k n) refl refl
+either j k n h = by-cases (ltb n j) (leb k n) refl refl
   where
-    go : (u v : Bool) → ltb n j ≡ u → leb k n ≡ v → (u || v) ≡ true → k ≤ n
-    go true v p q w = absurd (omega (arith, ltb-true n j p))
-    go false true p q w = leb-true k n q
-    go false false p q w = absurd (let z : _≡_ {A = ℕ} 0 1 = cc w in omega arith)
+    by-cases : (u v : Bool) → ltb n j ≡ u → leb k n ≡ v → (u || v) ≡ true → k ≤ n
+    by-cases true v p q w = absurd (omega (arith, ltb-true n j p))
+    by-cases false true p q w = leb-true k n q
+    by-cases false false p q w = absurd (let z : _≡_ {A = ℕ} 0 1 = cc w in omega arith)
 
 module _ (r : Refusal) where
   pub number-told : (t n : ℕ) → tagOf the-type r ≡ t → n ≡ getD numbers t 0 → Numbers r n
@@ -127,7 +127,7 @@ unfolding refusalOf lineOf
 plain s (NameStored ty) h = type-span-at s ty
 plain s (Arity ty) h = type-span-at s ty
 plain s (OnlyTypes ty) h = type-span-at s ty
-plain s (Inner ty inner key) h = type-span-at s inner
+plain s (InnerType ty inner key) h = type-span-at s inner
 plain s (UnknownType ty) h = type-span-at s ty
 plain s (NoArguments ty) h = type-span-at s ty
 plain s (Digest named) h = absurd (let z : _≡_ {A = ℕ} 0 1 = cc h in omega arith)
@@ -137,25 +137,25 @@ plain s (Predicate e) h = span-at s e
 plain s (ReachesField target value) h = span-at s value
 plain s (ReachesValues map value) h = span-at s value
 plain s (ReachesEvent emit value) h = span-at s value
-plain s (Local value) h = span-at s value
+plain s (CollectionLocal value) h = span-at s value
 plain s (AssetSlot target) h = refl
 plain s (NameIntoAddress target value) h = span-at s value
 plain s (WrappingIntoNarrow target value) h = span-at s value
 plain s (LiteralIntoNarrow target value max) h = span-at s value
-plain s (Slot value slot given) h = span-at s value
+plain s (SlotMismatch value slot given) h = span-at s value
 plain s (Recipient arg) h = span-at s arg
 plain s (Receiver callee) h = absurd (let z : _≡_ {A = ℕ} 0 1 = cc h in omega arith)
 plain s (KeyedOp callee field) h = absurd (let z : _≡_ {A = ℕ} 0 1 = cc h in omega arith)
 plain s (Amount callee arg) h = span-at s arg
-plain s (Straight field arg) h = span-at s arg
-plain s (ByName field arg) h = span-at s arg
+plain s (NameNotParam field arg) h = span-at s arg
+plain s (NameWanted field arg) h = span-at s arg
 plain s (Holds field arg want got) h = span-at s arg
 plain s (Not inner) h = span-at s inner
 plain s (Neg inner) h = span-at s inner
 plain s (Logical operand) h = span-at s operand
 plain s (Arithmetic operand) h = span-at s operand
 plain s (Ordering operand) h = span-at s operand
-plain s (Names left) h = span-at s left
+plain s (NamesCompared left) h = span-at s left
 plain s (Compared right l r) h = span-at s right
 plain s (EmitField arg param got) h = span-at s arg
 plain s (Dropped made) h = refl

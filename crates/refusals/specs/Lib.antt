@@ -1,2 +1,4 @@
+pub mod Refusal
+pub mod Answers
 pub mod Numbers
 pub mod Places

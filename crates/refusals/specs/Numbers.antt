@@ -1,9 +1,9 @@
--- Document 01's numbers of the refusals, which no sheet changes.
+-- The numbers of the refusals, which no sheet changes.
 use Prim.Native.Nat.{ℕ, _≤_}
 use mathlib.Core.List.{List}
 use mathlib.Core.Path.{_≡_}
-use Rattle.declared.specs.Refusal.{refusalOf}
-use Rattle.declared.specs.declared.refusal.Refusal.{Refusal}
+use Rattle.refusals.specs.Refusal.{refusalOf}
+use Rattle.refusals.specs.declared.refusal.Refusal.{Refusal}
 
 -- n is the number of the refusal r
 pub record Numbers (r : Refusal) (n : ℕ) : Type 0 where

@@ -1,5 +1,5 @@
-// Document 01's number of a refusal.
-use declared::Refusal;
+// The number of a refusal (docs/REFUSALS.md).
+use crate::refusal::Refusal;
 ghost use Rattle.refusals.specs.Numbers.{From, Numbers};
 
 pub fn number_of(r: Refusal) -> u32
@@ -9,7 +9,7 @@ pub fn number_of(r: Refusal) -> u32
         Refusal::NameStored(_) => 12,
         Refusal::Arity(_) => 13,
         Refusal::OnlyTypes(_) => 14,
-        Refusal::Inner { .. } => 15,
+        Refusal::InnerType { .. } => 15,
         Refusal::UnknownType(_) => 16,
         Refusal::NoArguments(_) => 17,
         Refusal::Digest(_) => 18,
@@ -19,12 +19,12 @@ pub fn number_of(r: Refusal) -> u32
         Refusal::ReachesField { .. } => 22,
         Refusal::ReachesValues { .. } => 22,
         Refusal::ReachesEvent { .. } => 22,
-        Refusal::Local(_) => 23,
+        Refusal::CollectionLocal(_) => 23,
         Refusal::AssetSlot(_) => 24,
         Refusal::NameIntoAddress { .. } => 25,
         Refusal::WrappingIntoNarrow { .. } => 26,
         Refusal::LiteralIntoNarrow { .. } => 27,
-        Refusal::Slot { .. } => 28,
+        Refusal::SlotMismatch { .. } => 28,
         Refusal::Recipient(_) => 29,
         _ => number_from_30(r),
     }
@@ -39,15 +39,15 @@ fn number_from_30(r: Refusal) -> u32
         Refusal::Receiver(_) => 30,
         Refusal::KeyedOp { .. } => 31,
         Refusal::Amount { .. } => 32,
-        Refusal::Straight { .. } => 33,
-        Refusal::ByName { .. } => 34,
+        Refusal::NameNotParam { .. } => 33,
+        Refusal::NameWanted { .. } => 34,
         Refusal::Holds { .. } => 35,
         Refusal::Not(_) => 36,
         Refusal::Neg(_) => 37,
         Refusal::Logical(_) => 38,
         Refusal::Arithmetic(_) => 39,
         Refusal::Ordering(_) => 40,
-        Refusal::Names(_) => 41,
+        Refusal::NamesCompared(_) => 41,
         Refusal::Compared { .. } => 42,
         Refusal::EmitField { .. } => 43,
         Refusal::Dropped(_) => 44,

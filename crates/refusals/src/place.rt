@@ -1,5 +1,6 @@
-// Document 01's place of a refusal. A refusal may name any line: one that isn't there has the place 0.
-use declared::Refusal;
+// The place of a refusal (docs/REFUSALS.md). A refusal may name any line: one that isn't there has the place 0.
+use crate::refusal::Refusal;
+use grammar::kinds;
 use sheet::kind;
 use sheet::nspan;
 use sheet::span;
@@ -7,27 +8,16 @@ ghost use mathlib.Core.Path.{_≡_};
 ghost use Prim.Native.Nat.{suc};
 ghost use Rattle.rules.specs.Ast.{span as spanOf};
 ghost use Rattle.rules.specs.Standing.{Loaded, placeAt};
-ghost use Rattle.declared.specs.Refusal.{dotAt, refusalOf};
+ghost use Rattle.refusals.specs.Refusal.{dotAt, refusalOf};
 ghost use Rattle.refusals.specs.Numbers.{From};
-ghost use Rattle.refusals.specs.Places.{lineOf, spanned};
-
-// Whether a record of kind k has a SPAN, or an NSPAN: a field, a type, an assignment, an expression.
-fn has_span(k: usize) -> bool
-    ensures { λ r. ⌜ r ≡ spanned k ⌝ }
-{
-    (k == 6) | ((k == 8) | ((k == 18) | ((20 <= k) & (k < 34))))
-}
+ghost use Rattle.refusals.specs.Places.{lineOf};
 
 // The place of the record at line i, 0 where it has none.
 fn place_at(sheet: &[u8], lines: &[u16], i: usize) -> u32
     requires { ⌜ Loaded (now sheet) (now lines) ⌝ }
     ensures { λ r. ⌜ r ≡ placeAt (now (sheet .entry)) i ⌝ }
 {
-    if has_span(kind(lines, i)) {
-        span(sheet, lines, i)
-    } else {
-        0
-    }
+    span(sheet, lines, i)
 }
 
 // The place of the record at the line behind line i.
@@ -47,7 +37,7 @@ fn place_of_base(sheet: &[u8], lines: &[u16], i: usize) -> u32
     requires { ⌜ Loaded (now sheet) (now lines) ⌝ }
     ensures { λ r. ⌜ r ≡ spanOf (dotAt (now (sheet .entry)) i .base) ⌝ }
 {
-    if kind(lines, i) == 30 {
+    if kind(lines, i) == kinds::DOT {
         place_behind(sheet, lines, i)
     } else {
         place_at(sheet, lines, i)
@@ -59,7 +49,7 @@ fn place_of_name(sheet: &[u8], lines: &[u16], i: usize) -> u32
     requires { ⌜ Loaded (now sheet) (now lines) ⌝ }
     ensures { λ r. ⌜ r ≡ dotAt (now (sheet .entry)) i .nspan ⌝ }
 {
-    if kind(lines, i) == 30 {
+    if kind(lines, i) == kinds::DOT {
         nspan(sheet, lines, i)
     } else {
         0
@@ -74,7 +64,7 @@ fn line_of(r: Refusal) -> usize
         Refusal::NameStored(ty) => ty,
         Refusal::Arity(ty) => ty,
         Refusal::OnlyTypes(ty) => ty,
-        Refusal::Inner { inner, .. } => inner,
+        Refusal::InnerType { inner, .. } => inner,
         Refusal::UnknownType(ty) => ty,
         Refusal::NoArguments(ty) => ty,
         Refusal::Digest(named) => named,
@@ -84,12 +74,12 @@ fn line_of(r: Refusal) -> usize
         Refusal::ReachesField { value, .. } => value,
         Refusal::ReachesValues { value, .. } => value,
         Refusal::ReachesEvent { value, .. } => value,
-        Refusal::Local(value) => value,
+        Refusal::CollectionLocal(value) => value,
         Refusal::AssetSlot(target) => target,
         Refusal::NameIntoAddress { value, .. } => value,
         Refusal::WrappingIntoNarrow { value, .. } => value,
         Refusal::LiteralIntoNarrow { value, .. } => value,
-        Refusal::Slot { value, .. } => value,
+        Refusal::SlotMismatch { value, .. } => value,
         Refusal::Recipient(arg) => arg,
         _ => line_from_30(r),
     }
@@ -104,15 +94,15 @@ fn line_from_30(r: Refusal) -> usize
         Refusal::Receiver(callee) => callee,
         Refusal::KeyedOp { callee, .. } => callee,
         Refusal::Amount { arg, .. } => arg,
-        Refusal::Straight { arg, .. } => arg,
-        Refusal::ByName { arg, .. } => arg,
+        Refusal::NameNotParam { arg, .. } => arg,
+        Refusal::NameWanted { arg, .. } => arg,
         Refusal::Holds { arg, .. } => arg,
         Refusal::Not(inner) => inner,
         Refusal::Neg(inner) => inner,
         Refusal::Logical(operand) => operand,
         Refusal::Arithmetic(operand) => operand,
         Refusal::Ordering(operand) => operand,
-        Refusal::Names(left) => left,
+        Refusal::NamesCompared(left) => left,
         Refusal::Compared { right, .. } => right,
         Refusal::EmitField { arg, .. } => arg,
         Refusal::Dropped(made) => made,

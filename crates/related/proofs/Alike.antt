@@ -6,7 +6,7 @@ use mathlib.Core.Bool.{Bool, true, false}
 use mathlib.Core.Option.{Option, none, some}
 use Prim.Native.Nat.{ℕ}
 use Rattle.sheet.proofs.Paired.{Opt, o-none, o-some, append₂}
-use Rattle.rules.specs.Asking.{Ty, Refusal, Rule, ret, refuse, ask, _>>=_, _>>_, when, ifSome, ifSomeElse, forEach, Res, ok, refused, Asking, Out, ended, fresh}
+use Rattle.rules.specs.Asking.{Ty, Refusal, Rule, ret, refuse, ask, _>>=_, _>>_, provided, ifSome, ifSomeElse, forEach, Res, ok, refused, Asking, Out, concluded, fresh}
 use Rattle.rules.specs.Model.{Model}
 use Rattle.rules.proofs.Pure.{FromTwelve, Pure, p-ret, p-refuse}
 
@@ -55,10 +55,10 @@ module _ {S : Setting} where
   unfolding _>>_
   a-then h k = a-bind h (λ _. k)
 
-  pub a-when : (b : Bool) {p q : Rule Unit} → Alike S p q → Alike S (when b p) (when b q)
-  unfolding when
-  a-when true h = h
-  a-when false h = a-ret tt
+  pub a-provided : (b : Bool) {p q : Rule Unit} → Alike S p q → Alike S (provided b p) (provided b q)
+  unfolding provided
+  a-provided true h = h
+  a-provided false h = a-ret tt
 
   pub a-some : {A B : Type 0} {R : A → B → Type 0} {o : Option A} {u : Option B} {f : A → Rule Unit} {g : B → Rule Unit}
       → Opt R o u → ((a : A) (b : B) → R a b → Alike S (f a) (g b)) → Alike S (ifSome o f) (ifSome u g)
@@ -105,24 +105,24 @@ pub data SameOut (S : Setting) {A : Type 0} (o u : Out A) : Type 0 where
 
 module _ (S : Setting) (l k : ℕ) (line : S .Lines l k) where
   ended-same : {A : Type 0} {as' bs : List Asking} (r : Res Ty) (f g : Ty → Out A)
-      → Forall₂ (SameAsking S) as' bs → ((t : Ty) → SameOut S (f t) (g t)) → SameOut S (ended l r as' f) (ended k r bs g)
-  unfolding ended
+      → Forall₂ (SameAsking S) as' bs → ((t : Ty) → SameOut S (f t) (g t)) → SameOut S (concluded l r as' f) (concluded k r bs g)
+  unfolding concluded
   ended-same (refused r) f g h n = same-out refl (append₂ h (cons₂ (line, refl) nil₂))
-  ended-same {A} {as'} {bs} (ok t) f g h n = go (n t)
+  ended-same {A} {as'} {bs} (ok t) f g h n = by-cases (n t)
     where
-      go : SameOut S (f t) (g t) → SameOut S (ended l (ok t) as' f) (ended k (ok t) bs g)
-      go (same-out e q) = same-out e (append₂ h (cons₂ (line, refl) q))
-      go (text-left s) = text-left s
-      go (text-right s) = text-right s
+      by-cases : SameOut S (f t) (g t) → SameOut S (concluded l (ok t) as' f) (concluded k (ok t) bs g)
+      by-cases (same-out e q) = same-out e (append₂ h (cons₂ (line, refl) q))
+      by-cases (text-left s) = text-left s
+      by-cases (text-right s) = text-right s
 
-  ended-text : {A : Type 0} (i : ℕ) (as' : List Asking) (r : Res Ty) (f : Ty → Out A) → ByTextRes S r → ByTextRes S (ended i r as' f .res)
-  unfolding ended
+  ended-text : {A : Type 0} (i : ℕ) (as' : List Asking) (r : Res Ty) (f : Ty → Out A) → ByTextRes S r → ByTextRes S (concluded i r as' f .res)
+  unfolding concluded
   ended-text i as' (ok t) f s = absurd s
   ended-text i as' (refused r) f s = s
 
   -- an asking, where the typing is alike and what follows is
   asked-same : {A : Type 0} {o u : Out Ty} (f g : Ty → Out A)
-      → SameOut S o u → ((t : Ty) → SameOut S (f t) (g t)) → SameOut S (ended l (o .res) (o .log) f) (ended k (u .res) (u .log) g)
+      → SameOut S o u → ((t : Ty) → SameOut S (f t) (g t)) → SameOut S (concluded l (o .res) (o .log) f) (concluded k (u .res) (u .log) g)
   asked-same {o = o} f g (same-out e h) n = rw (← e) (ended-same (o .res) f g h n)
   asked-same {o = o} f g (text-left s) n = text-left (ended-text l (o .log) (o .res) f s)
   asked-same {u = u} f g (text-right s) n = text-right (ended-text k (u .log) (u .res) g s)
@@ -139,8 +139,8 @@ abbrev pub FromTwelveRes : {A : Type 0} → Res A → Type 0
 FromTwelveRes (ok a) = Unit
 FromTwelveRes (refused r) = FromTwelve r
 
-ended-from-twelve : {A : Type 0} (l : ℕ) (as' : List Asking) (r : Res Ty) (f : Ty → Out A) → FromTwelveRes r → ((t : Ty) → FromTwelveRes (f t .res)) → FromTwelveRes (ended l r as' f .res)
-unfolding ended
+ended-from-twelve : {A : Type 0} (l : ℕ) (as' : List Asking) (r : Res Ty) (f : Ty → Out A) → FromTwelveRes r → ((t : Ty) → FromTwelveRes (f t .res)) → FromTwelveRes (concluded l r as' f .res)
+unfolding concluded
 ended-from-twelve l as' (ok t) f h k = k t
 ended-from-twelve l as' (refused r) f h k = h
 

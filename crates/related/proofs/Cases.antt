@@ -9,8 +9,8 @@ use Rattle.text.specs.Text.{bytes, either}
 use Rattle.text.proofs.Pieces.{ended-append}
 use Rattle.grammar.specs.Grammar as grammar
 use Rattle.sheet.specs.Line.{Line}
-use Rattle.sheet.specs.Load.{linesOf, times, load}
-use Rattle.sheet.specs.Tree.{Node, Nodes, nil, more, build as trees, before}
+use Rattle.sheet.specs.Load.{linesOf, copies, load}
+use Rattle.sheet.specs.Tree.{Node, Nodes, nil, more, trees, before}
 use Rattle.sheet.specs.Held.{done, next, Formed, FormedAll}
 use Rattle.sheet.specs.Same.{same-bytes, int-texts}
 use Rattle.sheet.specs.Joined.{Reads, Joins}
@@ -92,8 +92,8 @@ with-after = entry-with (bytes "entry,0,1,1" ∷ bytes "after,0,0" ∷ [])
 abbrev without-after : List ℕ
 without-after = entry-with (bytes "entry,0,0,1" ∷ [])
 
-first-item : {t : Node} {ns : Nodes} (n : ℕ) → FormedAll (times n grammar.Item) (more t ns) → Formed grammar.Item t
-unfolding times
+first-item : {t : Node} {ns : Nodes} (n : ℕ) → FormedAll (copies n grammar.Item) (more t ns) → Formed grammar.Item t
+unfolding copies
 first-item n f = formed-one (all-formed grammar.Item n f .1)
 
 -- with an `after` of no expression, and without it

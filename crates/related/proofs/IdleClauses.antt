@@ -7,7 +7,7 @@ use lib.ListN.{getD, take, drop}
 use lib.Seq.{drop-drop}
 use Rattle.grammar.specs.Grammar as grammar
 use Rattle.sheet.specs.Line.{Line}
-use Rattle.sheet.specs.Load.{times, sorts}
+use Rattle.sheet.specs.Load.{copies, sorts}
 use Rattle.sheet.specs.Tree.{Node, node, Nodes, nil, more, before, treeCount}
 use Rattle.sheet.specs.Held.{Formed, formed, FormedAll, none-due, one-due}
 use Rattle.sheet.proofs.Paired.{map₂}
@@ -27,6 +27,7 @@ use Rattle.related.proofs.LikeEntries.{IdleClause, ClausesLike, c-nil, 
 use Rattle.related.proofs.LikeStatements.{SameEvent, StmtLike}
 use Rattle.related.proofs.TwinExprs.{SettingTwin, nodes-twins, stmt-twin, clause-twin}
 use Rattle.related.proofs.TwinItems.{head-same, all-params, ItemBy, entry~, build-by, itemsOf, ItemHeads, item-heads, every-field, every-event, all-named, item-like}
+use Rattle.grammar.specs.Kinds as kinds
 
 -- ------------------------------------------------------------ the parts of an entry
 
@@ -37,17 +38,17 @@ pub record EntryTrees (l : Line) (ps : Nodes) : Type 0 where
   pub body : Nodes
   pub all : ps ≡ before params (before clauses body)
   pub counts : l .parts ≡ (treeCount params, grammar.Param) ∷ (treeCount clauses, grammar.Clause) ∷ (treeCount body, grammar.Stmt) ∷ []
-  pub kind : l .kind ≡ 5
-  pub formed : FormedAll (times (treeCount params) grammar.Param) params
+  pub kind : l .kind ≡ kinds.entry
+  pub formed : FormedAll (copies (treeCount params) grammar.Param) params
 
 three : {a b c x y z : ℕ} → a ≡ x → b ≡ y → c ≡ z
     → _≡_ {A = List (ℕ × grammar.Sort)} ((a, grammar.Param) ∷ (b, grammar.Clause) ∷ (c, grammar.Stmt) ∷ []) ((x, grammar.Param) ∷ (y, grammar.Clause) ∷ (z, grammar.Stmt) ∷ [])
 three p q r = rw (p, q, r)
 
-pub entry-parts : {i : ℕ} {l : Line} {ps : Nodes} → Formed grammar.Item (node i l ps) → l .kind ≡ 5 → EntryTrees l ps
+pub entry-parts : {i : ℕ} {l : Line} {ps : Nodes} → Formed grammar.Item (node i l ps) → l .kind ≡ kinds.entry → EntryTrees l ps
 unfolding sorts
 entry-parts (formed {l = l} a p fs) e =
-    let m = parts l 5 p e in
+    let m = parts l kinds.entry p e in
     let u = first-formed grammar.Param _ (m .0) (rw (m .1 .1 .1, append-nil) at fs) in
     let v = first-formed grammar.Clause _ (m .1 .0) (u .5) in
     let w = all-formed grammar.Stmt (m .1 .1 .0) (v .5) in
@@ -94,7 +95,7 @@ entryIn ps cs ss = record { params = map paramOf (nodes ps); clauses = map claus
 entry-is : (i : ℕ) (l : Line) (ps : Nodes) (p : EntryTrees l ps) → itemOf (node i l ps) ≡ entry (entryIn (p .params) (p .clauses) (p .body))
 unfolding itemOf
 entry-is i l ps p =
-    let z : l .kind - 1 ≡ 4 = omega (arith, p .kind) in
+    let z : l .kind - kinds.state ≡ 4 = omega (arith, p .kind) in
     let a = p .params in
     let c = p .clauses in
     let b = p .body in
@@ -125,13 +126,13 @@ pub data Pairs : Nodes → Nodes → Type 0 where
 pairs-by : {F : Field → Field → Type 0} {E : Expr → Expr → Type 0} {B : Stmt → Stmt → Type 0} {N : Entry → Entry → Type 0} {ns ms : Nodes}
     → ((t u : Node) → Formed grammar.Item t → MovedTwin t u → ItemBy F E B N (itemOf t) (itemOf u))
     → ((l k : Line) (ps qs : Nodes) (h : EntryPair l k ps qs) → N (entryIn (h .left .params) (h .left .clauses) (h .left .body)) (entryIn (h .right .params) (h .right .clauses) (h .right .body)))
-    → (n : ℕ) → FormedAll (times n grammar.Item) ns → Pairs ns ms → Forall₂ (ItemBy F E B N) (map itemOf (nodes ns)) (map itemOf (nodes ms))
-unfolding nodes times
+    → (n : ℕ) → FormedAll (copies n grammar.Item) ns → Pairs ns ms → Forall₂ (ItemBy F E B N) (map itemOf (nodes ns)) (map itemOf (nodes ms))
+unfolding nodes copies
 pairs-by item pair zero none-due p-nil = nil₂
 pairs-by item pair (suc n) (one-due f fs) (p-twin h r) = cons₂ (item _ _ f h) (pairs-by item pair n fs r)
 pairs-by item pair (suc n) (one-due f fs) (p-entry {i = i} {j = j} h r) = rw (entry-is i _ _ (h .left), entry-is j _ _ (h .right)) (cons₂ (entry~ (pair _ _ _ _ h)) (pairs-by item pair n fs r))
 
-heads-pairs : {ns ms : Nodes} (n : ℕ) → FormedAll (times n grammar.Item) ns → Pairs ns ms → Forall₂ (ItemHeads Head) (map itemOf (nodes ns)) (map itemOf (nodes ms))
+heads-pairs : {ns ms : Nodes} (n : ℕ) → FormedAll (copies n grammar.Item) ns → Pairs ns ms → Forall₂ (ItemHeads Head) (map itemOf (nodes ns)) (map itemOf (nodes ms))
 heads-pairs = pairs-by (λ t u f h. item-heads (λ l k q. q) Head (λ t u f q. head-same f q) f h) (λ l k ps qs h. tt)
 
 module _ (m n : Model) (same-field : (x : Name) → SameField (renumbered m n) x) (same-event : (x : Name) → SameEvent (renumbered m n) x) where
@@ -155,12 +156,12 @@ module _ (m n : Model) (same-field : (x : Name) → SameField (renumbered m n) x
     body = map₂ stmtOf stmtOf (λ t u q. stmt-twin (named-twin q)) (nodes-twins (h .body));
   }
 
-  like-pairs : {ns ms : Nodes} (k : ℕ) → FormedAll (times k grammar.Item) ns → Pairs ns ms
+  like-pairs : {ns ms : Nodes} (k : ℕ) → FormedAll (copies k grammar.Item) ns → Pairs ns ms
       → Forall₂ (ItemBy (FieldLike S) (ExprLike S) (StmtLike S) (EntryLike S)) (map itemOf (nodes ns)) (map itemOf (nodes ms))
   like-pairs = pairs-by (λ t u f h. item-like f (named-twin h)) (λ l k ps qs h. entry-pair h)
 
 -- the same number, place and message
-pub idle-clauses : (ns ms : Nodes) (k : ℕ) → FormedAll (times k grammar.Item) ns → Pairs ns ms → fresh (check (itemsOf ns)) .res ≡ fresh (check (itemsOf ms)) .res
+pub idle-clauses : (ns ms : Nodes) (k : ℕ) → FormedAll (copies k grammar.Item) ns → Pairs ns ms → fresh (check (itemsOf ns)) .res ≡ fresh (check (itemsOf ms)) .res
 idle-clauses ns ms k f h =
     let m = itemsOf ns in
     let n = itemsOf ms in

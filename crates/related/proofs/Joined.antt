@@ -32,14 +32,14 @@ use Rattle.related.proofs.Lookups.{fieldIn, last-before}
 values-append : (fs gs : List Field) → All (λ f. fieldIn (f .name) gs ≡ none) fs → values (fs ++ gs) ≡ values fs ++ values gs
 unfolding values
 values-append [] gs h = refl
-values-append (f ∷ fs) gs h = rw (values, last-before (f .name) fs gs (h .0)) (go (fieldIn (f .name) fs) (values-append fs gs (h .1)))
+values-append (f ∷ fs) gs h = rw (values, last-before (f .name) fs gs (h .0)) (by-cases (fieldIn (f .name) fs) (values-append fs gs (h .1)))
   where
     by : List Field → Option Field → List Field
     by vs o = elim o [ some g ↦ vs | none ↦ f ∷ vs ]
 
-    go : (o : Option Field) → values (fs ++ gs) ≡ values fs ++ values gs → by (values (fs ++ gs)) o ≡ by (values fs) o ++ values gs
-    go (some g) e = e
-    go none e = ap (λ vs. f ∷ vs) e
+    by-cases : (o : Option Field) → values (fs ++ gs) ≡ values fs ++ values gs → by (values (fs ++ gs)) o ≡ by (values fs) o ++ values gs
+    by-cases (some g) e = e
+    by-cases none e = ap (λ vs. f ∷ vs) e
 
 -- ------------------------------------------------------------ keys
 
@@ -91,14 +91,14 @@ OfKeyed m u = isKeyed m (u .map) ≡ true
 of-keyed : (m : Model) (names : List Name) (ks : List Keyed) → All (OfKeyed m) (usesOf m names ks)
 unfolding usesOf
 of-keyed m names [] = tt
-of-keyed m names (k ∷ ks) = go (isKeyed m (k .0)) refl (of-keyed m names ks)
+of-keyed m names (k ∷ ks) = by-cases (isKeyed m (k .0)) refl (of-keyed m names ks)
   where
     told : Use
     told = record { map = k .0; isName = isNameKey names (k .1); at = span (k .1) }
 
-    go : (b : Bool) → isKeyed m (k .0) ≡ b → All (OfKeyed m) (usesOf m names ks) → All (OfKeyed m) (elim b [ true ↦ told ∷ usesOf m names ks | false ↦ usesOf m names ks ])
-    go true e r = (e, r)
-    go false e r = r
+    by-cases : (b : Bool) → isKeyed m (k .0) ≡ b → All (OfKeyed m) (usesOf m names ks) → All (OfKeyed m) (elim b [ true ↦ told ∷ usesOf m names ks | false ↦ usesOf m names ks ])
+    by-cases true e r = (e, r)
+    by-cases false e r = r
 
 uses-keyed : (m : Model) (es : List Entry) → All (OfKeyed m) (uses m es)
 unfolding uses
@@ -108,11 +108,11 @@ uses-keyed m (e ∷ es) = all-append (OfKeyed m) (usesOf m (nameParams (e .param
 module _ (m n : Model) (disjoint : (x : Name) → isKeyed m x ≡ true → isKeyed n x ≡ true → ⊥) where
   differ-not : (u v : Use) → OfKeyed m u → OfKeyed n v → differs v u ≡ false
   unfolding differs
-  differ-not u v h k = go (same (v .map) (u .map)) refl
+  differ-not u v h k = by-cases (same (v .map) (u .map)) refl
     where
-      go : (b : Bool) → same (v .map) (u .map) ≡ b → (b && not (Bool·beq (v .isName) (u .isName))) ≡ false
-      go true e = absurd (disjoint (u .map) h (rw (same-is (v .map) (u .map) e) at k))
-      go false e = refl
+      by-cases : (b : Bool) → same (v .map) (u .map) ≡ b → (b && not (Bool·beq (v .isName) (u .isName))) ≡ false
+      by-cases true e = absurd (disjoint (u .map) h (rw (same-is (v .map) (u .map) e) at k))
+      by-cases false e = refl
 
   none-differs : (us : List Use) (v : Use) → All (OfKeyed m) us → OfKeyed n v → any (differs v) us ≡ false
   unfolding any

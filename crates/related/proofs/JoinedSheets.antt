@@ -12,7 +12,7 @@ use Rattle.text.specs.Text.{same}
 use Rattle.grammar.specs.Grammar as grammar
 use Rattle.sheet.specs.Line.{Line}
 use Rattle.sheet.specs.Load.{lines, load}
-use Rattle.sheet.specs.Tree.{Node, build as trees}
+use Rattle.sheet.specs.Tree.{Node, trees}
 use Rattle.sheet.specs.Held.{Formed, formed}
 use Rattle.sheet.specs.Same.{SameLine}
 use Rattle.sheet.specs.Joined.{Reads, Joins}
@@ -109,23 +109,23 @@ module _ {M N A B : Model} (p : Half N M A) (q : Half M N B) where
       (λ x e. rw (← p .heads .events, ← q .heads .events) (sym (first-behind x (M .events) (N .events) e)))
 
   last : All (λ f. fieldIn (f .name) (B .fields) ≡ none) (A .fields)
-  last = go (p .heads .fields)
+  last = by-cases (p .heads .fields)
     where
-      go : {fs gs : List Field} → Forall₂ (HeadForeign N) fs gs → All (λ g. fieldIn (g .name) (B .fields) ≡ none) gs
-      go nil₂ = tt
-      go (cons₂ {a = f} h r) = (rw (← h .head .name) (none-there q (f .name) (h .foreign)), go r)
+      by-cases : {fs gs : List Field} → Forall₂ (HeadForeign N) fs gs → All (λ g. fieldIn (g .name) (B .fields) ≡ none) gs
+      by-cases nil₂ = tt
+      by-cases (cons₂ {a = f} h r) = (rw (← h .head .name) (none-there q (f .name) (h .foreign)), by-cases r)
 
   disjoint : (x : Name) → isKeyed M x ≡ true → isKeyed N x ≡ true → ⊥
   unfolding fieldNamed
-  disjoint x h k = go (found (λ x. fieldNamed N x ≡ none) x (M .fields) (foreign (p .heads .fields)))
+  disjoint x h k = by-cases (found (λ x. fieldNamed N x ≡ none) x (M .fields) (foreign (p .heads .fields)))
     where
       foreign : {fs gs : List Field} → Forall₂ (HeadForeign N) fs gs → All (λ f. fieldNamed N (f .name) ≡ none) fs
       foreign nil₂ = tt
       foreign (cons₂ h r) = (h .foreign, foreign r)
 
-      go : (fieldIn x (M .fields) ≡ none) ⊎ (fieldNamed N x ≡ none) → ⊥
-      go (inl e) = let z : _≡_ {A = ℕ} 0 1 = cc (keyed-none M x e, h) in omega arith
-      go (inr e) = let z : _≡_ {A = ℕ} 0 1 = cc (keyed-none N x e, k) in omega arith
+      by-cases : (fieldIn x (M .fields) ≡ none) ⊎ (fieldNamed N x ≡ none) → ⊥
+      by-cases (inl e) = let z : _≡_ {A = ℕ} 0 1 = cc (keyed-none M x e, h) in omega arith
+      by-cases (inr e) = let z : _≡_ {A = ℕ} 0 1 = cc (keyed-none N x e, k) in omega arith
 
   joined-passes : Passes (check M) → Passes (check N) → Passes (check J)
   joined-passes = check-joined M N A B part₁ part₂ last disjoint

@@ -112,19 +112,19 @@ list-like (more~ h k) = cons₂ h (list-like k)
 ident-leaf : {S : Setting} {a b : Leaf} → LeafLike S a b → Both (SameField S) (identLeaf a) (identLeaf b)
 unfolding identLeaf
 ident-leaf (l-text f) = b-none
-ident-leaf {S} (l-same {k = k} h) = go (identLeaf k) h
+ident-leaf {S} (l-same {k = k} h) = by-cases (identLeaf k) h
   where
-    go : (o : Option Name) → ((x : Name) → o ≡ some x → SameField S x) → Both (SameField S) o o
-    go none f = b-none
-    go (some x) f = b-some (f x refl)
+    by-cases : (o : Option Name) → ((x : Name) → o ≡ some x → SameField S x) → Both (SameField S) o o
+    by-cases none f = b-none
+    by-cases (some x) f = b-some (f x refl)
 
 pub ident-like : {S : Setting} {e f : Expr} → ExprLike S e f → Both (SameField S) (identOf e) (identOf f)
 unfolding identOf
-ident-like {S} {e} {f} h = go (leaf-like h)
+ident-like {S} {e} {f} h = by-cases (leaf-like h)
   where
-    go : {o u : Option Leaf} → Opt (LeafLike S) o u → Both (SameField S) (elim o [ none ↦ none | some k ↦ identLeaf k ]) (elim u [ none ↦ none | some k ↦ identLeaf k ])
-    go o-none = b-none
-    go (o-some r) = ident-leaf r
+    by-cases : {o u : Option Leaf} → Opt (LeafLike S) o u → Both (SameField S) (elim o [ none ↦ none | some k ↦ identLeaf k ]) (elim u [ none ↦ none | some k ↦ identLeaf k ])
+    by-cases o-none = b-none
+    by-cases (o-some r) = ident-leaf r
 
 both-same : {A : Type 0} {P : A → Type 0} {o u : Option A} → Both P o u → o ≡ u
 both-same b-none = refl
@@ -155,14 +155,14 @@ pub last-like : {A B : Type 0} {R : A → B → Type 0} {as' : List A} {bs : Lis
     → (x : Name) → Forall₂ R as' bs → Opt R (lastNamed f x as') (lastNamed g x bs)
 unfolding lastNamed
 last-like f g n x nil₂ = o-none
-last-like {R = R} f g n x (cons₂ {a = a} {b = b} h k) = go (last-like f g n x k) (alike (ap (same x) (n a b h)))
+last-like {R = R} f g n x (cons₂ {a = a} {b = b} h k) = by-cases (last-like f g n x k) (alike (ap (same x) (n a b h)))
   where
     alike : {t u : Bool} → t ≡ u → Opt R (elim t [ true ↦ some a | false ↦ none ]) (elim u [ true ↦ some b | false ↦ none ])
     alike {u = u} e = rw e (opt-either u (o-some h) o-none)
 
-    go : {o u : Option _} {p q : Option _} → Opt R o u → Opt R p q → Opt R (elim o [ some b ↦ some b | none ↦ p ]) (elim u [ some b ↦ some b | none ↦ q ])
-    go o-none q = q
-    go (o-some r) q = o-some r
+    by-cases : {o u : Option _} {p q : Option _} → Opt R o u → Opt R p q → Opt R (elim o [ some b ↦ some b | none ↦ p ]) (elim u [ some b ↦ some b | none ↦ q ])
+    by-cases o-none q = q
+    by-cases (o-some r) q = o-some r
 
 -- two environments that are the same but for the model in which names are looked up, and for what only the `again` of an asking sees
 pub record SameEnv (S : Setting) (Γ Δ : Env) : Type 0 where

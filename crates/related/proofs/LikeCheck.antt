@@ -116,14 +116,14 @@ module _ {S : Setting} where
   values-like nil₂ = nil₂
   values-like (cons₂ {a = f} {b = g} {l₁ = fs} {l₂ = gs} h k) =
       let q : Opt (FieldLike S) (lastNamed (λ g. g .name) (f .name) fs) (lastNamed (λ g. g .name) (g .name) gs) = rw (← h .head .name) (last-like (λ g. g .name) (λ g. g .name) (λ a b r. r .head .name) (f .name) k) in
-      go q (values-like k)
+      by-cases q (values-like k)
     where
       by : Field → List Field → Option Field → List Field
       by f vs o = elim o [ some g ↦ vs | none ↦ f ∷ vs ]
 
-      go : {o u : Option Field} {vs ws : List Field} → Opt (FieldLike S) o u → Forall₂ (FieldLike S) vs ws → Forall₂ (FieldLike S) (by f vs o) (by g ws u)
-      go o-none q = cons₂ h q
-      go (o-some r) q = q
+      by-cases : {o u : Option Field} {vs ws : List Field} → Opt (FieldLike S) o u → Forall₂ (FieldLike S) vs ws → Forall₂ (FieldLike S) (by f vs o) (by g ws u)
+      by-cases o-none q = cons₂ h q
+      by-cases (o-some r) q = q
 
   a-before : ModelLike S → Alike S (beforeEntries (S .left)) (beforeEntries (S .right))
   unfolding beforeEntries

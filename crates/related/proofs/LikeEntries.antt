@@ -8,7 +8,7 @@ use Rattle.sheet.proofs.Paired.{Opt, o-none, o-some, opt-either, append₂}
 use Rattle.rules.specs.Text.{Name, is, isOne, among}
 use Rattle.rules.specs.Ast.{Add, AssignOp, Set, AddTo, SubFrom, Leaf, Expr, Exprs, Param, Clause, limits, denies, mints, after, Entry, Stmt, span, typeName}
 use Rattle.rules.specs.Asking.{Ty, Rule, ret, _>>=_, forEach}
-use Rattle.rules.specs.Declared.{literal, intOf}
+use Rattle.rules.specs.Types.{literal, intOf}
 use Rattle.rules.specs.Typing.{Dot, identOf, isSome}
 use Rattle.rules.specs.Arithmetic.{any, isOp, acknowledged, amountOf, isMintedAmount, boundedAddend, sumTerms, mentions, mentionsAny, subtracts, upperBounds, capsFromAbove, limitsCap, limitsBound, sameTarget, without, isSum, addends, isMints, assetParams, bounded, checkSum, checkArithmetic}
 use Rattle.rules.specs.KeyKinds.{Keyed, keyedHere, keyedCalls, keyedCallsAll, present, clauseExprs, bodyExprs, entryExprs, keyedIn, Use, nameParams, isKeyed, isNameKey, usesOf, uses, checkKeyKinds}
@@ -89,7 +89,7 @@ module _ {S : Setting} where
 
   amount-like : {e f : Expr} (xs : List Name) → ExprLike S e f → amountOf e xs ≡ amountOf f xs
   unfolding amountOf
-  amount-like xs h = go (dot-like h)
+  amount-like xs h = by-cases (dot-like h)
     where
       one : Option Name → Bool
       one o = elim o [ none ↦ false | some x ↦ among x xs ]
@@ -97,13 +97,13 @@ module _ {S : Setting} where
       by : Option Dot → Bool
       by o = elim o [ none ↦ false | some d ↦ is (d .name) "amount" && one (identOf (d .base)) ]
 
-      go : {o u : Option Dot} → Opt (DotLike S) o u → by o ≡ by u
-      go o-none = refl
-      go (o-some r) = rw (r .name, ident-same (r .base))
+      by-cases : {o u : Option Dot} → Opt (DotLike S) o u → by o ≡ by u
+      by-cases o-none = refl
+      by-cases (o-some r) = rw (r .name, ident-same (r .base))
 
   is-int : {e f : Expr} → ExprLike S e f → isSome (intOf e) ≡ isSome (intOf f)
   unfolding intOf isSome literal
-  is-int h = go (leaf-like h)
+  is-int h = by-cases (leaf-like h)
     where
       by : Option Leaf → Bool
       by o = isSome {A = Name} (elim o [ none ↦ none | some k ↦ literal k ])
@@ -112,19 +112,19 @@ module _ {S : Setting} where
       leaf (l-text f) = refl
       leaf (l-same h) = refl
 
-      go : {o u : Option Leaf} → Opt (LeafLike S) o u → by o ≡ by u
-      go o-none = refl
-      go (o-some r) = leaf r
+      by-cases : {o u : Option Leaf} → Opt (LeafLike S) o u → by o ≡ by u
+      by-cases o-none = refl
+      by-cases (o-some r) = leaf r
 
   terms-like : {e f : Expr} → ExprLike S e f → Forall₂ (ExprLike S) (sumTerms e) (sumTerms f)
   unfolding sumTerms
   terms-like (leaf~ l h) = cons₂ (leaf~ l h) nil₂
   terms-like (unary~ l h) = cons₂ (unary~ l h) nil₂
-  terms-like (binary~ {o = o} l h k) = go (isOp o Add) (append₂ (terms-like h) (terms-like k)) (cons₂ (binary~ l h k) nil₂)
+  terms-like (binary~ {o = o} l h k) = by-cases (isOp o Add) (append₂ (terms-like h) (terms-like k)) (cons₂ (binary~ l h k) nil₂)
     where
-      go : {as' bs : List Expr} {cs ds : List Expr} (b : Bool) → Forall₂ (ExprLike S) as' bs → Forall₂ (ExprLike S) cs ds → Forall₂ (ExprLike S) (elim b [ true ↦ as' | false ↦ cs ]) (elim b [ true ↦ bs | false ↦ ds ])
-      go true h k = h
-      go false h k = k
+      by-cases : {as' bs : List Expr} {cs ds : List Expr} (b : Bool) → Forall₂ (ExprLike S) as' bs → Forall₂ (ExprLike S) cs ds → Forall₂ (ExprLike S) (elim b [ true ↦ as' | false ↦ cs ]) (elim b [ true ↦ bs | false ↦ ds ])
+      by-cases true h k = h
+      by-cases false h k = k
   terms-like (field~ l h) = cons₂ (field~ l h) nil₂
   terms-like (call~ l h k) = cons₂ (call~ l h k) nil₂
   terms-like (wrap~ l h) = cons₂ (wrap~ l h) nil₂
@@ -188,16 +188,16 @@ module _ {S : Setting} where
   without-like : {t u : Expr} {es fs : List Expr} → ExprLike S t u → Forall₂ (ExprLike S) es fs → Opt (Forall₂ (ExprLike S)) (without t es) (without u fs)
   unfolding without
   without-like h nil₂ = o-none
-  without-like {t} {u} h (cons₂ {a = a} {b = b} {l₁ = as'} {l₂ = bs} k r) = rw (without, target-like h k) (go (sameTarget u b) (without-like h r))
+  without-like {t} {u} h (cons₂ {a = a} {b = b} {l₁ = as'} {l₂ = bs} k r) = rw (without, target-like h k) (by-cases (sameTarget u b) (without-like h r))
     where
       others : {o v : Option (List Expr)} → Opt (Forall₂ (ExprLike S)) o v → Opt (Forall₂ (ExprLike S)) (Option·map (λ us. a ∷ us) o) (Option·map (λ us. b ∷ us) v)
       others o-none = o-none
       others (o-some q) = o-some (cons₂ k q)
 
-      go : (c : Bool) {o v : Option (List Expr)} → Opt (Forall₂ (ExprLike S)) o v
+      by-cases : (c : Bool) {o v : Option (List Expr)} → Opt (Forall₂ (ExprLike S)) o v
           → Opt (Forall₂ (ExprLike S)) (elim c [ true ↦ some as' | false ↦ Option·map (λ us. a ∷ us) o ]) (elim c [ true ↦ some bs | false ↦ Option·map (λ us. b ∷ us) v ])
-      go true q = o-some r
-      go false q = others q
+      by-cases true q = o-some r
+      by-cases false q = others q
 
   sum-like : {e f : Expr} → ExprLike S e f → isSum e ≡ isSum f
   unfolding isSum
@@ -247,15 +247,15 @@ module _ {S : Setting} where
   unfolding keyedHere
   here-like o-none h = nil₂
   here-like (o-some r) nil~ = nil₂
-  here-like (o-some {b = d} r) (more~ {e = e} {f = f} h k) = rw (r .name) (go (isOne (d .name) ("set" ∷ "get" ∷ "contains" ∷ "insert" ∷ "remove" ∷ "credit" ∷ "debit" ∷ [])) (ident-like (r .base)))
+  here-like (o-some {b = d} r) (more~ {e = e} {f = f} h k) = rw (r .name) (by-cases (isOne (d .name) ("set" ∷ "get" ∷ "contains" ∷ "insert" ∷ "remove" ∷ "credit" ∷ "debit" ∷ [])) (ident-like (r .base)))
     where
       by : Bool → Expr → Option Name → List Keyed
       by b k o = elim o [ none ↦ [] | some x ↦ elim b [ true ↦ (x, k) ∷ [] | false ↦ [] ] ]
 
-      go : (b : Bool) {o u : Option Name} → Both (SameField S) o u → Forall₂ (KeyedLike S) (by b e o) (by b f u)
-      go b b-none = nil₂
-      go true (b-some n) = cons₂ (record { map = refl; same-field = n; key = h }) nil₂
-      go false (b-some n) = nil₂
+      by-cases : (b : Bool) {o u : Option Name} → Both (SameField S) o u → Forall₂ (KeyedLike S) (by b e o) (by b f u)
+      by-cases b b-none = nil₂
+      by-cases true (b-some n) = cons₂ (record { map = refl; same-field = n; key = h }) nil₂
+      by-cases false (b-some n) = nil₂
 
   mutual
     unfolding keyedCalls
@@ -318,7 +318,7 @@ module _ (S : Setting) where
   uses-of names nil₂ = refl
   uses-of names (cons₂ {a = i} {b = j} {l₁ = ks} {l₂ = js} h k) =
       let p : isKeyed (S .left) (i .0) ≡ isKeyed (S .right) (j .0) = rw (h .map) (is-keyed S (j .0) (rw (h .map) at (h .same-field))) in
-      go p (rw (h .map, name-key names (h .key), span-like (h .key))) (uses-of names k)
+      by-cases p (rw (h .map, name-key names (h .key), span-like (h .key))) (uses-of names k)
     where
       told : Keyed → Use
       told k = record { map = k .0; isName = isNameKey names (k .1); at = span (k .1) }
@@ -326,8 +326,8 @@ module _ (S : Setting) where
       by : Bool → Use → List Use → List Use
       by b u us = elim b [ true ↦ u ∷ us | false ↦ us ]
 
-      go : {b c : Bool} {us vs : List Use} → b ≡ c → told i ≡ told j → us ≡ vs → by b (told i) us ≡ by c (told j) vs
-      go p q r = rw (p, q, r)
+      by-cases : {b c : Bool} {us vs : List Use} → b ≡ c → told i ≡ told j → us ≡ vs → by b (told i) us ≡ by c (told j) vs
+      by-cases p q r = rw (p, q, r)
 
   pub uses-like : {es fs : List Entry} → Forall₂ (EntryLike S) es fs → uses (S .left) es ≡ uses (S .right) fs
   unfolding uses

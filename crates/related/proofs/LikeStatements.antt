@@ -10,13 +10,13 @@ use Rattle.sheet.proofs.Paired.{Opt, o-none, o-some, at₂}
 use Rattle.rules.specs.Text.{Name, Piece, is}
 use Rattle.rules.specs.Ast.{AssignOp, Set, AddTo, SubFrom, Checked, Wrapping, Expr, Exprs, Param, Stmt, guard, bind, emit, assign, do', typeName, args}
 use Rattle.rules.specs.Asking.{Ty, TName, Collection, Address, Rule, ifSome}
-use Rattle.rules.specs.Declared.{intOf, narrowMax, eqTy, isTy, oneWord}
+use Rattle.rules.specs.Types.{intOf, narrowMax, eqTy, isTy, oneWord}
 use Rattle.rules.specs.Model.{Model, fieldNamed, eventNamed}
 use Rattle.rules.specs.Typing.{Env, Dot, Asked, identOf, identIs}
 use Rattle.rules.specs.Statements.{emitMismatch, checkEmitField, checkEmitFields, narrowField, isAddressField, nameIntoAddress, isWrapping, wrappingIntoNarrow, literalIntoNarrow, fromDeployParams, slotFits, judgeAssign, checkAssign, checkKeyedUse, checkStmtTypes, expectPredicate, positions, refuseNameRecipient}
 use Rattle.rules.specs.Assets.{makesAsset, noAssetCall, noAssetCalls, consumedAssetCall, assetCallsConsumed, wraps, wrapsAny, reaches, narrowArg, narrowValues, narrowSet, narrowStmt, wrappedAfter, narrowStmts}
 use Rattle.rules.proofs.Pure.{pure}
-use Rattle.related.proofs.Alike.{Setting, a-ret, Alike, a-same, a-bind, a-then, a-when, a-some, a-maybe, a-else, a-each, a-for}
+use Rattle.related.proofs.Alike.{Setting, a-ret, Alike, a-same, a-bind, a-then, a-provided, a-some, a-maybe, a-else, a-each, a-for}
 use Rattle.related.proofs.Like.{Head, SameField, Both, b-none, b-some, ExprLike, leaf~, unary~, binary~, field~, call~, wrap~, ExprsLike, nil~, more~, span-like, DotLike, dot-like, call-like, list-like, ident-like, ident-same, has-leaf, is-like, SameEnv}
 use Rattle.related.proofs.LikeTyping.{TextOnly, t-ret, a-text, t-expect, of-type, AskedLike, field-in, param-like, a-keyed, int-like, a-typings, a-ask-of, a-tyOf}
 
@@ -61,11 +61,11 @@ wrapping-like (wrap~ l h) = refl
 -- where the bare name of an expression is looked at
 a-name : {S : Setting} {e g : Expr} {f h : Name → Rule Unit} → ExprLike S e g → ((x : Name) → SameField S x → Alike S (f x) (h x)) → Alike S (ifSome (identOf e) f) (ifSome (identOf g) h)
 unfolding ifSome
-a-name {S} {e} {g} {f} {h} l k = go (ident-like l)
+a-name {S} {e} {g} {f} {h} l k = by-cases (ident-like l)
   where
-    go : {o u : Option Name} → Both (SameField S) o u → Alike S (ifSome o f) (ifSome u h)
-    go b-none = a-ret tt
-    go (b-some {a = x} n) = k x n
+    by-cases : {o u : Option Name} → Both (SameField S) o u → Alike S (ifSome o f) (ifSome u h)
+    by-cases b-none = a-ret tt
+    by-cases (b-some {a = x} n) = k x n
 
 t-some : {A : Type 0} (o : Option A) (f : A → Rule Unit) → ((a : A) → TextOnly (f a)) → TextOnly (ifSome o f)
 unfolding ifSome
@@ -103,22 +103,22 @@ module _ {S : Setting} {Γ Δ : Env} (same : SameEnv S Γ Δ) where
 
   a-literal : {v w : Expr} (x : Name) → SameField S x → ExprLike S v w → Alike S (literalIntoNarrow Γ x v) (literalIntoNarrow Δ x w)
   unfolding literalIntoNarrow
-  a-literal {v} {w} x n h = go (int-like h)
+  a-literal {v} {w} x n h = by-cases (int-like h)
     where
-      go : (intOf v ≡ intOf w) ⊎ S .Free → Alike S (literalIntoNarrow Γ x v) (literalIntoNarrow Δ x w)
-      go (inl e) = rw (e, narrow-like _ _ x (field-in same x n), span-like h) (a-same (search pure))
-      go (inr f) = a-text f (t-literal Γ x v) (t-literal Δ x w)
+      by-cases : (intOf v ≡ intOf w) ⊎ S .Free → Alike S (literalIntoNarrow Γ x v) (literalIntoNarrow Δ x w)
+      by-cases (inl e) = rw (e, narrow-like _ _ x (field-in same x n), span-like h) (a-same (search pure))
+      by-cases (inr f) = a-text f (t-literal Γ x v) (t-literal Δ x w)
 
   params-like : {e f : Expr} → ExprLike S e f → fromDeployParams Γ e ≡ fromDeployParams Δ f
   unfolding fromDeployParams
-  params-like h = ap₂ _&&_ (same .genesis) (go (dot-like h))
+  params-like h = ap₂ _&&_ (same .genesis) (by-cases (dot-like h))
     where
       by : Option Dot → Bool
       by o = elim o [ none ↦ false | some d ↦ identIs (d .base) "deploy_params" ]
 
-      go : {o u : Option Dot} → Opt (DotLike S) o u → by o ≡ by u
-      go o-none = refl
-      go (o-some r) = is-like "deploy_params" (r .base)
+      by-cases : {o u : Option Dot} → Opt (DotLike S) o u → by o ≡ by u
+      by-cases o-none = refl
+      by-cases (o-some r) = is-like "deploy_params" (r .base)
 
   fits-like : {v w : Expr} (o : AssignOp) (slot given : Ty) → ExprLike S v w → slotFits Γ o v slot given ≡ slotFits Δ o w slot given
   unfolding slotFits
@@ -170,14 +170,14 @@ module _ {S : Setting} {Γ Δ : Env} (same : SameEnv S Γ Δ) where
 
 makes-like : {S : Setting} {c d : Expr} → ExprLike S c d → makesAsset c ≡ makesAsset d
 unfolding makesAsset
-makes-like {S} {c} {d} h = go (dot-like h)
+makes-like {S} {c} {d} h = by-cases (dot-like h)
   where
     by : Expr → Option Dot → Bool
     by e o = elim o [ some d ↦ is (d .name) "split" | none ↦ identIs e "mint" ]
 
-    go : {o u : Option Dot} → Opt (DotLike S) o u → by c o ≡ by d u
-    go o-none = is-like "mint" h
-    go (o-some r) = rw (r .name)
+    by-cases : {o u : Option Dot} → Opt (DotLike S) o u → by c o ≡ by d u
+    by-cases o-none = is-like "mint" h
+    by-cases (o-some r) = rw (r .name)
 
 module _ {S : Setting} where
   mutual
@@ -242,7 +242,7 @@ module _ (S : Setting) where
       a-some (dot-like (r .callee))
       (λ a b q.
       rw (q .name)
-      (a-when _ (a-name (q .base) (λ x n. rw (narrow-values S x n) (a-some (at₂ 1 (list-like (r .args))) (λ v w k. a-reaches xs _ _ k)))))))
+      (a-provided _ (a-name (q .base) (λ x n. rw (narrow-values S x n) (a-some (at₂ 1 (list-like (r .args))) (λ v w k. a-reaches xs _ _ k)))))))
 
   a-narrow : {s u : Stmt} (xs : List Name) → StmtLike S s u → Alike S (narrowStmt (S .left) xs s) (narrowStmt (S .right) xs u)
   unfolding narrowStmt

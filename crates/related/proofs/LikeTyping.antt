@@ -9,11 +9,11 @@ use Rattle.sheet.proofs.Paired.{Opt, o-none, o-some}
 use Rattle.rules.specs.Text.{Name, Piece, is, isOne, pick, get}
 use Rattle.rules.specs.Ast.{Type', UnaryOp, Not, Neg, BinOp, Or, And, Eq, Ne, Lt, Gt, Le, Ge, Add, Sub, Mul, Div, Rem, Shr, Leaf, int, id, date, str, caller, native, inasset, now, Expr, Exprs, Field, typeName}
 use Rattle.rules.specs.Asking.{Ty, TName, Asset, Unknown, Address, Boolean, Refusal, Rule, ret, refuse, expect}
-use Rattle.rules.specs.Declared.{literal, intOf, isZeroLiteral, tyOfDecl, eqTy}
+use Rattle.rules.specs.Types.{literal, intOf, isZeroLiteral, tyOfDecl, eqTy}
 use Rattle.rules.specs.Model.{fieldNamed}
-use Rattle.rules.specs.Typing.{Env, identLeaf, Dot, identIs, Asked, isNameParam, fieldOf, keyedField, isPool, judgeKey, checkKeys, checkAmount, checkKeyedCall, expectKeyedOp, expectAssetReceiver, tyOfIdent, tyOfLeaf, tyOfGet, tyOfCall, askEach, typeCall, expectNumericOr, expectNumber, judgeUnary, logical, arithmetic, ordering, equality, judgeBinary, tyOfUnary, tyOfBinary, asked, typing, typings, askOf, tyOf}
+use Rattle.rules.specs.Typing.{Env, identLeaf, Dot, identIs, Asked, isNameParam, stateFieldOf, keyedField, isPool, judgeKey, checkKeys, checkAmount, checkKeyedCall, expectKeyedOp, expectAssetReceiver, tyOfIdent, tyOfLeaf, tyOfGet, tyOfCall, askEach, typeCall, expectNumericOr, expectNumber, judgeUnary, logical, arithmetic, ordering, equality, judgeBinary, tyOfUnary, tyOfBinary, asked, typing, typings, askOf, tyOf}
 use Rattle.rules.proofs.Pure.{pure}
-use Rattle.related.proofs.Alike.{Setting, a-ret, a-left, a-right, a-ask, Alike, a-same, a-bind, a-then, a-when, a-some}
+use Rattle.related.proofs.Alike.{Setting, a-ret, a-left, a-right, a-ask, Alike, a-same, a-bind, a-then, a-provided, a-some}
 use Rattle.related.proofs.Like.{Head, SameField, Both, b-none, b-some, LeafLike, l-text, l-same, ExprLike, leaf~, unary~, binary~, field~, call~, wrap~, ExprsLike, nil~, more~, span-like, line-like, leaf-like, DotLike, dot-like, ident-like, ident-same, is-like, SameEnv}
 
 -- a rule that gives tt, or refuses for the text of a literal
@@ -62,9 +62,9 @@ module _ {S : Setting} {Γ Δ : Env} (same : SameEnv S Γ Δ) where
       by : List (Name × Ty) → Option Name → Bool
       by ps o = elim o [ none ↦ false | some x ↦ elim (get x ps) [ none ↦ false | some t ↦ eqTy t TName ] ]
 
-  field-like : {e f : Expr} → ExprLike S e f → Opt Head (fieldOf Γ e) (fieldOf Δ f)
-  unfolding fieldOf
-  field-like h = go (ident-like h)
+  field-like : {e f : Expr} → ExprLike S e f → Opt Head (stateFieldOf Γ e) (stateFieldOf Δ f)
+  unfolding stateFieldOf
+  field-like h = by-cases (ident-like h)
     where
       at : Env → Name → Option Ty → Option Field
       at Θ x o = elim o [ some t ↦ none | none ↦ fieldNamed (Θ .model) x ]
@@ -76,13 +76,13 @@ module _ {S : Setting} {Γ Δ : Env} (same : SameEnv S Γ Δ) where
       by : Env → Option Name → Option Field
       by Θ o = elim o [ none ↦ none | some x ↦ at Θ x (get x (Θ .params)) ]
 
-      go : {o u : Option Name} → Both (SameField S) o u → Opt Head (by Γ o) (by Δ u)
-      go b-none = o-none
-      go (b-some {a = x} k) = rw (same .params) (look x (get x (Δ .params)) k)
+      by-cases : {o u : Option Name} → Both (SameField S) o u → Opt Head (by Γ o) (by Δ u)
+      by-cases b-none = o-none
+      by-cases (b-some {a = x} k) = rw (same .params) (look x (get x (Δ .params)) k)
 
   keyed-like : {e f : Expr} → ExprLike S e f → Opt Head (keyedField Γ e) (keyedField Δ f)
   unfolding keyedField
-  keyed-like h = go (field-like h)
+  keyed-like h = by-cases (field-like h)
     where
       isKeyed : Type' → Bool
       isKeyed t = isOne (typeName t) ("Map" ∷ "Registry" ∷ [])
@@ -94,9 +94,9 @@ module _ {S : Setting} {Γ Δ : Env} (same : SameEnv S Γ Δ) where
       by : Option Field → Option Field
       by o = elim o [ none ↦ none | some f ↦ elim (isKeyed (f .ty)) [ true ↦ some f | false ↦ none ] ]
 
-      go : {o u : Option Field} → Opt Head o u → Opt Head (by o) (by u)
-      go o-none = o-none
-      go (o-some k) = kind (ap isKeyed (k .ty)) k
+      by-cases : {o u : Option Field} → Opt Head o u → Opt Head (by o) (by u)
+      by-cases o-none = o-none
+      by-cases (o-some k) = kind (ap isKeyed (k .ty)) k
 
   pool-like : {e f : Expr} → ExprLike S e f → isPool Γ e ≡ isPool Δ f
   unfolding isPool
@@ -104,7 +104,7 @@ module _ {S : Setting} {Γ Δ : Env} (same : SameEnv S Γ Δ) where
 
   pub name-like : (x : Name) → SameField S x → tyOfIdent Γ x ≡ tyOfIdent Δ x
   unfolding tyOfIdent
-  name-like x h = go (get x (Γ .params)) (get x (Γ .locals)) ∙ ap₂ (by Δ) (ap (get x) (same .params)) (ap (get x) (same .locals))
+  name-like x h = by-cases (get x (Γ .params)) (get x (Γ .locals)) ∙ ap₂ (by Δ) (ap (get x) (same .params)) (ap (get x) (same .locals))
     where
       deployer : Ty
       deployer = elim (is x "deployer") [ true ↦ Address | false ↦ Unknown ]
@@ -112,29 +112,29 @@ module _ {S : Setting} {Γ Δ : Env} (same : SameEnv S Γ Δ) where
       by : Env → Option Ty → Option Ty → Ty
       by Θ o u = elim o [ some t ↦ t | none ↦ elim u [ some t ↦ t | none ↦ elim (fieldNamed (Θ .model) x) [ some f ↦ tyOfDecl (f .ty) | none ↦ deployer ] ] ]
 
-      go : (o u : Option Ty) → by Γ o u ≡ by Δ o u
-      go (some t) u = refl
-      go none (some t) = refl
-      go none none = of-type deployer (λ f. tyOfDecl (f .ty)) (λ f g e. rw e) (field-in x h)
+      by-cases : (o u : Option Ty) → by Γ o u ≡ by Δ o u
+      by-cases (some t) u = refl
+      by-cases none (some t) = refl
+      by-cases none none = of-type deployer (λ f. tyOfDecl (f .ty)) (λ f g e. rw e) (field-in x h)
 
   leaf-type : {a b : Leaf} → LeafLike S a b → tyOfLeaf Γ a ≡ tyOfLeaf Δ b
   unfolding tyOfLeaf identLeaf
   leaf-type (l-text f) = refl
-  leaf-type (l-same {k = k} h) = go k h
+  leaf-type (l-same {k = k} h) = by-cases k h
     where
-      go : (k : Leaf) → ((x : Name) → identLeaf k ≡ some x → SameField S x) → tyOfLeaf Γ k ≡ tyOfLeaf Δ k
-      go (int n) f = refl
-      go (id x) f = name-like x (f x refl)
-      go date f = refl
-      go str f = refl
-      go caller f = refl
-      go native f = refl
-      go inasset f = refl
-      go now f = refl
+      by-cases : (k : Leaf) → ((x : Name) → identLeaf k ≡ some x → SameField S x) → tyOfLeaf Γ k ≡ tyOfLeaf Δ k
+      by-cases (int n) f = refl
+      by-cases (id x) f = name-like x (f x refl)
+      by-cases date f = refl
+      by-cases str f = refl
+      by-cases caller f = refl
+      by-cases native f = refl
+      by-cases inasset f = refl
+      by-cases now f = refl
 
   call-type : {c d : Expr} → ExprLike S c d → tyOfCall Γ c ≡ tyOfCall Δ d
   unfolding tyOfCall
-  call-type {c} {d} h = go (dot-like h)
+  call-type {c} {d} h = by-cases (dot-like h)
     where
       of : Env → Dot → Ty
       of Θ d = pick (d .name) (("contains", Boolean) ∷ ("split", Asset) ∷ ("get", tyOfGet (keyedField Θ (d .base))) ∷ []) Unknown
@@ -145,9 +145,9 @@ module _ {S : Setting} {Γ Δ : Env} (same : SameEnv S Γ Δ) where
       by : Env → Expr → Option Dot → Ty
       by Θ c o = elim o [ some d ↦ of Θ d | none ↦ mint (identIs c "mint") ]
 
-      go : {o u : Option Dot} → Opt (DotLike S) o u → by Γ c o ≡ by Δ d u
-      go o-none = ap mint (is-like "mint" h)
-      go (o-some r) = rw (r .name, get-like (keyed-like (r .base)))
+      by-cases : {o u : Option Dot} → Opt (DotLike S) o u → by Γ c o ≡ by Δ d u
+      by-cases o-none = ap mint (is-like "mint" h)
+      by-cases (o-some r) = rw (r .name, get-like (keyed-like (r .base)))
 
   -- ------------------------------------------------------------ keyed calls
 
@@ -177,7 +177,7 @@ module _ {S : Setting} {Γ Δ : Env} (same : SameEnv S Γ Δ) where
 
   pub a-keyed : {c d : Expr} {as' bs : List Asked} → ExprLike S c d → Forall₂ (AskedLike S) as' bs → Alike S (checkKeyedCall Γ c as') (checkKeyedCall Δ d bs)
   unfolding checkKeyedCall
-  a-keyed h k = a-some (dot-like h) (λ a b r. a-some (keyed-like (r .base)) (λ f g q. rw (r .name, q .name, q .ty) (a-then (a-when _ (a-amount _ k)) (a-keys _ true _ k))))
+  a-keyed h k = a-some (dot-like h) (λ a b r. a-some (keyed-like (r .base)) (λ f g q. rw (r .name, q .name, q .ty) (a-then (a-provided _ (a-amount _ k)) (a-keys _ true _ k))))
 
   a-ask-each : {as' bs : List Asked} → Forall₂ (AskedLike S) as' bs → Alike S (askEach as') (askEach bs)
   unfolding askEach
@@ -206,34 +206,34 @@ module _ {S : Setting} where
   -- the texts of literals are free, or these are the same
   pub int-like : {e f : Expr} → ExprLike S e f → (intOf e ≡ intOf f) ⊎ S .Free
   unfolding intOf
-  int-like h = go (leaf-like h)
+  int-like h = by-cases (leaf-like h)
     where
       by : Option Leaf → Option Name
       by o = elim o [ none ↦ none | some k ↦ literal k ]
 
-      go : {o u : Option Leaf} → Opt (LeafLike S) o u → (by o ≡ by u) ⊎ S .Free
-      go o-none = inl refl
-      go (o-some r) = int-leaf r
+      by-cases : {o u : Option Leaf} → Opt (LeafLike S) o u → (by o ≡ by u) ⊎ S .Free
+      by-cases o-none = inl refl
+      by-cases (o-some r) = int-leaf r
 
   zero-like : {e f : Expr} → ExprLike S e f → (isZeroLiteral e ≡ isZeroLiteral f) ⊎ S .Free
   unfolding isZeroLiteral
-  zero-like {e} {f} h = go (int-like h)
+  zero-like {e} {f} h = by-cases (int-like h)
     where
-      go : (intOf e ≡ intOf f) ⊎ S .Free → (isZeroLiteral e ≡ isZeroLiteral f) ⊎ S .Free
-      go (inl q) = inl (rw (isZeroLiteral, q))
-      go (inr x) = inr x
+      by-cases : (intOf e ≡ intOf f) ⊎ S .Free → (isZeroLiteral e ≡ isZeroLiteral f) ⊎ S .Free
+      by-cases (inl q) = inl (rw (isZeroLiteral, q))
+      by-cases (inr x) = inr x
 
   a-equality : AlikeJudge S equality
   unfolding equality
-  a-equality a b c d t u h k = go (zero-like h) (zero-like k)
+  a-equality a b c d t u h k = by-cases (zero-like h) (zero-like k)
     where
       free : S .Free → Alike S (equality a b t u) (equality c d t u)
       free f = rw (span-like h) (a-then (a-same (search pure)) (a-then (a-text f (t-expect _ 42 _ _ (inr refl)) (t-expect _ 42 _ _ (inr refl))) (a-ret Boolean)))
 
-      go : (isZeroLiteral a ≡ isZeroLiteral c) ⊎ S .Free → (isZeroLiteral b ≡ isZeroLiteral d) ⊎ S .Free → Alike S (equality a b t u) (equality c d t u)
-      go (inl p) (inl q) = rw (p, q, span-like h, span-like k) (a-same (search pure))
-      go (inl p) (inr f) = free f
-      go (inr f) q = free f
+      by-cases : (isZeroLiteral a ≡ isZeroLiteral c) ⊎ S .Free → (isZeroLiteral b ≡ isZeroLiteral d) ⊎ S .Free → Alike S (equality a b t u) (equality c d t u)
+      by-cases (inl p) (inl q) = rw (p, q, span-like h, span-like k) (a-same (search pure))
+      by-cases (inl p) (inr f) = free f
+      by-cases (inr f) q = free f
 
   a-logical : AlikeJudge S logical
   unfolding logical expectNumericOr

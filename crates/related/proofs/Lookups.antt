@@ -38,22 +38,22 @@ first-before x (e ∷ es) ds h = ap (λ (o : Option Event). elim (same x (e .nam
 pub first-behind : (x : Name) (es ds : List Event) → eventIn x es ≡ none → eventIn x (es ++ ds) ≡ eventIn x ds
 unfolding firstNamed
 first-behind x [] ds h = refl
-first-behind x (e ∷ es) ds h = go (same x (e .name)) h (λ q. first-behind x es ds q)
+first-behind x (e ∷ es) ds h = by-cases (same x (e .name)) h (λ q. first-behind x es ds q)
   where
     by : Bool → Option Event → Option Event
     by b o = elim b [ true ↦ some e | false ↦ o ]
 
-    go : (b : Bool) → by b (eventIn x es) ≡ none → (eventIn x es ≡ none → eventIn x (es ++ ds) ≡ eventIn x ds) → by b (eventIn x (es ++ ds)) ≡ eventIn x ds
-    go true q f = absurd (let z : _≡_ {A = ℕ} 0 1 = cc in omega arith)
-    go false q f = f q
+    by-cases : (b : Bool) → by b (eventIn x es) ≡ none → (eventIn x es ≡ none → eventIn x (es ++ ds) ≡ eventIn x ds) → by b (eventIn x (es ++ ds)) ≡ eventIn x ds
+    by-cases true q f = absurd (let z : _≡_ {A = ℕ} 0 1 = cc in omega arith)
+    by-cases false q f = f q
 
 -- what holds of each field's name holds of a name that is found
 pub found : (Q : Name → Type 0) (x : Name) (fs : List Field) → All (λ f. Q (f .name)) fs → (fieldIn x fs ≡ none) ⊎ Q x
 unfolding lastNamed
 found Q x [] h = inl refl
-found Q x (f ∷ fs) h = go (found Q x fs (h .1)) (same x (f .name)) refl
+found Q x (f ∷ fs) h = by-cases (found Q x fs (h .1)) (same x (f .name)) refl
   where
-    go : (fieldIn x fs ≡ none) ⊎ Q x → (b : Bool) → same x (f .name) ≡ b → (_≡_ {A = Option Field} (elim (fieldIn x fs) [ some g ↦ some g | none ↦ elim (same x (f .name)) [ true ↦ some f | false ↦ none ] ]) none) ⊎ Q x
-    go (inr q) b e = inr q
-    go (inl n) true e = inr (rw (same-is x (f .name) e) (h .0))
-    go (inl n) false e = inl (rw (n, e))
+    by-cases : (fieldIn x fs ≡ none) ⊎ Q x → (b : Bool) → same x (f .name) ≡ b → (_≡_ {A = Option Field} (elim (fieldIn x fs) [ some g ↦ some g | none ↦ elim (same x (f .name)) [ true ↦ some f | false ↦ none ] ]) none) ⊎ Q x
+    by-cases (inr q) b e = inr q
+    by-cases (inl n) true e = inr (rw (same-is x (f .name) e) (h .0))
+    by-cases (inl n) false e = inl (rw (n, e))

@@ -7,8 +7,8 @@ use native.Mathlib.Omega.{arith}
 use lib.ListN.{length, length-map}
 use Rattle.grammar.specs.Grammar as grammar
 use Rattle.sheet.specs.Line.{Line}
-use Rattle.sheet.specs.Load.{times}
-use Rattle.sheet.specs.Tree.{node, Nodes, build as trees, before, treeCount}
+use Rattle.sheet.specs.Load.{copies}
+use Rattle.sheet.specs.Tree.{node, Nodes, trees, before, treeCount}
 use Rattle.sheet.specs.Held.{Due, FormedAll}
 use Rattle.sheet.specs.Same.{SameLine}
 use Rattle.sheet.proofs.Paired.{append₂}
@@ -25,20 +25,21 @@ use Rattle.related.proofs.Like.{Head, SameField}
 use Rattle.related.proofs.LikeStatements.{SameEvent}
 use Rattle.related.proofs.Sheets.{items-read, items-before}
 use Rattle.related.proofs.TwinItems.{head-same, itemsOf, Heads, heads-of, every-field, every-event, all-named, part-of}
+use Rattle.grammar.specs.Kinds as kinds
 
 -- an entry alone
-one-entry : (i : ℕ) (e : Line) (m : List Line) → Due 1 (e ∷ m) → e .kind ≡ 5 → (x : Entry) × (itemsOf (trees i (e ∷ m)) ≡ joined (itemModel (entry x)) (build []))
+one-entry : (i : ℕ) (e : Line) (m : List Line) → Due 1 (e ∷ m) → e .kind ≡ kinds.entry → (x : Entry) × (itemsOf (trees i (e ∷ m)) ≡ joined (itemModel (entry x)) (build []))
 unfolding itemOf entryOf nodes build
 one-entry i e m d k =
-    let z : e .kind - 1 ≡ 4 = omega arith in
+    let z : e .kind - kinds.state ≡ 4 = omega arith in
     (entryOf (node i e (trees (suc i) m)), rw (first-tree i e m d, z))
 
 -- the model of the items a, an entry and the items z
 record Divided (M : Model) (a z : Nodes) : Type 0 where
   one : Entry
   whole : M ≡ joined (itemsOf a) (joined (joined (itemModel (entry one)) (build [])) (itemsOf z))
-  ahead : FormedAll (times (treeCount a) grammar.Item) a
-  behind : FormedAll (times (treeCount z) grammar.Item) z
+  ahead : FormedAll (copies (treeCount a) grammar.Item) a
+  behind : FormedAll (copies (treeCount z) grammar.Item) z
 
 divided : {c e : Line} {a m z : List Line} → Around c e a m z → Divided (modelOf (c ∷ (a ++ ((e ∷ m) ++ z)))) (trees 1 a) (trees (1 + length a + length (e ∷ m)) z)
 divided {c} {e} {a} {m} {z} h =
@@ -68,7 +69,7 @@ module _ {M N : Model} {a z b y : Nodes} (h : Divided M a z) (k : Divided N b y)
   abbrev S : Setting
   S = renumbered M N
 
-  heads : {ns ms : Nodes} → FormedAll (times (treeCount ns) grammar.Item) ns → MovedTwins ns ms → Heads Head (itemsOf ns) (itemsOf ms)
+  heads : {ns ms : Nodes} → FormedAll (copies (treeCount ns) grammar.Item) ns → MovedTwins ns ms → Heads Head (itemsOf ns) (itemsOf ms)
   heads f t = heads-of (λ l k q. q) Head (λ t u f q. head-same f q) _ f t
 
   same-field : (x : Name) → SameField S x
@@ -79,7 +80,7 @@ module _ {M N : Model} {a z b y : Nodes} (h : Divided M a z) (k : Divided N b y)
   unfolding joined itemModel build
   same-event = every-event S (rw (h .whole, k .whole) (ap₂ _++_ (heads (h .ahead) ahead .events) (heads (h .behind) behind .events)))
 
-  same : {ns ms : Nodes} → FormedAll (times (treeCount ns) grammar.Item) ns → MovedTwins ns ms → map (resultIn M) (itemsOf ns .entries) ≡ map (resultIn N) (itemsOf ms .entries)
+  same : {ns ms : Nodes} → FormedAll (copies (treeCount ns) grammar.Item) ns → MovedTwins ns ms → map (resultIn M) (itemsOf ns .entries) ≡ map (resultIn N) (itemsOf ms .entries)
   same f t =
       same-results (resultIn M) (resultIn N)
       (Forall₂·imp (λ x y q. entry-renumbered M N x y q) (part-of {S = S} _ f (twins-map (all-named S same-field same-event) t) .entries))

@@ -4,8 +4,8 @@ use mathlib.Core.List.{List, [], _∷_, _++_, map, map-append, append-assoc, For
 use Prim.Native.Nat.{ℕ, suc}
 use Rattle.grammar.specs.Grammar as grammar
 use Rattle.sheet.specs.Line.{Line}
-use Rattle.sheet.specs.Load.{lines, load, times}
-use Rattle.sheet.specs.Tree.{Node, Nodes, nil, more, build as trees, before}
+use Rattle.sheet.specs.Load.{lines, load, copies}
+use Rattle.sheet.specs.Tree.{Node, Nodes, nil, more, trees, before}
 use Rattle.sheet.specs.Held.{Formed, formed, FormedAll}
 use Rattle.sheet.specs.Same.{SameRecord}
 use Rattle.sheet.proofs.Twins.{Twin, twin, trees-twins, one-twin}
@@ -19,7 +19,7 @@ use Rattle.related.proofs.TwinItems.{itemsOf, contract-parts, model-lik
 
 -- a sheet that is read: its items, behind the first line
 pub items-read : (s : List ℕ) (types scratch : ℕ) (c : Line) (r : List Line) → load s types scratch ≡ lines (c ∷ r)
-    → (m : ℕ) × FormedAll (times m grammar.Item) (trees 1 r) × (modelOf (c ∷ r) ≡ itemsOf (trees 1 r))
+    → (m : ℕ) × FormedAll (copies m grammar.Item) (trees 1 r) × (modelOf (c ∷ r) ≡ itemsOf (trees 1 r))
 unfolding modelOf contractOf
 items-read s types scratch c r e = let q = root-of s types scratch c r e in let f = contract-parts (q .1) in (f .0, f .1, rw (q .0))
 

@@ -12,7 +12,7 @@ use Rattle.sheet.proofs.Paired.{length₂}
 use Rattle.sheet.proofs.Rereading.{scan-but-text}
 use Rattle.rules.specs.Asking.{Res, ok, refused, fresh}
 use Rattle.rules.specs.Check.{check}
-use Rattle.rules.specs.Verdict.{Answer, told, modelOf, ruled, judge, verdict}
+use Rattle.rules.specs.Verdict.{Answer, answerFor, modelOf, ruled, judge, verdict}
 use Rattle.related.proofs.Accepted.{zero-passed}
 use Rattle.related.proofs.Compared.{texts, check-texts-logs, check-texts-number}
 use Rattle.related.proofs.LikeCheck.{ModelLike}
@@ -36,14 +36,14 @@ module _ (s z : List ℕ) (types scratch message types' scratch' message' : ℕ)
 
   -- both accepted: the same type table and count
   pub texts-tables : first .number ≡ 0 → second .number ≡ 0 → (first .types ≡ second .types) × (first .count ≡ second .count)
-  unfolding verdict judge ruled told
+  unfolding verdict judge ruled answerFor
   texts-tables p q =
       let a = zero-passed s types scratch message ls read p in
       let b = zero-passed z types' scratch' message' ks also-read q in
       rw (read, also-read, a, b, check-texts-logs (modelOf ls) (modelOf ks) models a b, length₂ records-but-text) (refl, refl)
 
   by-result : (r : Res Unit) → fresh (check (modelOf ks)) .res ≡ r → fresh (check (modelOf ls)) .res ≡ ok tt → (second .number ≡ 0) ⊎ ((second .number ≡ 27) ⊎ (second .number ≡ 42))
-  unfolding verdict judge ruled told
+  unfolding verdict judge ruled answerFor
   by-result (ok tt) e a = inl (rw (also-read, e))
   by-result (refused r) e a = inr (rw (also-read, e) (check-texts-number (modelOf ls) (modelOf ks) models r a e))
 

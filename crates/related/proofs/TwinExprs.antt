@@ -16,19 +16,20 @@ use Rattle.sheet.specs.Same.{SameRecord}
 use Rattle.sheet.proofs.Paired.{Opt, take₂, drop₂, at₂, map₂, opt-map}
 use Rattle.sheet.proofs.Twins.{Twin, twin, Twins, no-twin, and-twin}
 use Rattle.rules.specs.Text.{Name}
-use Rattle.rules.specs.Ast.{Leaf, int, date, str, caller, native, inasset, now, Expr, leaf, Exprs, spanOf, first, rest, exprKinds, exprOf, exprsOf, nodes, blankNode, clauseOf, stmtOf}
+use Rattle.rules.specs.Ast.{Leaf, int, date, str, caller, native, inasset, now, Expr, leaf, Exprs, spanOf, firstExpr, otherExprs, exprKinds, exprOf, exprsOf, nodes, blankNode, clauseOf, stmtOf}
 use Rattle.rules.specs.Typing.{identLeaf}
 use Rattle.rules.proofs.Parts.{Each as Numbers, stop, _also_, pick}
 use Rattle.related.proofs.Alike.{Setting}
 use Rattle.related.proofs.Like.{SameField, LeafLike, l-text, l-same, ExprLike, leaf~, unary~, binary~, field~, call~, wrap~, ExprsLike, nil~, more~, id-like}
 use Rattle.related.proofs.LikeStatements.{SameEvent, StmtLike, guard~, bind~, emit~, assign~, do~}
 use Rattle.related.proofs.LikeEntries.{ClauseLike, limits~, denies~, mints~, after~}
+use Rattle.grammar.specs.Kinds as kinds
 
 -- the same record, and the models of the setting tell the same of the name that it mentions
 pub record SameNamed (S : Setting) (l k : Line) : Type 0 where
   pub same : SameRecord (S .Free) l k
-  pub field : (l .kind ≡ 21) ⊎ (l .kind ≡ 6) → SameField S (l .name)
-  pub event : l .kind ≡ 17 → SameEvent S (l .name)
+  pub field : (l .kind ≡ kinds.id) ⊎ (l .kind ≡ kinds.field) → SameField S (l .name)
+  pub event : l .kind ≡ kinds.emit → SameEvent S (l .name)
 
 abbrev pub SettingTwin : Setting → Node → Node → Type 0
 SettingTwin S = Twin (S .Lines) (SameNamed S)
@@ -39,24 +40,24 @@ nodes-twins no-twin = nil₂
 nodes-twins (and-twin h k) = cons₂ h (nodes-twins k)
 
 -- names differ only in an `int`
-pub same-name : {Free : Type 0} {l k : Line} → SameRecord Free l k → (l .kind ≡ 20 → ⊥) → l .name ≡ k .name
-same-name {Free} {l} {k} h f = go (h .name)
+pub same-name : {Free : Type 0} {l k : Line} → SameRecord Free l k → (l .kind ≡ kinds.int → ⊥) → l .name ≡ k .name
+same-name {Free} {l} {k} h f = by-cases (h .name)
   where
-    go : (l .name ≡ k .name) ⊎ (Free × (l .kind ≡ 20)) → l .name ≡ k .name
-    go (inl e) = e
-    go (inr e) = absurd (f (e .1))
+    by-cases : (l .name ≡ k .name) ⊎ (Free × (l .kind ≡ kinds.int)) → l .name ≡ k .name
+    by-cases (inl e) = e
+    by-cases (inr e) = absurd (f (e .1))
 
 -- ------------------------------------------------------------ expressions
 
 plain : {S : Setting} (k : Leaf) → identLeaf k ≡ none → LeafLike S k k
 plain {S} k e = l-same {k = k} (λ x q. absurd (let z : _≡_ {A = ℕ} 0 1 = cc (e, q) in omega arith))
 
-first-like : {S : Setting} {es fs : Exprs} → ExprsLike S es fs → ExprLike S (first es) (first fs)
+first-like : {S : Setting} {es fs : Exprs} → ExprsLike S es fs → ExprLike S (firstExpr es) (firstExpr fs)
 unfolding identLeaf
 first-like {S} nil~ = leaf~ (S .line-zero) (plain now refl)
 first-like (more~ h k) = h
 
-rest-like : {S : Setting} {es fs : Exprs} → ExprsLike S es fs → ExprsLike S (rest es) (rest fs)
+rest-like : {S : Setting} {es fs : Exprs} → ExprsLike S es fs → ExprsLike S (otherExprs es) (otherExprs fs)
 rest-like nil~ = nil~
 rest-like (more~ h k) = k
 
@@ -67,10 +68,10 @@ text-like (inr f) = l-text (f .0)
 
 module _ (S : Setting) (i j : ℕ) (n : S .Lines i j) (l k : Line) (h : SameNamed S l k) (ps qs : Nodes) (es : ExprsLike S (exprsOf ps) (exprsOf qs)) where
   abbrev Made : ℕ → Type 0
-  Made d = l .kind - 20 ≡ d → ExprLike S (exprOf (node i l ps)) (exprOf (node j k qs))
+  Made d = l .kind - kinds.int ≡ d → ExprLike S (exprOf (node i l ps)) (exprOf (node j k qs))
 
-  side : (d : ℕ) → l .kind - 20 ≡ d → k .kind - 20 ≡ d
-  side d e = ap (λ (n : ℕ). n - 20) (sym (h .same .kind)) ∙ e
+  side : (d : ℕ) → l .kind - kinds.int ≡ d → k .kind - kinds.int ≡ d
+  side d e = ap (λ (n : ℕ). n - kinds.int) (sym (h .same .kind)) ∙ e
 
   made : Numbers Made 0 14
   unfolding exprOf identLeaf
@@ -92,18 +93,18 @@ module _ (S : Setting) (i j : ℕ) (n : S .Lines i j) (l k : Line) (h : SameName
       also stop
 
   -- no expression's kind
-  other : 14 ≤ l .kind - 20 → ExprLike S (exprOf (node i l ps)) (exprOf (node j k qs))
+  other : 14 ≤ l .kind - kinds.int → ExprLike S (exprOf (node i l ps)) (exprOf (node j k qs))
   unfolding exprOf identLeaf
   other e =
       let d : ℕ → Line → Exprs → Expr = λ i l es. leaf i (spanOf l) now in
-      rw (← h .same .kind, h .same .spans, List·getD-eq-default exprKinds d {n = l .kind - 20} e) (leaf~ n (plain now refl))
+      rw (← h .same .kind, h .same .spans, List·getD-eq-default exprKinds d {n = l .kind - kinds.int} e) (leaf~ n (plain now refl))
 
   expr-made : ExprLike S (exprOf (node i l ps)) (exprOf (node j k qs))
-  expr-made = go (ltb (l .kind - 20) 14) refl
+  expr-made = by-cases (ltb (l .kind - kinds.int) 14) refl
     where
-      go : (b : Bool) → ltb (l .kind - 20) 14 ≡ b → ExprLike S (exprOf (node i l ps)) (exprOf (node j k qs))
-      go true e = pick (l .kind - 20) made (omega arith) (ltb-true _ _ e) refl
-      go false e = other (ltb-false _ _ e)
+      by-cases : (b : Bool) → ltb (l .kind - kinds.int) 14 ≡ b → ExprLike S (exprOf (node i l ps)) (exprOf (node j k qs))
+      by-cases true e = pick (l .kind - kinds.int) made (omega arith) (ltb-true _ _ e) refl
+      by-cases false e = other (ltb-false _ _ e)
 
 module _ {S : Setting} where
   mutual
@@ -128,7 +129,7 @@ module _ {S : Setting} where
 -- ------------------------------------------------------------ statements and clauses
 
 module _ (S : Setting) (i j : ℕ) (n : S .Lines i j) (l k : Line) (h : SameNamed S l k) (ps qs : Nodes) (r : Forall₂ (SettingTwin S) (nodes ps) (nodes qs)) where
-  stmt-made : (d : ℕ) → l .kind - 15 ≡ d → k .kind - 15 ≡ d → StmtLike S (stmtOf (node i l ps)) (stmtOf (node j k qs))
+  stmt-made : (d : ℕ) → l .kind - kinds.guard ≡ d → k .kind - kinds.guard ≡ d → StmtLike S (stmtOf (node i l ps)) (stmtOf (node j k qs))
   unfolding stmtOf identLeaf
   stmt-made zero e f = rw (e, f) (guard~ (at-twin 0 r))
   stmt-made (suc zero) e f = rw (e, f, same-name (h .same) (λ q. omega arith)) (bind~ (at-twin 0 r))
@@ -137,7 +138,7 @@ module _ (S : Setting) (i j : ℕ) (n : S .Lines i j) (l k : Line) (h : SameName
   stmt-made (suc (suc (suc (suc zero)))) e f = rw (e, f) (do~ (at-twin 0 r))
   stmt-made (suc (suc (suc (suc (suc d))))) e f = rw (e, f) (do~ (leaf~ (S .line-zero) (plain now refl)))
 
-  clause-made : (d : ℕ) → l .kind - 11 ≡ d → k .kind - 11 ≡ d → ClauseLike S (clauseOf (node i l ps)) (clauseOf (node j k qs))
+  clause-made : (d : ℕ) → l .kind - kinds.limits ≡ d → k .kind - kinds.limits ≡ d → ClauseLike S (clauseOf (node i l ps)) (clauseOf (node j k qs))
   unfolding clauseOf
   clause-made zero e f = rw (e, f) (limits~ (at-twin 0 r))
   clause-made (suc zero) e f = rw (e, f) (denies~ (at-twin 0 r))
@@ -147,7 +148,7 @@ module _ (S : Setting) (i j : ℕ) (n : S .Lines i j) (l k : Line) (h : SameName
 
 module _ {S : Setting} where
   pub stmt-twin : {t u : Node} → SettingTwin S t u → StmtLike S (stmtOf t) (stmtOf u)
-  stmt-twin (twin {l = l} {ps = ps} {qs = qs} n h r) = stmt-made S _ _ n _ _ h ps qs (nodes-twins r) (l .kind - 15) refl (ap (λ (n : ℕ). n - 15) (sym (h .same .kind)))
+  stmt-twin (twin {l = l} {ps = ps} {qs = qs} n h r) = stmt-made S _ _ n _ _ h ps qs (nodes-twins r) (l .kind - kinds.guard) refl (ap (λ (n : ℕ). n - kinds.guard) (sym (h .same .kind)))
 
   pub clause-twin : {t u : Node} → SettingTwin S t u → ClauseLike S (clauseOf t) (clauseOf u)
-  clause-twin (twin {l = l} {ps = ps} {qs = qs} n h r) = clause-made S _ _ n _ _ h ps qs (nodes-twins r) (l .kind - 11) refl (ap (λ (n : ℕ). n - 11) (sym (h .same .kind)))
+  clause-twin (twin {l = l} {ps = ps} {qs = qs} n h r) = clause-made S _ _ n _ _ h ps qs (nodes-twins r) (l .kind - kinds.limits) refl (ap (λ (n : ℕ). n - kinds.limits) (sym (h .same .kind)))

@@ -7,7 +7,7 @@ use native.Mathlib.Omega.{arith}
 use lib.ListN.{getD, take}
 use Rattle.grammar.specs.Grammar as grammar
 use Rattle.sheet.specs.Line.{Line}
-use Rattle.sheet.specs.Load.{times, sorts}
+use Rattle.sheet.specs.Load.{copies, sorts}
 use Rattle.sheet.specs.Tree.{Node, node, Nodes}
 use Rattle.sheet.specs.Held.{Among, Parted, Formed, formed, FormedAll, none-due, one-due}
 use Rattle.sheet.specs.Same.{SameRecord}
@@ -24,33 +24,34 @@ use Rattle.related.proofs.LikeStatements.{SameEvent, StmtLike}
 use Rattle.related.proofs.LikeEntries.{each-clauses, EntryLike}
 use Rattle.related.proofs.LikeCheck.{FieldLike, ModelBy, PartLike, ModelLike}
 use Rattle.related.proofs.TwinExprs.{SameNamed, SettingTwin, nodes-twins, same-name, at-twin, maybe-twin, stmt-twin, clause-twin}
+use Rattle.grammar.specs.Kinds as kinds
 
 -- ------------------------------------------------------------ types are the same
 
 abbrev TypeSort : grammar.Sort → Type 0
 TypeSort s = (s ≡ grammar.Ty) ⊎ (s ≡ grammar.Arg)
 
-in-type : (s : grammar.Sort) (k : ℕ) → TypeSort s → Among s k → (8 ≤ k) × (k < 11)
+in-type : (s : grammar.Sort) (k : ℕ) → TypeSort s → Among s k → (kinds.type ≤ k) × (k < kinds.limits)
 in-type s k (inl e) a = let b : Among grammar.Ty k = rw e at a in (omega arith, omega arith)
 in-type s k (inr e) a = let b : Among grammar.Arg k = rw e at a in (omega arith, omega arith)
 
-all-times : (P : grammar.Sort → Type 0) (n : ℕ) (s : grammar.Sort) → P s → All P (times n s)
-unfolding times
+all-times : (P : grammar.Sort → Type 0) (n : ℕ) (s : grammar.Sort) → P s → All P (copies n s)
+unfolding copies
 all-times P zero s h = tt
 all-times P (suc n) s h = (h, all-times P n s h)
 
-type-parts : (l : Line) → Parted l → (8 ≤ l .kind) × (l .kind < 11) → All TypeSort (sorts (l .parts))
+type-parts : (l : Line) → Parted l → (kinds.type ≤ l .kind) × (l .kind < kinds.limits) → All TypeSort (sorts (l .parts))
 unfolding sorts
-type-parts l p a = pick (l .kind) kinds (a .0) (a .1) refl
+type-parts l p a = pick (l .kind) each-kind (a .0) (a .1) refl
   where
-    kinds : Numbers (λ k. l .kind ≡ k → All TypeSort (sorts (l .parts))) 8 3
-    kinds =
-        (λ e. let m = parts l 8 p e in rw (m .1, append-nil) (all-times TypeSort (m .0) grammar.Arg (inr refl)))
-        also (λ e. rw (parts l 9 p e) tt)
-        also (λ e. rw (parts l 10 p e) tt)
+    each-kind : Numbers (λ k. l .kind ≡ k → All TypeSort (sorts (l .parts))) kinds.type 3
+    each-kind =
+        (λ e. let m = parts l kinds.type p e in rw (m .1, append-nil) (all-times TypeSort (m .0) grammar.Arg (inr refl)))
+        also (λ e. rw (parts l kinds.num p e) tt)
+        also (λ e. rw (parts l kinds.mofn p e) tt)
         also stop
 
-arg-made : (i j : ℕ) (l k : Line) (ps qs : Nodes) (d : ℕ) → l .kind - 8 ≡ d → k .kind - 8 ≡ d → l .name ≡ k .name → l .spans ≡ k .spans → argsOf ps ≡ argsOf qs → argOf (node i l ps) ≡ argOf (node j k qs)
+arg-made : (i j : ℕ) (l k : Line) (ps qs : Nodes) (d : ℕ) → l .kind - kinds.type ≡ d → k .kind - kinds.type ≡ d → l .name ≡ k .name → l .spans ≡ k .spans → argsOf ps ≡ argsOf qs → argOf (node i l ps) ≡ argOf (node j k qs)
 unfolding argOf
 arg-made i j l k ps qs zero e f n s as' = rw (e, f, n, s, as')
 arg-made i j l k ps qs (suc zero) e f n s as' = rw (e, f, n)
@@ -64,7 +65,7 @@ module _ {L : ℕ → ℕ → Type 0} {Free : Type 0} where
     arg-same : {s : grammar.Sort} {t u : Node} → Formed s t → TypeSort s → Twin L (SameRecord Free) t u → argOf t ≡ argOf u
     arg-same {s} (formed {l = l} a p fs) y (twin {i = i} {j = j} {k = k} {ps = ps} {qs = qs} n h r) =
         let b = in-type s (l .kind) y a in
-        arg-made i j l k ps qs (l .kind - 8) refl (ap (λ (n : ℕ). n - 8) (sym (h .kind))) (same-name h (λ q. omega arith)) (h .spans) (args-same fs (type-parts l p b) r)
+        arg-made i j l k ps qs (l .kind - kinds.type) refl (ap (λ (n : ℕ). n - kinds.type) (sym (h .kind))) (same-name h (λ q. omega arith)) (h .spans) (args-same fs (type-parts l p b) r)
 
     args-same : {ss : List grammar.Sort} {ns ms : Nodes} → FormedAll ss ns → All TypeSort ss → Twins L (SameRecord Free) ns ms → argsOf ns ≡ argsOf ms
     args-same none-due y no-twin = refl
@@ -81,23 +82,23 @@ module _ {L : ℕ → ℕ → Type 0} {Free : Type 0} where
   first-type (one-due f fs) (and-twin h r) = type-same f (inl refl) h
 
   param-same : {t u : Node} → Formed grammar.Param t → Twin L (SameRecord Free) t u → paramOf t ≡ paramOf u
-  unfolding paramOf sorts times
+  unfolding paramOf sorts copies
   param-same (formed {l = l} a p fs) (twin n h r) =
-      rw (same-name h (λ q. omega arith), first-type (rw (parts l 7 p (omega (arith, a))) at fs) r)
+      rw (same-name h (λ q. omega arith), first-type (rw (parts l kinds.param p (omega (arith, a))) at fs) r)
 
   pub head-same : {t u : Node} → Formed grammar.Field t → Twin L (SameRecord Free) t u → Head (fieldOf t) (fieldOf u)
-  unfolding fieldOf sorts times
+  unfolding fieldOf sorts copies
   head-same (formed {l = l} a p fs) (twin n h r) =
-      let m = parts l 6 p (omega (arith, a)) in
+      let m = parts l kinds.field p (omega (arith, a)) in
       record { name = same-name h (λ q. omega arith); ty = first-type (rw (m .1) at fs) r }
 
-  params-same : {ns ms : Nodes} (ss : List grammar.Sort) (n : ℕ) → FormedAll (times n grammar.Param ++ ss) ns → Twins L (SameRecord Free) ns ms → map paramOf (take n (nodes ns)) ≡ map paramOf (take n (nodes ms))
-  unfolding nodes times
+  params-same : {ns ms : Nodes} (ss : List grammar.Sort) (n : ℕ) → FormedAll (copies n grammar.Param ++ ss) ns → Twins L (SameRecord Free) ns ms → map paramOf (take n (nodes ns)) ≡ map paramOf (take n (nodes ms))
+  unfolding nodes copies
   params-same ss zero f h = refl
   params-same ss (suc n) (one-due f fs) (and-twin h r) = ap₂ _∷_ (param-same f h) (params-same ss n fs r)
 
-  pub all-params : {ns ms : Nodes} (n : ℕ) → FormedAll (times n grammar.Param) ns → Twins L (SameRecord Free) ns ms → map paramOf (nodes ns) ≡ map paramOf (nodes ms)
-  unfolding nodes times
+  pub all-params : {ns ms : Nodes} (n : ℕ) → FormedAll (copies n grammar.Param) ns → Twins L (SameRecord Free) ns ms → map paramOf (nodes ns) ≡ map paramOf (nodes ms)
+  unfolding nodes copies
   all-params zero none-due no-twin = refl
   all-params (suc n) (one-due f fs) (and-twin h r) = ap₂ _∷_ (param-same f h) (all-params n fs r)
 
@@ -135,18 +136,18 @@ module _ {L : ℕ → ℕ → Type 0} {R : Line → Line → Type 0} {Free : Typ
     (field : (t u : Node) → Formed grammar.Field t → Twin L R t u → F (fieldOf t) (fieldOf u))
     (expr : (ns ms : List Node) → Forall₂ (Twin L R) ns ms → E (exprOf (getD ns 0 blankNode)) (exprOf (getD ms 0 blankNode)))
     (stmt : (t u : Node) → Twin L R t u → B (stmtOf t) (stmtOf u))
-    (entry' : (i j : ℕ) (l k : Line) (ps qs : Nodes) → l .kind ≡ 5 → Parted l → FormedAll (sorts (l .parts)) ps → R l k → Twins L R ps qs → N (entryOf (node i l ps)) (entryOf (node j k qs))) where
-  fields-by : {ns ms : Nodes} (n : ℕ) → FormedAll (times n grammar.Field) ns → Twins L R ns ms → Forall₂ F (map fieldOf (nodes ns)) (map fieldOf (nodes ms))
-  unfolding nodes times
+    (entry' : (i j : ℕ) (l k : Line) (ps qs : Nodes) → l .kind ≡ kinds.entry → Parted l → FormedAll (sorts (l .parts)) ps → R l k → Twins L R ps qs → N (entryOf (node i l ps)) (entryOf (node j k qs))) where
+  fields-by : {ns ms : Nodes} (n : ℕ) → FormedAll (copies n grammar.Field) ns → Twins L R ns ms → Forall₂ F (map fieldOf (nodes ns)) (map fieldOf (nodes ms))
+  unfolding nodes copies
   fields-by zero none-due no-twin = nil₂
   fields-by (suc n) (one-due f fs) (and-twin h r) = cons₂ (field _ _ f h) (fields-by n fs r)
 
-  item-made : (i j : ℕ) (l k : Line) (ps qs : Nodes) (d : ℕ) → l .kind - 1 ≡ d → k .kind - 1 ≡ d → Parted l → Among grammar.Item (l .kind)
+  item-made : (i j : ℕ) (l k : Line) (ps qs : Nodes) (d : ℕ) → l .kind - kinds.state ≡ d → k .kind - kinds.state ≡ d → Parted l → Among grammar.Item (l .kind)
       → FormedAll (sorts (l .parts)) ps → R l k → Twins L R ps qs → ItemBy F E B N (itemOf (node i l ps)) (itemOf (node j k qs))
   unfolding itemOf entryOf sorts
-  item-made i j l k ps qs zero e f p a fs h r = let m = parts l 1 p (omega arith) in rw (e, f) (state~ (fields-by (m .0) (rw (m .1, append-nil) at fs) r))
+  item-made i j l k ps qs zero e f p a fs h r = let m = parts l kinds.state p (omega arith) in rw (e, f) (state~ (fields-by (m .0) (rw (m .1, append-nil) at fs) r))
   item-made i j l k ps qs (suc zero) e f p a fs h r =
-      let m = parts l 2 p (omega arith) in
+      let m = parts l kinds.event p (omega arith) in
       rw (e, f) (event~ (event-same (same-name (same l k h) (λ q. omega arith)) (all-params (m .0) (rw (m .1, append-nil) at fs) (twins-map same r))))
   item-made i j l k ps qs (suc (suc zero)) e f p a fs h r = rw (e, f) (invariant~ (expr _ _ (nodes-twins r)))
   item-made i j l k ps qs (suc (suc (suc zero))) e f p a fs h r = rw (e, f) (genesis~ (map₂ stmtOf stmtOf stmt (nodes-twins r)))
@@ -155,12 +156,12 @@ module _ {L : ℕ → ℕ → Type 0} {R : Line → Line → Type 0} {Free : Typ
 
   item-twin : {t u : Node} → Formed grammar.Item t → Twin L R t u → ItemBy F E B N (itemOf t) (itemOf u)
   item-twin (formed {l = l} a p fs) (twin {i = i} {j = j} {k = k} {ps = ps} {qs = qs} n h r) =
-      item-made i j l k ps qs (l .kind - 1) refl (ap (λ (n : ℕ). n - 1) (sym (same l k h .kind))) p a fs h r
+      item-made i j l k ps qs (l .kind - kinds.state) refl (ap (λ (n : ℕ). n - kinds.state) (sym (same l k h .kind))) p a fs h r
 
 -- what holds of items one by one
 items-by : {L : ℕ → ℕ → Type 0} {R : Line → Line → Type 0} {Q : Item → Item → Type 0} {ns ms : Nodes} → ((t u : Node) → Formed grammar.Item t → Twin L R t u → Q (itemOf t) (itemOf u))
-    → (n : ℕ) → FormedAll (times n grammar.Item) ns → Twins L R ns ms → Forall₂ Q (map itemOf (nodes ns)) (map itemOf (nodes ms))
-unfolding nodes times
+    → (n : ℕ) → FormedAll (copies n grammar.Item) ns → Twins L R ns ms → Forall₂ Q (map itemOf (nodes ns)) (map itemOf (nodes ms))
+unfolding nodes copies
 items-by item zero none-due no-twin = nil₂
 items-by item (suc n) (one-due f fs) (and-twin h r) = cons₂ (item _ _ f h) (items-by item n fs r)
 
@@ -185,7 +186,7 @@ module _ {L : ℕ → ℕ → Type 0} {R : Line → Line → Type 0} {Free : Typ
   pub item-heads : {t u : Node} → Formed grammar.Item t → Twin L R t u → ItemHeads F (itemOf t) (itemOf u)
   item-heads = item-twin same F AnyPair AnyPair AnyPair field (λ ns ms q. tt) (λ t u q. tt) (λ i j l k ps qs e p fs q r. tt)
 
-  pub heads-of : {ns ms : Nodes} (n : ℕ) → FormedAll (times n grammar.Item) ns → Twins L R ns ms → Heads F (itemsOf ns) (itemsOf ms)
+  pub heads-of : {ns ms : Nodes} (n : ℕ) → FormedAll (copies n grammar.Item) ns → Twins L R ns ms → Heads F (itemsOf ns) (itemsOf ms)
   heads-of n f h = build-by (items-by (λ t u f q. item-heads f q) n f h)
 
 -- where the fields have the same heads and the events are the same, both models tell the same of every name
@@ -211,11 +212,11 @@ module _ {S : Setting} where
         same-field = h .field (inr (omega (arith, a)));
       }
 
-  entry-twin : (i j : ℕ) (l k : Line) (ps qs : Nodes) → l .kind ≡ 5 → Parted l → FormedAll (sorts (l .parts)) ps → SameNamed S l k → Twins (S .Lines) (SameNamed S) ps qs
+  entry-twin : (i j : ℕ) (l k : Line) (ps qs : Nodes) → l .kind ≡ kinds.entry → Parted l → FormedAll (sorts (l .parts)) ps → SameNamed S l k → Twins (S .Lines) (SameNamed S) ps qs
       → EntryLike S (entryOf (node i l ps)) (entryOf (node j k qs))
   unfolding entryOf sorts
   entry-twin i j l k ps qs e p fs h r =
-      let m = parts l 5 p e in
+      let m = parts l kinds.entry p e in
       let q : k .parts ≡ (m .0, grammar.Param) ∷ (m .1 .0, grammar.Clause) ∷ (m .1 .1 .0, grammar.Stmt) ∷ [] = sym (h .same .parts) ∙ m .1 .1 .1 in
       rw (m .1 .1 .1, q)
       (record {
@@ -227,13 +228,13 @@ module _ {S : Setting} where
   pub item-like : {t u : Node} → Formed grammar.Item t → SettingTwin S t u → ItemBy (FieldLike S) (ExprLike S) (StmtLike S) (EntryLike S) (itemOf t) (itemOf u)
   item-like = item-twin (λ l k q. q .same) (FieldLike S) (ExprLike S) (StmtLike S) (EntryLike S) field-twin (λ ns ms q. at-twin 0 q) (λ t u q. stmt-twin q) entry-twin
 
-  pub part-of : {ns ms : Nodes} (n : ℕ) → FormedAll (times n grammar.Item) ns → Twins (S .Lines) (SameNamed S) ns ms → PartLike S (itemsOf ns) (itemsOf ms)
+  pub part-of : {ns ms : Nodes} (n : ℕ) → FormedAll (copies n grammar.Item) ns → Twins (S .Lines) (SameNamed S) ns ms → PartLike S (itemsOf ns) (itemsOf ms)
   part-of n f h = build-by (items-by (λ t u f q. item-like f q) n f h)
 
 -- the parts of a contract are its items
-pub contract-parts : {i : ℕ} {l : Line} {ps : Nodes} → Formed grammar.Contract (node i l ps) → (n : ℕ) × FormedAll (times n grammar.Item) ps
+pub contract-parts : {i : ℕ} {l : Line} {ps : Nodes} → Formed grammar.Contract (node i l ps) → (n : ℕ) × FormedAll (copies n grammar.Item) ps
 unfolding sorts
-contract-parts (formed {l = l} a p fs) = let m = parts l 0 p (omega (arith, a)) in (m .0, rw (m .1, append-nil) at fs)
+contract-parts (formed {l = l} a p fs) = let m = parts l kinds.contract p (omega (arith, a)) in (m .0, rw (m .1, append-nil) at fs)
 
 -- the items of two contracts
 pub model-like : (L : ℕ → ℕ → Type 0) (line-zero : L 0 0) (Free : Type 0) {i : ℕ} {l : Line} {ps qs : Nodes}

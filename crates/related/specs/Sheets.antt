@@ -7,13 +7,14 @@ use mathlib.Core.Option.{none}
 use lib.ListN.{length}
 use Rattle.sheet.specs.Line.{Line}
 use Rattle.sheet.specs.Load.{lines, load}
-use Rattle.sheet.specs.Tree.{build as trees}
+use Rattle.sheet.specs.Tree.{trees}
 use Rattle.sheet.specs.Held.{Due}
 use Rattle.rules.specs.Ast.{Entry, nodes, itemOf}
 use Rattle.rules.specs.Asking.{Res, ok, fresh}
 use Rattle.rules.specs.Model.{Model, build, fieldNamed, eventNamed}
 use Rattle.rules.specs.Check.{checkEntry, check}
 use Rattle.rules.specs.Verdict.{modelOf}
+use Rattle.grammar.specs.Kinds as kinds
 
 -- the sheet s is read, with these lengths of the lent type table and scratch, and the rules refuse nothing
 pub record AcceptedSheet (s : List ℕ) (types scratch : ℕ) : Type 0 where
@@ -48,9 +49,9 @@ pub record Around (c e : Line) (a m z : List Line) : Type 0 where
   pub read : (s : List ℕ) × (types : ℕ) × (scratch : ℕ) × (load s types scratch ≡ lines (c ∷ (a ++ ((e ∷ m) ++ z))))
   pub items : (n : ℕ) × Due n a
   pub one : Due 1 (e ∷ m)
-  pub is-entry : e .kind ≡ 5
+  pub is-entry : e .kind ≡ kinds.entry
 
 -- the line names no state field of the model n, by an `id` or as a `field`, and no event of it, by an `emit`
 pub record Foreign (n : Model) (l : Line) : Type 0 where
-  pub field : (l .kind ≡ 21) ⊎ (l .kind ≡ 6) → fieldNamed n (l .name) ≡ none
-  pub event : l .kind ≡ 17 → eventNamed n (l .name) ≡ none
+  pub field : (l .kind ≡ kinds.id) ⊎ (l .kind ≡ kinds.field) → fieldNamed n (l .name) ≡ none
+  pub event : l .kind ≡ kinds.emit → eventNamed n (l .name) ≡ none

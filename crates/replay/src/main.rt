@@ -1,4 +1,4 @@
-// Reads the stored sheets of standard input, each behind a header of 24 bytes, lends to each what its header says, full of noise,
+// Reads the stored sheets of standard input, each behind its header, lends to each what that says, full of noise,
 // and writes a line with the answer and what each lent buffer holds then:
 //
 //     number,place,count,length;zeros,scratch,types,message;TYPES;MESSAGE
@@ -7,40 +7,17 @@
 // bytes still hold the noise up to the buffer's end. TYPES are the bytes of the type table before those, MESSAGE those of the message.
 mod noise;
 
-use noise::fill;
-use noise::fill_scratch;
-use noise::written;
-use noise::written_scratch;
+use frames::Frame;
+use noise::BYTE;
+use noise::ENTRY;
+use noise::before_noise;
+use noise::before_noise_u16;
 use noise::zeros;
+use text::fill;
+use text::fill_u16;
+use text::wide;
 use verdict::Answer;
 ghost use Prim.Native.Nat.{_≤_};
-
-fn digit(b: u8) -> usize
-    ensures { λ r. ⌜ r ≤ 9 ⌝ }
-{
-    if b < 48 {
-        return 0;
-    }
-    if 57 < b {
-        return 0;
-    }
-    (b - 48) as usize
-}
-
-// Five digits of the header, from a position on.
-fn number(head: &[u8; 24], at: usize) -> usize
-    requires { ⌜ at ≤ 19 ⌝ }
-{
-    digit(head[at]) * 10000
-        + digit(head[at + 1]) * 1000
-        + digit(head[at + 2]) * 100
-        + digit(head[at + 3]) * 10
-        + digit(head[at + 4])
-}
-
-fn wide(x: u8) -> u64 {
-    x as u64
-}
 
 fn write_types(types: &[u8]) {
     let mut i = 0;
@@ -48,7 +25,7 @@ fn write_types(types: &[u8]) {
         if 0 < i {
             io::write_all(1, b" ");
         }
-        io::print_decimal(1, wide(types[i]));
+        io::print_decimal(1, wide(types[i]) as u64);
         i += 1;
     }
 }
@@ -66,8 +43,8 @@ fn write_four(a: u64, b: u64, c: u64, d: u64) {
 }
 
 fn write_line(answer: Answer, scratch: &[u16], types: &[u8], message: &[u8]) {
-    let marked = written(types);
-    let length = written(message);
+    let marked = before_noise(types);
+    let length = before_noise(message);
     write_four(
         answer.number as u64,
         answer.place as u64,
@@ -76,7 +53,7 @@ fn write_line(answer: Answer, scratch: &[u16], types: &[u8], message: &[u8]) {
     );
     write_four(
         zeros(scratch) as u64,
-        (scratch.len() - written_scratch(scratch)) as u64,
+        (scratch.len() - before_noise_u16(scratch)) as u64,
         (types.len() - marked) as u64,
         (message.len() - length) as u64,
     );
@@ -87,46 +64,37 @@ fn write_line(answer: Answer, scratch: &[u16], types: &[u8], message: &[u8]) {
 }
 
 fn write_answer(sheet: &[u8], scratch: &mut [u16], types: &mut [u8], message: &mut [u8]) {
-    fill_scratch(scratch);
-    fill(types);
-    fill(message);
+    fill_u16(scratch, ENTRY);
+    fill(types, BYTE);
+    fill(message, BYTE);
     let answer = verdict::verdict(sheet, scratch, types, message);
     write_line(answer, scratch, types, message);
 }
 
 // Fills the sheet and writes its answer; whether there was as much.
 fn one(sheet: &mut [u8], scratch: &mut [u16], types: &mut [u8], message: &mut [u8]) -> bool {
-    let got = io::read_full(0, &mut sheet[..]);
-    if got != sheet.len() {
+    if !frames::filled(sheet) {
         return false;
     }
     write_answer(&sheet[..], scratch, types, message);
     true
 }
 
-// A lent length of the header, and no more than there is.
-fn lent(head: &[u8; 24], at: usize, most: usize) -> usize
-    requires { ⌜ at ≤ 19 ⌝ }
+fn at_most(n: usize, most: usize) -> usize
     ensures { λ r. ⌜ r ≤ most ⌝ }
 {
-    let n = number(head, at);
-    if most < n {
-        return most;
-    }
-    n
+    if most < n { most } else { n }
 }
 
 // One sheet with its header; whether there was one.
 fn turn(sheet: &mut [u8], scratch: &mut [u16], types: &mut [u8], message: &mut [u8]) -> bool {
-    let mut head = [0u8; 24];
-    let got = io::read_full(0, &mut head);
-    if got != 24 {
+    let Frame::Lent(lent) = frames::header() else {
         return false;
-    }
-    let bytes = lent(&head, 0, sheet.len());
-    let entries = lent(&head, 6, scratch.len());
-    let codes = lent(&head, 12, types.len());
-    let room = lent(&head, 18, message.len());
+    };
+    let bytes = at_most(lent.sheet, sheet.len());
+    let entries = at_most(lent.scratch, scratch.len());
+    let codes = at_most(lent.types, types.len());
+    let room = at_most(lent.message, message.len());
     one(
         &mut sheet[..bytes],
         &mut scratch[..entries],

@@ -2,28 +2,12 @@
 ghost use Prim.Native.Nat.{_≤_};
 ghost use lib.ListN.{length};
 
-const BYTE: u8 = 165;
+pub const BYTE: u8 = 165;
 
-const ENTRY: u16 = 42405;
-
-pub fn fill(bytes: &mut [u8]) {
-    let mut i = 0;
-    while i < bytes.len() {
-        bytes[i] = BYTE;
-        i += 1;
-    }
-}
-
-pub fn fill_scratch(entries: &mut [u16]) {
-    let mut i = 0;
-    while i < entries.len() {
-        entries[i] = ENTRY;
-        i += 1;
-    }
-}
+pub const ENTRY: u16 = 42405;
 
 // How many bytes stand before those that hold the noise up to the end.
-pub fn written(bytes: &[u8]) -> usize
+pub fn before_noise(bytes: &[u8]) -> usize
     ensures { λ r. ⌜ r ≤ length (now (bytes .entry)) ⌝ }
 {
     let mut n = bytes.len();
@@ -36,7 +20,7 @@ pub fn written(bytes: &[u8]) -> usize
     n
 }
 
-pub fn written_scratch(entries: &[u16]) -> usize
+pub fn before_noise_u16(entries: &[u16]) -> usize
     ensures { λ r. ⌜ r ≤ length (now (entries .entry)) ⌝ }
 {
     let mut n = entries.len();

@@ -1,30 +1,7 @@
-// Reads the stored sheets of standard input, each behind a header of 24 bytes, and writes what the sheet reader answers:
+// Reads the stored sheets of standard input, each behind its header, and writes what the sheet reader answers:
 // number and place, or the number of lines and each line's word, depth and end.
+use frames::Frame;
 use sheet::Answer;
-ghost use Prim.Native.Nat.{_≤_};
-
-fn digit(b: u8) -> usize
-    ensures { λ r. ⌜ r ≤ 9 ⌝ }
-{
-    if b < 48 {
-        return 0;
-    }
-    if 57 < b {
-        return 0;
-    }
-    (b - 48) as usize
-}
-
-// Five digits of the header, from a position on.
-fn number(head: &[u8; 24], at: usize) -> usize
-    requires { ⌜ at ≤ 19 ⌝ }
-{
-    digit(head[at]) * 10000
-        + digit(head[at + 1]) * 1000
-        + digit(head[at + 2]) * 100
-        + digit(head[at + 3]) * 10
-        + digit(head[at + 4])
-}
 
 // A line's number, counted from 1.
 fn from_one(i: usize) -> u64 {
@@ -84,8 +61,7 @@ fn write_answer(text: &[u8], scratch: &mut [u16], types: usize) {
 
 // Fills the sheet and writes its answer; whether there was as much.
 fn one(text: &mut [u8], scratch: &mut [u16], types: usize) -> bool {
-    let got = io::read_full(0, &mut text[..]);
-    if got != text.len() {
+    if !frames::filled(text) {
         return false;
     }
     write_answer(&text[..], scratch, types);
@@ -94,21 +70,18 @@ fn one(text: &mut [u8], scratch: &mut [u16], types: usize) -> bool {
 
 // One sheet with its header; whether there was one.
 fn turn(text: &mut [u8], scratch: &mut [u16]) -> bool {
-    let mut head = [0u8; 24];
-    let got = io::read_full(0, &mut head);
-    if got != 24 {
+    let Frame::Lent(lent) = frames::header() else {
         return false;
-    }
-    let bytes = number(&head, 0);
-    let entries = number(&head, 6);
-    let types = number(&head, 12);
+    };
+    let bytes = lent.sheet;
+    let entries = lent.scratch;
     if text.len() < bytes {
         return false;
     }
     if scratch.len() < entries {
         return false;
     }
-    one(&mut text[..bytes], &mut scratch[..entries], types)
+    one(&mut text[..bytes], &mut scratch[..entries], lent.types)
 }
 
 fn main() {

@@ -1,4 +1,4 @@
--- What one asking promises on any table, right or wrong: document 01's promise of the function that every rule asks through.
+-- What one asking promises on any table, right or wrong (docs/ARCHITECTURE.md, 'Loaded lines').
 -- Assumes nothing.
 use mathlib.Core.Path.{_≡_, refl, _∙_}
 use mathlib.Core.Bool.{true, false}
@@ -12,12 +12,13 @@ use Rattle.rules.specs.Kept.{Table, tyOfMark, stored, retyped, kept}
 use Rattle.rules.specs.Typing.{Env, stale, asked, typing, askOf, tyOf}
 use Rattle.rules.proofs.Parts.{stop, _also_, pick}
 use Rattle.rules.proofs.Keeps.{kept-some, kept-again, kept-unmarked}
+use Rattle.rules.specs.Codes as codes
 
 -- the marks 1 to 10 tell a type, each its own
 abbrev Tells : ℕ → Type 0
 Tells c = (t : Ty) × (tyOfMark c ≡ some t) × (code t ≡ c)
 
-pub tells : (c : ℕ) → 1 ≤ c → c ≤ 10 → Tells c
+pub tells : (c : ℕ) → codes.int ≤ c → c ≤ codes.unknown → Tells c
 unfolding tyOfMark code
 tells c h k =
     pick {P = Tells} {i = 1} {n = 10} c

@@ -11,6 +11,7 @@ use lib.Seq.{getD-set-other}
 use Rattle.rules.specs.Asking.{Ty, Res, ok, refused, Refusal, codeR, Rule, ret, refuse, ask, _>>=_, forEach}
 use Rattle.rules.specs.Kept.{Table, tyOfMark, Kept, stored, retyped, kept}
 use Rattle.rules.proofs.Keeps.{Throughout, OfLine, Any}
+use Rattle.rules.specs.Codes as codes
 
 -- one asking, by what the table has for its line
 abbrev asking : {A : Type 0} → Option Ty → Bool → ℕ → Kept Ty → Table → (Ty → Table → Kept A) → Kept A
@@ -21,18 +22,18 @@ asking (some t) true l o T f = retyped l (o .res) (o .table) f
 kept-ask : {A : Type 0} (g : Bool) (l : ℕ) (p : Rule Ty) (k : Ty → Rule A) (T : Table)
     → kept (ask g l p k) T ≡ asking (tyOfMark (getD T l 0)) g l (kept p T) T (λ t U. kept (k t) U)
 unfolding kept
-kept-ask {A} g l p k T = go (tyOfMark (getD T l 0)) g
+kept-ask {A} g l p k T = by-cases (tyOfMark (getD T l 0)) g
   where
     f : Ty → Table → Kept A
     f t U = kept (k t) U
 
-    go : (m : Option Ty) (b : Bool)
+    by-cases : (m : Option Ty) (b : Bool)
         → _≡_ {A = Kept A}
         (elim m [ none ↦ stored (kept p T .res) (set (kept p T .table) l (codeR (kept p T .res))) f | some t ↦ elim b [ false ↦ f t T | true ↦ retyped l (kept p T .res) (kept p T .table) f ] ])
         (asking m b l (kept p T) T f)
-    go none b = refl
-    go (some t) false = refl
-    go (some t) true = refl
+    by-cases none b = refl
+    by-cases (some t) false = refl
+    by-cases (some t) true = refl
 
 -- ------------------------------------------------------------ one rule behind another
 
@@ -80,12 +81,12 @@ then-refused p f T U r e = kept-bind p f T ∙ ap (λ x. andThen x (λ y S. kept
 module _ {A B C : Type 0} (f : A → Rule B) (g : B → Rule C) where
   regroup : (o : Kept A) → andThen (andThen o (λ a T. kept (f a) T)) (λ b T. kept (g b) T) ≡ andThen o (λ a T. kept (f a >>= g) T)
   unfolding andThen
-  regroup o = go (o .res) (o .table)
+  regroup o = by-cases (o .res) (o .table)
     where
-      go : (r : Res A) (T : Table)
+      by-cases : (r : Res A) (T : Table)
           → andThen (andThen (record { res = r; table = T }) (λ a T. kept (f a) T)) (λ b T. kept (g b) T) ≡ andThen (record { res = r; table = T }) (λ a T. kept (f a >>= g) T)
-      go (ok a) T = sym (kept-bind (f a) g T)
-      go (refused x) T = refl
+      by-cases (ok a) T = sym (kept-bind (f a) g T)
+      by-cases (refused x) T = refl
 
   pub kept-assoc : (p : Rule A) (T : Table) → kept ((p >>= f) >>= g) T ≡ kept (p >>= λ a. f a >>= g) T
   kept-assoc p T =
@@ -97,11 +98,11 @@ module _ {A B C : Type 0} (f : A → Rule B) (g : B → Rule C) where
 -- what comes behind a rule may be replaced by what does the same
 pub kept-behind : {A B : Type 0} (p : Rule A) (f g : A → Rule B) (T : Table) → ((a : A) (U : Table) → kept (f a) U ≡ kept (g a) U) → kept (p >>= f) T ≡ kept (p >>= g) T
 unfolding andThen
-kept-behind {A} {B} p f g T h = kept-bind p f T ∙ go (kept p T .res) (kept p T .table) ∙ sym (kept-bind p g T)
+kept-behind {A} {B} p f g T h = kept-bind p f T ∙ by-cases (kept p T .res) (kept p T .table) ∙ sym (kept-bind p g T)
   where
-    go : (r : Res A) (U : Table) → andThen (record { res = r; table = U }) (λ a W. kept (f a) W) ≡ andThen (record { res = r; table = U }) (λ a W. kept (g a) W)
-    go (ok a) U = h a U
-    go (refused x) U = refl
+    by-cases : (r : Res A) (U : Table) → andThen (record { res = r; table = U }) (λ a W. kept (f a) W) ≡ andThen (record { res = r; table = U }) (λ a W. kept (g a) W)
+    by-cases (ok a) U = h a U
+    by-cases (refused x) U = refl
 
 -- ... and so may both
 pub kept-both : (p p' q q' : Rule Unit) (T : Table) → kept p T ≡ kept p' T → ((U : Table) → kept q U ≡ kept q' U) → kept (p >>= λ _. q) T ≡ kept (p' >>= λ _. q') T
@@ -111,22 +112,22 @@ kept-both p p' q q' T e h =
 -- nothing behind a rule
 pub kept-unit : (p : Rule Unit) (T : Table) → kept (p >>= λ _. ret tt) T ≡ kept p T
 unfolding andThen kept
-kept-unit p T = kept-bind p (λ _. ret tt) T ∙ go (kept p T .res) (kept p T .table)
+kept-unit p T = kept-bind p (λ _. ret tt) T ∙ by-cases (kept p T .res) (kept p T .table)
   where
-    go : (r : Res Unit) (U : Table) → andThen (record { res = r; table = U }) (λ _ W. kept (ret tt) W) ≡ record { res = r; table = U }
-    go (ok u) U = refl
-    go (refused x) U = refl
+    by-cases : (r : Res Unit) (U : Table) → andThen (record { res = r; table = U }) (λ _ W. kept (ret tt) W) ≡ record { res = r; table = U }
+    by-cases (ok u) U = refl
+    by-cases (refused x) U = refl
 
 -- where two rules end in a refusal, so do they before others
 pub refused-behind : {A B C : Type 0} (p : Rule A) (f : A → Rule B) (g : A → Rule C) (T U : Table) (r : Refusal) → kept (p >>= f) T ≡ record { res = refused r; table = U }
     → kept (p >>= λ a. f a >>= λ _. g a) T ≡ record { res = refused r; table = U }
 unfolding andThen
-refused-behind {A} {B} {C} p f g T U r e = kept-bind p (λ a. f a >>= λ _. g a) T ∙ go (kept p T .res) (kept p T .table) (sym (kept-bind p f T) ∙ e)
+refused-behind {A} {B} {C} p f g T U r e = kept-bind p (λ a. f a >>= λ _. g a) T ∙ by-cases (kept p T .res) (kept p T .table) (sym (kept-bind p f T) ∙ e)
   where
-    go : (o : Res A) (W : Table) → andThen (record { res = o; table = W }) (λ a X. kept (f a) X) ≡ record { res = refused r; table = U }
+    by-cases : (o : Res A) (W : Table) → andThen (record { res = o; table = W }) (λ a X. kept (f a) X) ≡ record { res = refused r; table = U }
         → andThen (record { res = o; table = W }) (λ a X. kept (f a >>= λ _. g a) X) ≡ record { res = refused r; table = U }
-    go (ok a) W q = then-refused (f a) (λ _. g a) W U r q
-    go (refused x) W q =
+    by-cases (ok a) W q = then-refused (f a) (λ _. g a) W U r q
+    by-cases (refused x) W q =
         let y : _≡_ {A = Res B} (refused x) (refused r) = ap (λ o. o .res) q in
         let z : x ≡ r = cc in
         let w : W ≡ U = ap (λ o. o .table) q in
@@ -147,10 +148,10 @@ module _ {A : Type 0} (f : Ty → Table → Kept A) (n l : ℕ) (h : (t : Ty) (T
   asking-length : (m : Option Ty) (b : Bool) (r : Res Ty) (U T : Table) → length T ≡ n → length U ≡ n → length (asking m b l (record { res = r; table = U }) T f .table) ≡ n
   unfolding stored retyped codeR
   asking-length none b (ok t) U T e q = h t _ (length-set U l _ ∙ q)
-  asking-length none b (refused r) U T e q = length-set U l 11 ∙ q
+  asking-length none b (refused r) U T e q = length-set U l codes.refused ∙ q
   asking-length (some t) false r U T e q = h t T e
   asking-length (some t) true (ok u) U T e q = h u U q
-  asking-length (some t) true (refused r) U T e q = length-set U l 11 ∙ q
+  asking-length (some t) true (refused r) U T e q = length-set U l codes.refused ∙ q
 
 pub kept-length : {A : Type 0} (p : Rule A) (T : Table) → length (kept p T .table) ≡ length T
 unfolding kept
@@ -191,10 +192,10 @@ module _ {A : Type 0} (f : Ty → Table → Kept A) (l i c : ℕ) (d : i ≢ l) 
   asking-off : (m : Option Ty) (b : Bool) (r : Res Ty) (U T : Table) → getD T i 0 ≡ c → getD U i 0 ≡ c → getD (asking m b l (record { res = r; table = U }) T f .table) i 0 ≡ c
   unfolding stored retyped codeR
   asking-off none b (ok t) U T e q = h t _ (getD-set-other U l i _ 0 d ∙ q)
-  asking-off none b (refused r) U T e q = getD-set-other U l i 11 0 d ∙ q
+  asking-off none b (refused r) U T e q = getD-set-other U l i codes.refused 0 d ∙ q
   asking-off (some t) false r U T e q = h t T e
   asking-off (some t) true (ok u) U T e q = h u U q
-  asking-off (some t) true (refused r) U T e q = getD-set-other U l i 11 0 d ∙ q
+  asking-off (some t) true (refused r) U T e q = getD-set-other U l i codes.refused 0 d ∙ q
 
 pub kept-off : {A : Type 0} (p : Rule A) (T : Table) (i : ℕ) → Off i p → getD (kept p T .table) i 0 ≡ getD T i 0
 unfolding kept

@@ -1,4 +1,4 @@
--- Document 01's cases P1 to P10, Block_HASH, the open place of refusal 20 and the worked example, by computation from the
+-- The cases P1 to P10, Block_HASH and the worked example of reference/cases/document.txt, and the open place of refusal 20, by computation from the
 -- bytes of each sheet. Assumes nothing.
 use Prim.Native.Nat.{ℕ, _*_}
 use Prim.Native.String.{String}
@@ -6,9 +6,10 @@ use mathlib.Core.Path.{_≡_, refl}
 use mathlib.Core.List.{List, [], _∷_, _++_}
 use lib.ListN.{length}
 use Rattle.text.specs.Text.{bytes}
-use Rattle.sheet.specs.Load.{times, load}
+use Rattle.sheet.specs.Load.{copies, load}
 use Rattle.rules.specs.Verdict.{Answer, places}
 use Rattle.rules.specs.Computed.{computed}
+use Rattle.sheet.specs.Scratch.{cellsPerLine}
 
 abbrev Sheet : Type 0
 Sheet = List String
@@ -21,7 +22,7 @@ sheet (l ∷ ls) = bytes l ++ (10 ∷ sheet ls)
 -- the rules' answer, with as much lent as the lines want and 16,384 bytes for the message
 answer : Sheet → Answer
 unfolding computed sheet
-answer ls = computed (sheet ls) (length ls) (8 * length ls) 16384
+answer ls = computed (sheet ls) (length ls) (cellsPerLine * length ls) 16384
 
 abbrev verdict : Sheet → ℕ × ℕ
 verdict ls = (answer ls .number, answer ls .place)
@@ -63,7 +64,7 @@ grows entry clauses =
 
 -- an invariant of n `checked` over an `id`
 checked : ℕ → Sheet
-checked n = "contract,1" ∷ "invariant" ∷ (times n "checked,7" ++ ("id,8,x" ∷ []))
+checked n = "contract,1" ∷ "invariant" ∷ (copies n "checked,7" ++ ("id,8,x" ∷ []))
 
 -- a Q_Word64 field of this name
 word : String → Sheet
@@ -123,7 +124,7 @@ stated (c ∷ cs) = (c .1, c .2) ∷ stated cs
 
 -- every case has its number and place
 proved : given cases ≡ stated cases
-unfolding answer times default guardians owner emits pool mapped grows checked word cases given stated
+unfolding answer copies default guardians owner emits pool mapped grows checked word cases given stated
 proved = refl
 
 -- a state of four guardian sets: g of 0 members, h of 257, g again of 257, k of 256
@@ -135,7 +136,7 @@ several =
 -- the places that are allowed
 allowed : Sheet → List ℕ
 unfolding computed sheet
-allowed ls = places (load (sheet ls) (length ls) (8 * length ls)) (answer ls .number) (answer ls .place)
+allowed ls = places (load (sheet ls) (length ls) (cellsPerLine * length ls)) (answer ls .number) (answer ls .place)
 
 -- refusal 20 may name any bad field that is the last of its name; the rules name the first
 open-place : (verdict several ≡ (20, 4)) × (allowed several ≡ 4 ∷ 6 ∷ [])

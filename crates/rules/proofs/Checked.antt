@@ -10,8 +10,8 @@ use lib.Dec.{ltb}
 use lib.ListN.{length, replicate, length-replicate}
 use borrow.Author.Tests.{lt-ltb, le-ltb}
 use Rattle.sheet.specs.Line.{Line}
-use Rattle.sheet.specs.Load.{Loaded, lines, refused as unread, load}
-use Rattle.sheet.specs.Tree.{build as trees}
+use Rattle.sheet.specs.Load.{LoadResult, lines, refused as unread, load}
+use Rattle.sheet.specs.Tree.{trees}
 use Rattle.rules.specs.Text.{Name}
 use Rattle.rules.specs.Ast.{Expr, Field, Entry, Stmt, guard, bind, emit, assign, do', Item, state, event, invariant, genesis, entry, line, lineAfter, contractOf}
 use Rattle.rules.specs.Asking.{Ty, Int, Rule, ret, Out, fresh, Res, ok, refused, ifSome}
@@ -311,8 +311,8 @@ sheet-kept s types scratch ls h = check-kept (length ls) (contractOf (trees 0 ls
 -- So the whole answer may be told from the kept types.
 pub verdict-kept : (s : List ℕ) (types scratch message : ℕ) → verdict s types scratch message ≡ keptVerdict s types scratch message
 unfolding verdict keptVerdict judge keptJudge ruled
-verdict-kept s types scratch message = go (load s types scratch) (sheet-kept s types scratch)
+verdict-kept s types scratch message = by-cases (load s types scratch) (sheet-kept s types scratch)
   where
-    go : (o : Loaded) → ((ls : List Line) → o ≡ lines ls → Kept≡Fresh (length ls) (check (modelOf ls))) → judge message o ≡ keptJudge message o
-    go (unread n i) f = refl
-    go (lines ls) f = let k = f ls refl in rw (k .0, k .1)
+    by-cases : (o : LoadResult) → ((ls : List Line) → o ≡ lines ls → Kept≡Fresh (length ls) (check (modelOf ls))) → judge message o ≡ keptJudge message o
+    by-cases (unread n i) f = refl
+    by-cases (lines ls) f = let k = f ls refl in rw (k .0, k .1)

@@ -7,7 +7,7 @@ use Prim.Native.Nat.{ℕ}
 use Prim.Native.String.{String}
 use Rattle.rules.specs.Text.{Name, Piece}
 use Rattle.rules.specs.Ast.{UnaryOp, Not, Neg, BinOp, Or, And, Eq, Ne, Lt, Gt, Le, Ge, Add, Sub, Mul, Div, Rem, Shr, Expr, leaf, unary, binary, field, call, wrap, Exprs, nil, more, line}
-use Rattle.rules.specs.Asking.{Ty, Rule, ret, refuse, ask, _>>=_, _>>_, when, ifSome, expect, forEach, Out, fresh, ok}
+use Rattle.rules.specs.Asking.{Ty, Rule, ret, refuse, ask, _>>=_, _>>_, provided, ifSome, expect, forEach, Out, fresh, ok}
 use Rattle.rules.specs.Typing.{Env, Asked, asked, expectAssetReceiver, expectKeyedOp, judgeKey, checkKeys, checkAmount, checkKeyedCall, askEach, typeCall, expectNumericOr, expectNumber, judgeUnary, logical, arithmetic, ordering, equality, judgeBinary, tyOfUnary, tyOfBinary, stale, typing, typings, askOf, tyOf}
 use Rattle.rules.proofs.All.{All}
 use Rattle.rules.proofs.Pure.{Pure, p-ret, p-refuse}
@@ -30,10 +30,10 @@ module _ (Q : Bool → ℕ → Rule Ty → Type 0) (R : Rule Ty → Ty → Type 
   unfolding _>>_
   c-then p q h k = c-bind p (λ _. q) h (λ _. k)
 
-  pub c-when : (b : Bool) (p : Rule Unit) → C p → C (when b p)
-  unfolding when
-  c-when true p h = h
-  c-when false p h = tt
+  pub c-provided : (b : Bool) (p : Rule Unit) → C p → C (provided b p)
+  unfolding provided
+  c-provided true p h = h
+  c-provided false p h = tt
 
   pub c-some : {A : Type 0} (o : Option A) (f : A → Rule Unit) → ((a : A) → C (f a)) → C (ifSome o f)
   unfolding ifSome
@@ -64,7 +64,7 @@ module _ (Q : Bool → ℕ → Rule Ty → Type 0) (R : Rule Ty → Ty → Type 
   c-pure (p-ret a) = tt
   c-pure (p-refuse r h) = tt
 
-  pub ruleset rules = (c-ret, c-bind, c-then, c-when, c-some, c-expect)
+  pub ruleset rules = (c-ret, c-bind, c-then, c-provided, c-some, c-expect)
 
   abbrev pub CA : Asked → Type 0
   CA a = C (a .ty)

@@ -6,8 +6,8 @@ use native.Mathlib.Omega.{arith}
 use lib.ListN.{length}
 use Rattle.grammar.specs.Grammar as grammar
 use Rattle.sheet.specs.Held.{held, HeldAll, no-tree, tree, formed, FormedAll, none-due, one-due}
-use Rattle.sheet.specs.Load.{times, sorts}
-use Rattle.sheet.specs.Scratch.{entry, kindAt, endAt, skip}
+use Rattle.sheet.specs.Load.{copies, sorts}
+use Rattle.sheet.specs.Scratch.{kindAt, endAt, skip, callArgCount}
 use Rattle.sheet.specs.Tree.{Nodes, takeNodes}
 use Rattle.sheet.proofs.Due.{length-times}
 use Rattle.rules.specs.Ast.{Expr, leaf, unary, binary, field, call, wrap, Exprs, nil, more, exprsOf}
@@ -16,6 +16,7 @@ use Rattle.rules.proofs.Parts.{stop as end', _also_, pick, parts}
 use Rattle.rules.proofs.Standing.{Stands, stands, exprs-next, row-first, row-rest}
 use Rattle.rules.proofs.Placed.{Placed, expr}
 use Rattle.rules.proofs.Exprs.{un-at, bin-at, dot-at, call-at, wrap-at, leaf-at}
+use Rattle.grammar.specs.Kinds as kinds
 
 -- expressions before others
 unfoldable pub joined : Exprs → Exprs → Exprs
@@ -74,7 +75,7 @@ ends-of no-tree none-due = refl
 ends-of (tree h hs) (one-due f fs) = ends-of hs fs
 
 -- the line after a line's parts, which are of one sort
-pub parts-end : {s S : List ℕ} {i : ℕ} (σ : grammar.Sort) (k : ℕ) (t : Stands s S i) → sorts (t .line .parts) ≡ times k σ → skip S k (suc i) ≡ endAt S i
+pub parts-end : {s S : List ℕ} {i : ℕ} (σ : grammar.Sort) (k : ℕ) (t : Stands s S i) → sorts (t .line .parts) ≡ copies k σ → skip S k (suc i) ≡ endAt S i
 parts-end σ k t e = rw (e, length-times) at (ends-of (t .held) (t .formed))
 
 module _ {s S : List ℕ} (d : Loaded s S) {i : ℕ} (h : Here S grammar.Expr i) where
@@ -87,7 +88,7 @@ module _ {s S : List ℕ} (d : Loaded s S) {i : ℕ} (h : Here S grammar.Expr i)
   kind-is : {k : ℕ} → kindAt S i ≡ k → t .line .kind ≡ k
   kind-is e = sym (t .says .kind) ∙ e
 
-  one-below : (e : Expr) → exprAt s i ≡ e → partsOf e ≡ more (exprAt s (suc i)) nil → Row S grammar.Expr 1 (suc i) → sorts (t .line .parts) ≡ times 1 grammar.Expr → Below
+  one-below : (e : Expr) → exprAt s i ≡ e → partsOf e ≡ more (exprAt s (suc i)) nil → Row S grammar.Expr 1 (suc i) → sorts (t .line .parts) ≡ copies 1 grammar.Expr → Below
   one-below e q p r f =
       record {
         count = 1;
@@ -96,12 +97,12 @@ module _ {s S : List ℕ} (d : Loaded s S) {i : ℕ} (h : Here S grammar.Expr i)
         are = exprs-next d 0 (suc i) (row-first r .within) ∙ rw (no-exprs s (endAt S (suc i)), q, p) refl;
       }
 
-  no-below : (k : ℕ) → 20 ≤ k → k < 28 → kindAt S i ≡ k → sorts (t .line .parts) ≡ [] → Below
-  unfolding partsOf skip times
+  no-below : (k : ℕ) → kinds.int ≤ k → k < kinds.un → kindAt S i ≡ k → sorts (t .line .parts) ≡ [] → Below
+  unfolding partsOf skip copies
   no-below k a b e f =
       record { count = 0; row = stop; ends = parts-end grammar.Expr 0 t f; are = no-exprs s (suc i) ∙ rw (leaf-at d h k a b e) refl }
 
-  two-below : kindAt S i ≡ 29 → sorts (t .line .parts) ≡ times 2 grammar.Expr → Below
+  two-below : kindAt S i ≡ kinds.bin → sorts (t .line .parts) ≡ copies 2 grammar.Expr → Below
   unfolding partsOf
   two-below e f =
       let q = bin-at d h e in
@@ -114,39 +115,39 @@ module _ {s S : List ℕ} (d : Loaded s S) {i : ℕ} (h : Here S grammar.Expr i)
             ∙ rw (exprs-next d 0 (endAt S (suc i)) (row-first (row-rest (q .1)) .within), no-exprs s (endAt S (endAt S (suc i))), q .0) refl;
       }
 
-  call-below : (m : ℕ) → kindAt S i ≡ 31 → sorts (t .line .parts) ≡ times (suc m) grammar.Expr → entry S i 6 ≡ m → Below
+  call-below : (m : ℕ) → kindAt S i ≡ kinds.call → sorts (t .line .parts) ≡ copies (suc m) grammar.Expr → callArgCount S i ≡ m → Below
   unfolding partsOf
   call-below m e f c =
       let q = call-at d h e in
       record {
-        count = suc (entry S i 6);
+        count = suc (callArgCount S i);
         row = q .1;
         ends = rw c (parts-end grammar.Expr (suc m) t f);
-        are = exprs-next d (entry S i 6) (suc i) (row-first (q .1) .within) ∙ rw (q .0) refl;
+        are = exprs-next d (callArgCount S i) (suc i) (row-first (q .1) .within) ∙ rw (q .0) refl;
       }
 
-  wrap-below : (k : ℕ) → 32 ≤ k → kindAt S i ≡ k → sorts (t .line .parts) ≡ times 1 grammar.Expr → Below
+  wrap-below : (k : ℕ) → kinds.checked ≤ k → kindAt S i ≡ k → sorts (t .line .parts) ≡ copies 1 grammar.Expr → Below
   unfolding partsOf
   wrap-below k a e f = let w = wrap-at d h (omega (arith, e)) in one-below _ (w .1 .0) refl (w .1 .1) f
 
   pub below : Below
-  unfolding sorts times partsOf
+  unfolding sorts copies partsOf
   below =
-      pick {P = λ k. kindAt S i ≡ k → Below} {i = 20} {n = 14} (kindAt S i)
-      ((λ e. no-below 20 (omega arith) (omega arith) e (rw (parts (t .line) 20 (t .parted) (kind-is e)) refl))
-      also (λ e. no-below 21 (omega arith) (omega arith) e (rw (parts (t .line) 21 (t .parted) (kind-is e)) refl))
-      also (λ e. no-below 22 (omega arith) (omega arith) e (rw (parts (t .line) 22 (t .parted) (kind-is e)) refl))
-      also (λ e. no-below 23 (omega arith) (omega arith) e (rw (parts (t .line) 23 (t .parted) (kind-is e)) refl))
-      also (λ e. no-below 24 (omega arith) (omega arith) e (rw (parts (t .line) 24 (t .parted) (kind-is e)) refl))
-      also (λ e. no-below 25 (omega arith) (omega arith) e (rw (parts (t .line) 25 (t .parted) (kind-is e)) refl))
-      also (λ e. no-below 26 (omega arith) (omega arith) e (rw (parts (t .line) 26 (t .parted) (kind-is e)) refl))
-      also (λ e. no-below 27 (omega arith) (omega arith) e (rw (parts (t .line) 27 (t .parted) (kind-is e)) refl))
-      also (λ e. let q = un-at d h e in one-below _ (q .0) refl (q .1) (rw (parts (t .line) 28 (t .parted) (kind-is e)) refl))
-      also (λ e. two-below e (rw (parts (t .line) 29 (t .parted) (kind-is e)) refl))
-      also (λ e. let q = dot-at d h e in one-below _ (q .0) refl (q .1) (rw (parts (t .line) 30 (t .parted) (kind-is e)) refl))
-      also (λ e. let g = parts (t .line) 31 (t .parted) (kind-is e) in call-below (g .0) e (rw (g .1, append-nil) refl) (rw (t .says .second, g .1) refl))
-      also (λ e. wrap-below 32 (omega arith) e (rw (parts (t .line) 32 (t .parted) (kind-is e)) refl))
-      also (λ e. wrap-below 33 (omega arith) e (rw (parts (t .line) 33 (t .parted) (kind-is e)) refl))
+      pick {P = λ k. kindAt S i ≡ k → Below} {i = kinds.int} {n = 14} (kindAt S i)
+      ((λ e. no-below kinds.int (omega arith) (omega arith) e (rw (parts (t .line) kinds.int (t .parted) (kind-is e)) refl))
+      also (λ e. no-below kinds.id (omega arith) (omega arith) e (rw (parts (t .line) kinds.id (t .parted) (kind-is e)) refl))
+      also (λ e. no-below kinds.date (omega arith) (omega arith) e (rw (parts (t .line) kinds.date (t .parted) (kind-is e)) refl))
+      also (λ e. no-below kinds.str (omega arith) (omega arith) e (rw (parts (t .line) kinds.str (t .parted) (kind-is e)) refl))
+      also (λ e. no-below kinds.caller (omega arith) (omega arith) e (rw (parts (t .line) kinds.caller (t .parted) (kind-is e)) refl))
+      also (λ e. no-below kinds.native (omega arith) (omega arith) e (rw (parts (t .line) kinds.native (t .parted) (kind-is e)) refl))
+      also (λ e. no-below kinds.inasset (omega arith) (omega arith) e (rw (parts (t .line) kinds.inasset (t .parted) (kind-is e)) refl))
+      also (λ e. no-below kinds.now (omega arith) (omega arith) e (rw (parts (t .line) kinds.now (t .parted) (kind-is e)) refl))
+      also (λ e. let q = un-at d h e in one-below _ (q .0) refl (q .1) (rw (parts (t .line) kinds.un (t .parted) (kind-is e)) refl))
+      also (λ e. two-below e (rw (parts (t .line) kinds.bin (t .parted) (kind-is e)) refl))
+      also (λ e. let q = dot-at d h e in one-below _ (q .0) refl (q .1) (rw (parts (t .line) kinds.dot (t .parted) (kind-is e)) refl))
+      also (λ e. let g = parts (t .line) kinds.call (t .parted) (kind-is e) in call-below (g .0) e (rw (g .1, append-nil) refl) (rw (t .says .second, g .1) refl))
+      also (λ e. wrap-below kinds.checked (omega arith) e (rw (parts (t .line) kinds.checked (t .parted) (kind-is e)) refl))
+      also (λ e. wrap-below kinds.wrapping (omega arith) e (rw (parts (t .line) kinds.wrapping (t .parted) (kind-is e)) refl))
       also end')
       (h .kind .0) (h .kind .1) refl
 
@@ -175,18 +176,18 @@ module _ {s S : List ℕ} (d : Loaded s S) where
 
   -- nothing is left
   pub left-over : {i end : ℕ} {es : Exprs} → Left s S i end es → end ≤ i → es ≡ nil
-  left-over {i} {end} {es} l h = go (l .count) (l .row) (l .ends) (l .are)
+  left-over {i} {end} {es} l h = by-cases (l .count) (l .row) (l .ends) (l .are)
     where
-      go : (k : ℕ) → Row S grammar.Expr k i → skip S k i ≡ end → exprsAt s k i ≡ es → es ≡ nil
-      go zero r e q = sym q ∙ no-exprs s i
-      go (suc k) r e q = absurd (let z = skip-least r in omega (arith, e, h, z))
+      by-cases : (k : ℕ) → Row S grammar.Expr k i → skip S k i ≡ end → exprsAt s k i ≡ es → es ≡ nil
+      by-cases zero r e q = sym q ∙ no-exprs s i
+      by-cases (suc k) r e q = absurd (let z = skip-least r in omega (arith, e, h, z))
 
   left-some : {i end : ℕ} {e : Expr} {es : Exprs} → Left s S i end (more e es) → i < end
-  left-some {i} {end} {e} {es} l = go (l .count) (l .row) (l .ends) (l .are)
+  left-some {i} {end} {e} {es} l = by-cases (l .count) (l .row) (l .ends) (l .are)
     where
-      go : (k : ℕ) → Row S grammar.Expr k i → skip S k i ≡ end → exprsAt s k i ≡ more e es → i < end
-      go zero r q f = absurd (let z : nil ≡ more e es = sym (no-exprs s i) ∙ f in (let w : _≡_ {A = ℕ} 0 1 = cc in omega arith))
-      go (suc k) r q f = let z = skip-least r in omega (arith, q, z)
+      by-cases : (k : ℕ) → Row S grammar.Expr k i → skip S k i ≡ end → exprsAt s k i ≡ more e es → i < end
+      by-cases zero r q f = absurd (let z : nil ≡ more e es = sym (no-exprs s i) ∙ f in (let w : _≡_ {A = ℕ} 0 1 = cc in omega arith))
+      by-cases (suc k) r q f = let z = skip-least r in omega (arith, q, z)
 
   -- the expression at the first line left, and those behind it
   pub record At (i end : ℕ) (es : Exprs) : Type 0 where
@@ -198,11 +199,11 @@ module _ {s S : List ℕ} (d : Loaded s S) where
 
   pub left-at : {i end : ℕ} {es : Exprs} → Left s S i end es → i < end → At i end es
   unfolding skip
-  left-at {i} {end} {es} l h = go (l .count) (l .row) (l .ends) (l .are)
+  left-at {i} {end} {es} l h = by-cases (l .count) (l .row) (l .ends) (l .are)
     where
-      go : (k : ℕ) → Row S grammar.Expr k i → skip S k i ≡ end → exprsAt s k i ≡ es → At i end es
-      go zero r e q = absurd (omega (arith, e))
-      go (suc k) r e q =
+      by-cases : (k : ℕ) → Row S grammar.Expr k i → skip S k i ≡ end → exprsAt s k i ≡ es → At i end es
+      by-cases zero r e q = absurd (omega (arith, e))
+      by-cases (suc k) r e q =
           let x = row-first r in
           let b : Left s S (endAt S i) end (exprsAt s k (endAt S i)) = record { count = k; row = row-rest r; ends = e; are = refl } in
           record {
@@ -214,13 +215,13 @@ module _ {s S : List ℕ} (d : Loaded s S) where
           }
 
   -- a call's arguments, without its callee
-  pub left-args : {i end : ℕ} {es : Exprs} (a : At i end es) → kindAt S i ≡ 31 → Left s S (endAt S (suc i)) end (joined (exprsAt s (entry S i 6) (endAt S (suc i))) (a .rest))
+  pub left-args : {i end : ℕ} {es : Exprs} (a : At i end es) → kindAt S i ≡ kinds.call → Left s S (endAt S (suc i)) end (joined (exprsAt s (callArgCount S i) (endAt S (suc i))) (a .rest))
   unfolding partsOf joined
   left-args {i} a e =
       let q = call-at d (a .here) e in
-      let l : Left s S (suc i) _ (more (exprAt s (suc i)) (joined (exprsAt s (entry S i 6) (endAt S (suc i))) (a .rest))) = rw (q .0) at (a .inside) in
+      let l : Left s S (suc i) _ (more (exprAt s (suc i)) (joined (exprsAt s (callArgCount S i) (endAt S (suc i))) (a .rest))) = rw (q .0) at (a .inside) in
       let x = left-at l (left-some l) in
-      let y : x .rest ≡ joined (exprsAt s (entry S i 6) (endAt S (suc i))) (a .rest) = cc (x .is) in
+      let y : x .rest ≡ joined (exprsAt s (callArgCount S i) (endAt S (suc i))) (a .rest) = cc (x .is) in
       rw (← y) (x .behind)
 
 -- ------------------------------------------------------------ the lines of one expression

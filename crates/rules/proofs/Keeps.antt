@@ -10,9 +10,10 @@ use lib.Dec.{eqb}
 use lib.ListN.{length, getD, set, replicate, length-set}
 use lib.Seq.{getD-set-same, getD-set-other, set-getD}
 use borrow.Author.Tests.{eqb-true, eqb-false, eq-eqb}
-use Rattle.rules.specs.Asking.{Ty, Int, Boolean, Address, Asset, Word64, TName, Time, Str, Collection, Unknown, code, Res, ok, refused, Rule, ret, refuse, ask, Asking, codeR, Out, ended, fresh, Refusal}
+use Rattle.rules.specs.Asking.{Ty, Int, Boolean, Address, Asset, Word64, TName, Time, Str, Collection, Unknown, code, Res, ok, refused, Rule, ret, refuse, ask, Asking, codeR, Out, concluded, fresh, Refusal}
 use Rattle.rules.specs.Kept.{Table, tyOfMark, Kept, stored, retyped, kept, putIf, mark, marks}
 use Rattle.rules.proofs.All.{All, all-append, all-map}
+use Rattle.rules.specs.Codes as codes
 
 -- ------------------------------------------------------------ marks
 
@@ -29,7 +30,7 @@ length-put false T l c = refl
 pub length-marks : (T : Table) (a : List Asking) → length (marks T a) ≡ length T
 unfolding marks mark
 length-marks T [] = refl
-length-marks T (a ∷ rest) = length-marks (mark T a) rest ∙ length-put (eqb (getD T (a .0) 0) 0 || eqb (a .1) 11) T (a .0) (a .1)
+length-marks T (a ∷ rest) = length-marks (mark T a) rest ∙ length-put (eqb (getD T (a .0) 0) 0 || eqb (a .1) codes.refused) T (a .0) (a .1)
 
 pub zeros : (n l : ℕ) → _≡_ {A = ℕ} (getD (replicate n 0) l 0) 0
 zeros zero l = refl
@@ -40,17 +41,17 @@ abbrev pub Marked : Table → ℕ → Type 0
 Marked T l = eqb (getD T l 0) 0 ≡ false
 
 -- a line that is marked stays so
-set-stays : (T : Table) (i c l : ℕ) → (eqb (getD T i 0) 0 || eqb c 11) ≡ true → Marked T l → Marked (set T i c) l
+set-stays : (T : Table) (i c l : ℕ) → (eqb (getD T i 0) 0 || eqb c codes.refused) ≡ true → Marked T l → Marked (set T i c) l
 set-stays [] i c l t e = e
 set-stays (x ∷ T) zero c zero t e = eleven (rw e at t)
   where
-    eleven : eqb c 11 ≡ true → eqb c 0 ≡ false
-    eleven q = rw (eqb-true c 11 q)
+    eleven : eqb c codes.refused ≡ true → eqb c 0 ≡ false
+    eleven q = rw (eqb-true c codes.refused q)
 set-stays (x ∷ T) zero c (suc l) t e = e
 set-stays (x ∷ T) (suc i) c zero t e = e
 set-stays (x ∷ T) (suc i) c (suc l) t e = set-stays T i c l t e
 
-put-stays : (b : Bool) (T : Table) (i c l : ℕ) → (eqb (getD T i 0) 0 || eqb c 11) ≡ b → Marked T l → Marked (putIf b T i c) l
+put-stays : (b : Bool) (T : Table) (i c l : ℕ) → (eqb (getD T i 0) 0 || eqb c codes.refused) ≡ b → Marked T l → Marked (putIf b T i c) l
 unfolding putIf
 put-stays true T i c l t e = set-stays T i c l t e
 put-stays false T i c l t e = e
@@ -59,11 +60,11 @@ marks-stay : (T : Table) (a : List Asking) (l : ℕ) → Marked T l → Marked (
 unfolding marks mark
 marks-stay T [] l e = e
 marks-stay T (a ∷ rest) l e =
-    marks-stay (mark T a) rest l (put-stays (eqb (getD T (a .0) 0) 0 || eqb (a .1) 11) T (a .0) (a .1) l refl e)
+    marks-stay (mark T a) rest l (put-stays (eqb (getD T (a .0) 0) 0 || eqb (a .1) codes.refused) T (a .0) (a .1) l refl e)
 
 -- the asking has left its mark, and was no refusal
 abbrev pub Settled : Table → Asking → Type 0
-Settled T a = Marked T (a .0) × (eqb (a .1) 11 ≡ false)
+Settled T a = Marked T (a .0) × (eqb (a .1) codes.refused ≡ false)
 
 mark-settled : (T : Table) (a : Asking) → Settled T a → mark T a ≡ T
 unfolding mark putIf
@@ -73,13 +74,13 @@ mark-new : (T : Table) (l c : ℕ) → eqb (getD T l 0) 0 ≡ true → mark T (l
 unfolding mark putIf
 mark-new T l c h = rw h
 
-mark-refused : (T : Table) (l : ℕ) → mark T (l, 11) ≡ set T l 11
+mark-refused : (T : Table) (l : ℕ) → mark T (l, codes.refused) ≡ set T l codes.refused
 unfolding mark putIf
-mark-refused T l = go (eqb (getD T l 0) 0)
+mark-refused T l = by-cases (eqb (getD T l 0) 0)
   where
-    go : (b : Bool) → putIf (b || true) T l 11 ≡ set T l 11
-    go true = refl
-    go false = refl
+    by-cases : (b : Bool) → putIf (b || true) T l codes.refused ≡ set T l codes.refused
+    by-cases true = refl
+    by-cases false = refl
 
 settled-marks : (T : Table) (a : List Asking) → All (Settled T) a → marks T a ≡ T
 unfolding marks
@@ -107,7 +108,7 @@ code-tells Str = refl
 code-tells Collection = refl
 code-tells Unknown = refl
 
-pub code-marks : (t : Ty) → (eqb (code t) 0 ≡ false) × (eqb (code t) 11 ≡ false)
+pub code-marks : (t : Ty) → (eqb (code t) 0 ≡ false) × (eqb (code t) codes.refused ≡ false)
 unfolding code
 code-marks Int = (refl, refl)
 code-marks Boolean = (refl, refl)
@@ -141,12 +142,12 @@ kept-none g l p k T e = kept-unmarked g l p k T (ap tyOfMark e)
 
 pub fresh-ok : {A : Type 0} (g : Bool) (l : ℕ) (p : Rule Ty) (k : Ty → Rule A) (t : Ty) → fresh p .res ≡ ok t
     → fresh (ask g l p k) ≡ record { res = fresh (k t) .res; log = fresh p .log ++ ((l, code t) ∷ fresh (k t) .log) }
-unfolding fresh ended
+unfolding fresh concluded
 fresh-ok g l p k t e = rw (e, fresh)
 
 pub fresh-refused : {A : Type 0} (g : Bool) (l : ℕ) (p : Rule Ty) (k : Ty → Rule A) (r : Refusal) → fresh p .res ≡ refused r
-    → fresh (ask g l p k) ≡ record { res = refused r; log = fresh p .log ++ ((l, 11) ∷ []) }
-unfolding fresh ended
+    → fresh (ask g l p k) ≡ record { res = refused r; log = fresh p .log ++ ((l, codes.refused) ∷ []) }
+unfolding fresh concluded
 fresh-refused g l p k r e = rw (e, fresh)
 
 -- ------------------------------------------------------------ the theorem
@@ -280,8 +281,8 @@ typed m g l p k T c h z ih next (refused r) e =
       res = refl;
       table =
           sym
-          (marks-append T (fresh p .log) ((l, 11) ∷ [])
-          ∙ ap (λ (S : Table). mark S (l, 11)) (sym (ih .table))
+          (marks-append T (fresh p .log) ((l, codes.refused) ∷ [])
+          ∙ ap (λ (S : Table). mark S (l, codes.refused)) (sym (ih .table))
           ∙ mark-refused (kept p T .table) l);
       after = λ a q. absurd (let y : _≡_ {A = ℕ} 0 1 = cc q in omega arith);
     })
@@ -293,25 +294,25 @@ typed m g l p k T c h z ih next (ok t) e =
     let wv : Consistent m S0 = ih .after t e .0 in
     let sv : All (Settled S0) (fresh p .log) = ih .after t e .1 in
     let wu : Consistent m U = consistent-set m S0 l t (rw lv h) mt (rw (← c) sv) wv in
-    let go : Keeps m (k t) U = next t U e (length-set S0 l (code t) ∙ lv) wu in
+    let by-cases : Keeps m (k t) U = next t U e (length-set S0 l (code t) ∙ lv) wu in
     let marked : Marked U l = rw (getD-set-same S0 l (code t) 0 (rw lv h)) (code-marks t .0) in
     let W : Table = kept (k t) U .table in
-    let up : Above U W = λ i q. rw (go .table) (marks-stay U (fresh (k t) .log) i q) in
+    let up : Above U W = λ i q. rw (by-cases .table) (marks-stay U (fresh (k t) .log) i q) in
     let uv : Above S0 U = λ i q. set-marked S0 l (code t) i (code-marks t .0) q in
     rw (kept-none g l p k T z, fresh-ok g l p k t e, ih .res, e)
     (record {
-      res = go .res;
+      res = by-cases .res;
       table =
-          go .table
+          by-cases .table
           ∙ sym
           (marks-append T (fresh p .log) ((l, code t) ∷ fresh (k t) .log)
           ∙ ap (λ (S : Table). marks S ((l, code t) ∷ fresh (k t) .log)) (sym (ih .table))
           ∙ ap (λ (S : Table). marks S (fresh (k t) .log)) (mark-typed m S0 l t mt (wv l)));
       after = λ a q. (
-        go .after a q .0,
+        by-cases .after a q .0,
         all-append (Settled W) (fresh p .log) ((l, code t) ∷ fresh (k t) .log)
             (settled-above S0 W (fresh p .log) (λ i x. up i (uv i x)) sv)
-            ((up l marked, code-marks t .1), go .after a q .1),
+            ((up l marked, code-marks t .1), by-cases .after a q .1),
       );
     })
 

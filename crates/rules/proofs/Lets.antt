@@ -1,4 +1,4 @@
--- Document 01's exception for `let`s holds of no line behind all that are bound. Assumes nothing.
+-- The exception for `let`s (`stale`) holds of no line behind all that are bound. Assumes nothing.
 use mathlib.Core.Path.{_≡_, refl}
 use mathlib.Core.List.{List, [], _∷_}
 use mathlib.Core.Bool.{false}

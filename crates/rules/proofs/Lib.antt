@@ -16,6 +16,9 @@ pub mod Standing
 pub mod Binding
 pub mod Exprs
 pub mod Forest
+pub mod Walks
 pub mod Records
+pub mod Rows
 pub mod Places
 pub mod Lookups
+mod Counting

@@ -1,4 +1,4 @@
--- The marks that a rule's askings leave are document 01's codes of the lines. Assumes nothing.
+-- The marks that a rule's askings leave are the codes of the lines (`codeOf`). Assumes nothing.
 use mathlib.Core.Path.{_≡_, refl, sym, ap, _∙_}
 use mathlib.Core.Logic.{_≢_}
 use mathlib.Core.List.{List, [], _∷_}
@@ -9,17 +9,18 @@ use lib.Dec.{eqb}
 use lib.ListN.{length, getD, replicate, length-replicate}
 use lib.Seq.{getD-set-same, getD-set-other}
 use borrow.Author.Tests.{eqb-true, eqb-false, ne-eqb}
-use Rattle.rules.specs.Asking.{Ty, Res, ok, refused, Rule, ret, refuse, ask, Asking, Out, ended, fresh, reached, reachedFrom, refusedIn, firstCode, codeOf}
+use Rattle.rules.specs.Asking.{Ty, Res, ok, refused, Rule, ret, refuse, ask, Asking, Out, concluded, fresh, reached, reachedFrom, refusedIn, firstCode, codeOf}
 use Rattle.rules.specs.Kept.{Table, putIf, mark, marks, count}
 use Rattle.rules.proofs.All.{All, all-append}
 use Rattle.rules.proofs.Keeps.{code-marks, length-marks, zeros}
+use Rattle.rules.specs.Codes as codes
 
 -- the asking's code is not 0
 abbrev pub Coded : Asking → Type 0
 Coded a = eqb (a .1) 0 ≡ false
 
-coded-ended : {A : Type 0} (l : ℕ) (r : Res Ty) (a : List Asking) (f : Ty → Out A) → All Coded a → ((t : Ty) → All Coded (f t .log)) → All Coded (ended l r a f .log)
-unfolding ended
+coded-ended : {A : Type 0} (l : ℕ) (r : Res Ty) (a : List Asking) (f : Ty → Out A) → All Coded a → ((t : Ty) → All Coded (f t .log)) → All Coded (concluded l r a f .log)
+unfolding concluded
 coded-ended l (ok t) a f h k = all-append Coded a _ h (code-marks t .0, k t)
 coded-ended l (refused r) a f h k = all-append Coded a _ h (refl, tt)
 
@@ -41,16 +42,16 @@ other-line false T i l c h = refl
 
 -- a line's code after these askings, where it was c before
 abbrev after : ℕ → ℕ → List Asking → ℕ
-after c l as' = cond (refusedIn l as') 11 (cond (eqb c 0) (firstCode l as') c)
+after c l as' = cond (refusedIn l as') codes.refused (cond (eqb c 0) (firstCode l as') c)
 
-step : (z e r : Bool) (c d f : ℕ) → eqb d 0 ≡ z → eqb c 11 ≡ e → eqb c 0 ≡ false
-    → cond r 11 (cond (eqb (cond (z || e) c d) 0) f (cond (z || e) c d)) ≡ cond (e || r) 11 (cond z c d)
+step : (z e r : Bool) (c d f : ℕ) → eqb d 0 ≡ z → eqb c codes.refused ≡ e → eqb c 0 ≡ false
+    → cond r codes.refused (cond (eqb (cond (z || e) c d) 0) f (cond (z || e) c d)) ≡ cond (e || r) codes.refused (cond z c d)
 step true true true c d f p q h = refl
-step true true false c d f p q h = rw h (eqb-true c 11 q)
+step true true false c d f p q h = rw h (eqb-true c codes.refused q)
 step true false true c d f p q h = refl
 step true false false c d f p q h = rw h
 step false true true c d f p q h = refl
-step false true false c d f p q h = rw h (eqb-true c 11 q)
+step false true false c d f p q h = rw h (eqb-true c codes.refused q)
 step false false true c d f p q h = refl
 step false false false c d f p q h = rw p
 
@@ -58,9 +59,9 @@ one : (b : Bool) (T : Table) (a : Asking) (rest : List Asking) (l : ℕ) → eqb
     → after (getD (mark T a) l 0) l rest ≡ after (getD T l 0) l (a ∷ rest)
 unfolding mark refusedIn firstCode
 one true T (i, c) rest l e h k =
-    rw (e, eqb-true i l e, same-line (eqb (getD T l 0) 0 || eqb c 11) T l c h)
-    (step (eqb (getD T l 0) 0) (eqb c 11) (refusedIn l rest) c (getD T l 0) (firstCode l rest) refl refl k)
-one false T (i, c) rest l e h k = rw (e, other-line (eqb (getD T i 0) 0 || eqb c 11) T i l c (λ q. eqb-false i l e (sym q)))
+    rw (e, eqb-true i l e, same-line (eqb (getD T l 0) 0 || eqb c codes.refused) T l c h)
+    (step (eqb (getD T l 0) 0) (eqb c codes.refused) (refusedIn l rest) c (getD T l 0) (firstCode l rest) refl refl k)
+one false T (i, c) rest l e h k = rw (e, other-line (eqb (getD T i 0) 0 || eqb c codes.refused) T i l c (λ q. eqb-false i l e (sym q)))
 
 marked : (as' : List Asking) (T : Table) (l : ℕ) → l < length T → All Coded as' → getD (marks T as') l 0 ≡ after (getD T l 0) l as'
 unfolding marks refusedIn firstCode
@@ -80,13 +81,13 @@ marks-code p n l h = marked (fresh p .log) (replicate n 0) l (rw (length-replica
 coded-reached : (l : ℕ) (as' : List Asking) → All Coded as' → eqb (codeOf l as') 0 ≡ not (reached l as')
 unfolding codeOf reached refusedIn firstCode
 coded-reached l [] h = refl
-coded-reached l ((i, c) ∷ rest) h = go (eqb i l) (eqb c 11) (refusedIn l rest) (coded-reached l rest (h .1))
+coded-reached l ((i, c) ∷ rest) h = by-cases (eqb i l) (eqb c codes.refused) (refusedIn l rest) (coded-reached l rest (h .1))
   where
-    go : (b e r : Bool) → eqb (cond r 11 (firstCode l rest)) 0 ≡ not (reached l rest) → eqb (cond ((b && e) || r) 11 (cond b c (firstCode l rest))) 0 ≡ not (b || reached l rest)
-    go true true r q = refl
-    go true false true q = refl
-    go true false false q = h .0
-    go false e r q = q
+    by-cases : (b e r : Bool) → eqb (cond r codes.refused (firstCode l rest)) 0 ≡ not (reached l rest) → eqb (cond ((b && e) || r) codes.refused (cond b c (firstCode l rest))) 0 ≡ not (b || reached l rest)
+    by-cases true true r q = refl
+    by-cases true false true q = refl
+    by-cases true false false q = h .0
+    by-cases false e r q = q
 
 -- A line's code is 0 exactly where the rules don't ask its type.
 pub code-reached : {A : Type 0} (p : Rule A) (l : ℕ) → eqb (codeOf l (fresh p .log)) 0 ≡ not (reached l (fresh p .log))
@@ -96,15 +97,15 @@ count-from : (T : Table) (i : ℕ) (asked : List Asking) → ((l : ℕ) → l < 
 unfolding count reachedFrom
 count-from [] i asked h = refl
 count-from (c ∷ T) i asked h =
-    go c (reached i asked) (rw (let e : i + 0 ≡ i = omega arith in e) at (h 0 (omega arith)))
+    by-cases c (reached i asked) (rw (let e : i + 0 ≡ i = omega arith in e) at (h 0 (omega arith)))
     (count-from T (suc i) asked (λ l q. rw (let e : suc i + l ≡ i + suc l = omega arith in e) (h (suc l) (omega arith))))
   where
-    go : (c : ℕ) (b : Bool) → eqb c 0 ≡ not b → count T ≡ reachedFrom (suc i) (length T) asked
+    by-cases : (c : ℕ) (b : Bool) → eqb c 0 ≡ not b → count T ≡ reachedFrom (suc i) (length T) asked
         → count (c ∷ T) ≡ elim b as (λ _. ℕ) [ true ↦ suc (reachedFrom (suc i) (length T) asked) | false ↦ reachedFrom (suc i) (length T) asked ]
-    go zero true q r = absurd (let z : _≡_ {A = Bool} true false = q in true≢false z)
-    go zero false q r = r
-    go (suc c) true q r = ap suc r
-    go (suc c) false q r = absurd (let z : true ≡ false = sym q ∙ ne-eqb (suc c) 0 (λ w. omega arith) in true≢false z)
+    by-cases zero true q r = absurd (let z : _≡_ {A = Bool} true false = q in true≢false z)
+    by-cases zero false q r = r
+    by-cases (suc c) true q r = ap suc r
+    by-cases (suc c) false q r = absurd (let z : true ≡ false = sym q ∙ ne-eqb (suc c) 0 (λ w. omega arith) in true≢false z)
 
 -- As many lines are marked as the rules reach.
 pub count-reached : {A : Type 0} (p : Rule A) (n : ℕ) → count (marks (replicate n 0) (fresh p .log)) ≡ reachedFrom 0 n (fresh p .log)

@@ -8,8 +8,8 @@ use lib.ListN.{length, take, drop, getElem?}
 use lib.Seq.{drop-drop}
 use Rattle.grammar.specs.Grammar as grammar
 use Rattle.sheet.specs.Line.{Line}
-use Rattle.sheet.specs.Load.{lines, load, times, sorts}
-use Rattle.sheet.specs.Tree.{Node, node, Nodes, nil, more, build}
+use Rattle.sheet.specs.Load.{lines, load, copies, sorts}
+use Rattle.sheet.specs.Tree.{Node, node, Nodes, nil, more, trees}
 use Rattle.sheet.specs.Scratch.{endAt}
 use Rattle.sheet.specs.Held.{Formed, formed, FormedAll, none-due, one-due, Held, held, HeldAll, no-tree, tree}
 use Rattle.sheet.proofs.Due.{length-times}
@@ -19,6 +19,7 @@ use Rattle.rules.specs.KeyKinds.{present, clauseExprs, bodyExprs, entryE
 use Rattle.rules.proofs.Lines.{Numbered}
 use Rattle.rules.proofs.Parts.{Each, stop, _also_, pick, parts}
 use Rattle.rules.proofs.Placed.{Placed, expr}
+use Rattle.grammar.specs.Kinds as kinds
 
 -- the expressions stand in this order between line i and line j
 abbrev pub Ordered : ℕ → ℕ → List Expr → Type 0
@@ -81,14 +82,14 @@ record Split (S : List ℕ) (n k : ℕ) (s : grammar.Sort) (ss : List grammar.So
   back : Nodes
   taken : take k (nodes ns) ≡ nodes front
   dropped : drop k (nodes ns) ≡ nodes back
-  front-formed : FormedAll (times k s) front
+  front-formed : FormedAll (copies k s) front
   front-held : HeldAll S n i mid front
   back-formed : FormedAll ss back
   back-held : HeldAll S n mid j back
 
 split : {S : List ℕ} {n : ℕ} {s : grammar.Sort} {ss : List grammar.Sort} {i j : ℕ} {ns : Nodes} (k : ℕ)
-    → FormedAll (times k s ++ ss) ns → HeldAll S n i j ns → Split S n k s ss i j ns
-unfolding times nodes
+    → FormedAll (copies k s ++ ss) ns → HeldAll S n i j ns → Split S n k s ss i j ns
+unfolding copies nodes
 split {i = i} {ns = ns} zero f h =
     record { mid = i; front = nil; back = ns; taken = refl; dropped = refl; front-formed = none-due; front-held = no-tree; back-formed = f; back-held = h }
 split (suc k) (one-due {t = t} f fs) (tree h hs) =
@@ -129,16 +130,16 @@ Leads S n s g = (i j : ℕ) (t : Node) (ts : List Node) → Formed s t → Held 
 
 module _ {S : List ℕ} {n : ℕ} where
   all : {s : grammar.Sort} (g : List Node → List Expr) → g [] ≡ [] → Leads S n s g
-      → (k i j : ℕ) (ns : Nodes) → FormedAll (times k s) ns → HeldAll S n i j ns → Ordered i j (g (nodes ns))
-  unfolding times nodes
+      → (k i j : ℕ) (ns : Nodes) → FormedAll (copies k s) ns → HeldAll S n i j ns → Ordered i j (g (nodes ns))
+  unfolding copies nodes
   all g z f zero i j ns none-due no-tree = rw z (omega arith)
   all g z f (suc k) i j ns (one-due {t = t} {ns = ts} h hs) (tree x xs) = f i j t (nodes ts) h x (all g z f k (endAt S i) j ts hs xs)
 
   expr-leads : Leads S n grammar.Expr (map exprOf)
   expr-leads i j t ts f h o = lead j (exprOf t) (map exprOf ts) (expr f refl h) o
 
-  maybe : (k i j : ℕ) (ns : Nodes) → FormedAll (times k grammar.Expr) ns → HeldAll S n i j ns → Ordered i j (inFirst (nodes ns))
-  unfolding times nodes present
+  maybe : (k i j : ℕ) (ns : Nodes) → FormedAll (copies k grammar.Expr) ns → HeldAll S n i j ns → Ordered i j (inFirst (nodes ns))
+  unfolding copies nodes present
   maybe zero i j ns none-due no-tree = omega arith
   maybe (suc k) i j ns (one-due {t = t} f fs) (tree h r) = lead j (exprOf t) [] (expr f refl h) (spread r)
 
@@ -157,12 +158,12 @@ module _ {S : List ℕ} {n : ℕ} (i : ℕ) (l : Line) (ps : Nodes) (fs : Formed
 
   single : (j : ℕ) (es : List Expr) → l .parts ≡ (1, grammar.Expr) ∷ [] → Ordered (endAt S i) j es
       → (t : Node) × (nodes ps ≡ t ∷ []) × Ordered i j (exprOf t ∷ es)
-  unfolding sorts times
+  unfolding sorts copies
   single j es q o = let c = one-node (rw q at fs) in (c .0, c .1, rw (c .1) at (several 1 j es q o))
 
   double : (j : ℕ) (es : List Expr) → l .parts ≡ (2, grammar.Expr) ∷ [] → Ordered (endAt S i) j es
       → (t u : Node) × (nodes ps ≡ t ∷ u ∷ []) × Ordered i j (exprOf t ∷ exprOf u ∷ es)
-  unfolding sorts times
+  unfolding sorts copies
   double j es q o = let c = two-nodes (rw q at fs) in (c .0, c .1, c .2, rw (c .2) at (several 2 j es q o))
 
   -- an `after`
@@ -196,33 +197,33 @@ second (t ∷ ts) = refl
 module _ {S : List ℕ} {n : ℕ} where
   stmt-leads : Leads S n grammar.Stmt inBody
   unfolding bodyExprs stmtOf
-  stmt-leads i j t ts (formed {l = l} {ps = ps} a p fs) (held h y r) o = pick (l .kind) kinds (a .0) (a .1) refl
+  stmt-leads i j t ts (formed {l = l} {ps = ps} a p fs) (held h y r) o = pick (l .kind) each-kind (a .0) (a .1) refl
     where
-      kinds : Each (λ k. l .kind ≡ k → Ordered i j (inBody (node i l ps ∷ ts))) 15 5
-      kinds =
-          (λ e. let c = single i l ps fs r j (inBody ts) (parts l 15 p e) o in rw (e, c .1) (c .2))
-          also (λ e. let c = single i l ps fs r j (inBody ts) (parts l 16 p e) o in rw (e, c .1) (c .2))
-          also (λ e. let m = parts l 17 p e in rw e (several i l ps fs r (m .0) j (inBody ts) (m .1) o))
-          also (λ e. let c = double i l ps fs r j (inBody ts) (parts l 18 p e) o in rw (e, c .2) (c .3))
-          also (λ e. let c = single i l ps fs r j (inBody ts) (parts l 19 p e) o in rw (e, c .1) (c .2))
+      each-kind : Each (λ k. l .kind ≡ k → Ordered i j (inBody (node i l ps ∷ ts))) kinds.guard 5
+      each-kind =
+          (λ e. let c = single i l ps fs r j (inBody ts) (parts l kinds.guard p e) o in rw (e, c .1) (c .2))
+          also (λ e. let c = single i l ps fs r j (inBody ts) (parts l kinds.let' p e) o in rw (e, c .1) (c .2))
+          also (λ e. let m = parts l kinds.emit p e in rw e (several i l ps fs r (m .0) j (inBody ts) (m .1) o))
+          also (λ e. let c = double i l ps fs r j (inBody ts) (parts l kinds.assign p e) o in rw (e, c .2) (c .3))
+          also (λ e. let c = single i l ps fs r j (inBody ts) (parts l kinds.do' p e) o in rw (e, c .1) (c .2))
           also stop
 
   clause-leads : Leads S n grammar.Clause inClauses
   unfolding clauseExprs clauseOf
-  clause-leads i j t ts (formed {l = l} {ps = ps} a p fs) (held h y r) o = pick (l .kind) kinds (a .0) (a .1) refl
+  clause-leads i j t ts (formed {l = l} {ps = ps} a p fs) (held h y r) o = pick (l .kind) each-kind (a .0) (a .1) refl
     where
-      kinds : Each (λ k. l .kind ≡ k → Ordered i j (inClauses (node i l ps ∷ ts))) 11 4
-      kinds =
-          (λ e. let c = single i l ps fs r j (inClauses ts) (parts l 11 p e) o in rw (e, c .1) (c .2))
-          also (λ e. let c = single i l ps fs r j (inClauses ts) (parts l 12 p e) o in rw (e, c .1) (c .2))
+      each-kind : Each (λ k. l .kind ≡ k → Ordered i j (inClauses (node i l ps ∷ ts))) kinds.limits 4
+      each-kind =
+          (λ e. let c = single i l ps fs r j (inClauses ts) (parts l kinds.limits p e) o in rw (e, c .1) (c .2))
+          also (λ e. let c = single i l ps fs r j (inClauses ts) (parts l kinds.denies p e) o in rw (e, c .1) (c .2))
           also (λ e. rw e (from j (inClauses ts) (ends i l ps fs r) o))
-          also (λ e. let m = parts l 14 p e in rw (e, m .1 .1) (two-flags i l ps fs r (m .0) (m .1 .0) j (inClauses ts) (m .1 .1) o))
+          also (λ e. let m = parts l kinds.after p e in rw (e, m .1 .1) (two-flags i l ps fs r (m .0) (m .1 .0) j (inClauses ts) (m .1 .1) o))
           also stop
 
   field-leads : Leads S n grammar.Field inFields
   unfolding fieldOf
   field-leads i j t ts (formed {l = l} {ps = ps} a p fs) (held h y r) o =
-      let m = parts l 6 p (omega (arith, a)) in
+      let m = parts l kinds.field p (omega (arith, a)) in
       join i (endAt S i) j (present (fieldOf (node i l ps) .default)) (inFields ts) (rw (second (nodes ps)) (default i l ps fs r (m .0) (m .1))) o
 
   -- an entry: its clauses stand behind its parameters, its statements behind its clauses
@@ -244,25 +245,25 @@ module _ {S : List ℕ} {n : ℕ} where
   item-leads : Leads S n grammar.Item inItems
   unfolding itemOf bodyExprs entryExprs
   item-leads i j t ts (formed {l = l} {ps = ps} a p fs) (held h y r) o =
-      join i (endAt S i) j (itemExprs (itemOf (node i l ps))) (inItems ts) (pick (l .kind) kinds (a .0) (a .1) refl) o
+      join i (endAt S i) j (itemExprs (itemOf (node i l ps))) (inItems ts) (pick (l .kind) each-kind (a .0) (a .1) refl) o
     where
-      kinds : Each (λ k. l .kind ≡ k → Ordered i (endAt S i) (itemExprs (itemOf (node i l ps)))) 1 5
-      kinds =
-          (λ e. let m = parts l 1 p e in rw e (many i l ps fs r (m .0) inFields refl field-leads (m .1)))
+      each-kind : Each (λ k. l .kind ≡ k → Ordered i (endAt S i) (itemExprs (itemOf (node i l ps)))) kinds.state 5
+      each-kind =
+          (λ e. let m = parts l kinds.state p e in rw e (many i l ps fs r (m .0) inFields refl field-leads (m .1)))
           also (λ e. rw e (ends i l ps fs r))
-          also (λ e. let c = single i l ps fs r (endAt S i) [] (parts l 3 p e) (omega arith) in rw (e, c .1) (c .2))
-          also (λ e. let m = parts l 4 p e in rw e (many i l ps fs r (m .0) inBody refl stmt-leads (m .1)))
-          also (λ e. let m = parts l 5 p e in rw (e, m .1 .1 .1) (entry-ordered (m .0) (m .1 .0) (m .1 .1 .0) i l ps fs r (m .1 .1 .1)))
+          also (λ e. let c = single i l ps fs r (endAt S i) [] (parts l kinds.invariant p e) (omega arith) in rw (e, c .1) (c .2))
+          also (λ e. let m = parts l kinds.genesis p e in rw e (many i l ps fs r (m .0) inBody refl stmt-leads (m .1)))
+          also (λ e. let m = parts l kinds.entry p e in rw (e, m .1 .1 .1) (entry-ordered (m .0) (m .1 .0) (m .1 .1 .0) i l ps fs r (m .1 .1 .1)))
           also stop
 
   contract : (t : Node) → Formed grammar.Contract t → Held S n 0 t → Ordered 0 (endAt S 0) (allExprs (contractOf (more t nil)))
   unfolding contractOf
   contract t (formed {l = l} {ps = ps} a p fs) (held h y r) =
-      let m = parts l 0 p (omega (arith, a)) in
+      let m = parts l kinds.contract p (omega (arith, a)) in
       many 0 l ps fs r (m .0) inItems refl item-leads (m .1)
 
 -- the expressions of a sheet that is loaded
-pub ordered : (s : List ℕ) (types n : ℕ) (ls : List Line) → load s types n ≡ lines ls → Ordered 0 (length ls) (allExprs (contractOf (build 0 ls)))
+pub ordered : (s : List ℕ) (types n : ℕ) (ls : List Line) → load s types n ≡ lines ls → Ordered 0 (length ls) (allExprs (contractOf (trees 0 ls)))
 ordered s types n ls e =
-    let q = loaded s types (times n 0) ls (rw (length-times {A = ℕ} n 0) e) in
+    let q = loaded s types (copies n 0) ls (rw (length-times {A = ℕ} n 0) e) in
     rw (q .1, ← q .2 .all) (contract (q .0) (q .2 .formed) (q .2 .held))

@@ -3,7 +3,7 @@ use mathlib.Core.Path.{_≡_, refl}
 use mathlib.Core.List.{List, [], _∷_, _++_}
 use Prim.Native.Nat.{ℕ, zero, suc, _+_, _-_, _<_, _≤_}
 use native.Mathlib.Omega.{arith}
-use Rattle.grammar.specs.Grammar.{Sort, rowOf}
+use Rattle.grammar.specs.Grammar.{Sort, recordOf}
 use Rattle.sheet.specs.Line.{Line}
 use Rattle.grammar.specs.Table.{sortsIn, toldSorts, groupSorts}
 use Rattle.sheet.specs.Held.{Parted, Flagged}
@@ -16,11 +16,11 @@ pub data Each (P : ℕ → Type 0) : ℕ → ℕ → Type 0 where
 
 pub pick : {P : ℕ → Type 0} {i n : ℕ} (k : ℕ) → Each P i n → i ≤ k → k < i + n → P k
 pick k stop a b = absurd (omega arith)
-pick {P} {i} k (h also hs) a b = go (k - i) refl (λ c. pick k hs c (omega arith))
+pick {P} {i} k (h also hs) a b = by-cases (k - i) refl (λ c. pick k hs c (omega arith))
   where
-    go : (d : ℕ) → k - i ≡ d → (i < k → P k) → P k
-    go zero e f = rw (let q : k ≡ i = omega arith in q) h
-    go (suc d) e f = f (omega arith)
+    by-cases : (d : ℕ) → k - i ≡ d → (i < k → P k) → P k
+    by-cases zero e f = rw (let q : k ≡ i = omega arith in q) h
+    by-cases (suc d) e f = f (omega arith)
 
 -- P of groups of parts of these sorts, how many of each
 abbrev pub Groups : List Sort → (List (ℕ × Sort) → Type 0) → Type 0
@@ -36,12 +36,12 @@ told-sorts [] gs ss e = e
 told-sorts (a ∷ as') gs ss e = told-sorts as' gs ss cc
 
 -- the parts of a line of kind k
-pub parts : (l : Line) (k : ℕ) → Parted l → l .kind ≡ k → Groups (toldSorts (rowOf k .rules)) (λ gs. l .parts ≡ rowOf k .always ++ gs)
+pub parts : (l : Line) (k : ℕ) → Parted l → l .kind ≡ k → Groups (toldSorts (recordOf k .rules)) (λ gs. l .parts ≡ recordOf k .always ++ gs)
 parts l k p e =
     let g = p .always in
-    let q : sortsIn (rowOf k .always ++ g .0) ≡ groupSorts (rowOf k) = rw (← e, ← g .1) (p .sorts) in
-    rw (← told-sorts (rowOf k .always) (g .0) (toldSorts (rowOf k .rules)) q) (groups (g .0) (λ gs. l .parts ≡ rowOf k .always ++ gs) (rw (← e) (g .1)))
+    let q : sortsIn (recordOf k .always ++ g .0) ≡ groupSorts (recordOf k) = rw (← e, ← g .1) (p .sorts) in
+    rw (← told-sorts (recordOf k .always) (g .0) (toldSorts (recordOf k .rules)) q) (groups (g .0) (λ gs. l .parts ≡ recordOf k .always ++ gs) (rw (← e) (g .1)))
 
 -- ... of which its FLAGs tell none or one
-pub flags : (l : Line) (k : ℕ) → Parted l → l .kind ≡ k → (gs : List (ℕ × Sort)) × (l .parts ≡ rowOf k .always ++ gs) × Flagged (rowOf k .rules) gs
+pub flags : (l : Line) (k : ℕ) → Parted l → l .kind ≡ k → (gs : List (ℕ × Sort)) × (l .parts ≡ recordOf k .always ++ gs) × Flagged (recordOf k .rules) gs
 flags l k p e = rw (← e) (p .always)

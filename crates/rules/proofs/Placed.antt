@@ -5,13 +5,14 @@ use Prim.Native.Nat.{ℕ, zero, suc}
 use native.Mathlib.Omega.{arith}
 use Rattle.grammar.specs.Grammar as grammar
 use Rattle.sheet.specs.Line.{Line}
-use Rattle.sheet.specs.Load.{times, sorts}
+use Rattle.sheet.specs.Load.{copies, sorts}
 use Rattle.sheet.specs.Tree.{Node, node, Nodes}
 use Rattle.sheet.specs.Scratch.{endAt}
 use Rattle.sheet.specs.Held.{Among, Parted, Formed, formed, FormedAll, none-due, one-due, Held, held, HeldAll, no-tree, tree}
 use Rattle.rules.specs.Ast.{Checked, Expr, wrap, Exprs, nil, more, line, lineAfter, linesAfter, exprOf, exprsOf}
 use Rattle.rules.proofs.Lines.{Numbered, NumberedFrom}
 use Rattle.rules.proofs.Parts.{Each, stop, _also_, pick, parts}
+use Rattle.grammar.specs.Kinds as kinds
 
 -- an expression that stands from line i up to line j
 abbrev pub Placed : ℕ → ℕ → Expr → Type 0
@@ -36,65 +37,65 @@ chained end = (tt, refl)
 chained (link p c) = let q = chained c in ((p .0, p .1, rw (p .2) (q .0)), rw (p .2) (q .1))
 
 -- An expression at line i, up to line j, with what is known of its parts.
-module _ (l : Line) (i j : ℕ) (ps : Nodes) (p : Parted l) (f : (m : ℕ) → sorts (l .parts) ≡ times m grammar.Expr → Chain m (suc i) j (exprsOf ps)) where
+module _ (l : Line) (i j : ℕ) (ps : Nodes) (p : Parted l) (f : (m : ℕ) → sorts (l .parts) ≡ copies m grammar.Expr → Chain m (suc i) j (exprsOf ps)) where
   bare : l .parts ≡ [] → suc i ≡ j
-  unfolding sorts times
+  unfolding sorts copies
   bare q = no-part (f 0 (rw q refl))
 
   -- whatever is made of one part
   single : l .parts ≡ (1, grammar.Expr) ∷ [] → (e : Expr) × (exprsOf ps ≡ more e nil) × Placed i j (wrap i 0 Checked e)
-  unfolding sorts times line
+  unfolding sorts copies line
   single q = let c = one-part (f 1 (rw q refl)) in (c .0, c .1, (refl, (c .2 .0, c .2 .1), c .2 .2))
 
   several : (m : ℕ) → l .parts ≡ (1, grammar.Expr) ∷ (m, grammar.Expr) ∷ [] → Chain (suc m) (suc i) j (exprsOf ps)
-  unfolding sorts times
+  unfolding sorts copies
   several m q = f (suc m) (rw (q, append-nil) refl)
 
-  abbrev Of : ℕ → Type 0
-  Of k = l .kind ≡ k → Placed i j (exprOf (node i l ps))
+  abbrev PlacedAs : ℕ → Type 0
+  PlacedAs k = l .kind ≡ k → Placed i j (exprOf (node i l ps))
 
-  others : Each Of 28 6
-  unfolding exprOf line sorts times
+  others : Each PlacedAs kinds.un 6
+  unfolding exprOf line sorts copies
   others =
-      (λ e. let c = single (parts l 28 p e) in rw (e, c .1) (c .2))
+      (λ e. let c = single (parts l kinds.un p e) in rw (e, c .1) (c .2))
       also (λ e.
-      let c = first-part (f 2 (rw (parts l 29 p e) refl)) in
+      let c = first-part (f 2 (rw (parts l kinds.bin p e) refl)) in
       let d = one-part (c .5) in
       rw (e, c .3, d .1) (refl, (c .4 .0, d .2 .0 ∙ sym (c .4 .2), c .4 .1, d .2 .1), d .2 .2))
-      also (λ e. let c = single (parts l 30 p e) in rw (e, c .1) (c .2))
+      also (λ e. let c = single (parts l kinds.dot p e) in rw (e, c .1) (c .2))
       also (λ e.
-      let n = parts l 31 p e in
+      let n = parts l kinds.call p e in
       let c = first-part (several (n .0) (n .1)) in
       let d = chained (c .5) in
       rw (e, c .3) (refl, (c .4 .0, c .4 .1, rw (c .4 .2) (d .0)), rw (c .4 .2) (d .1)))
-      also (λ e. let c = single (parts l 32 p e) in rw (e, c .1) (c .2))
-      also (λ e. let c = single (parts l 33 p e) in rw (e, c .1) (c .2))
+      also (λ e. let c = single (parts l kinds.checked p e) in rw (e, c .1) (c .2))
+      also (λ e. let c = single (parts l kinds.wrapping p e) in rw (e, c .1) (c .2))
       also stop
 
-  kinds : Each Of 20 14
+  each-kind : Each PlacedAs kinds.int 14
   unfolding exprOf line
-  kinds =
-      (λ e. rw e (refl, tt, bare (parts l 20 p e)))
-      also (λ e. rw e (refl, tt, bare (parts l 21 p e)))
-      also (λ e. rw e (refl, tt, bare (parts l 22 p e)))
-      also (λ e. rw e (refl, tt, bare (parts l 23 p e)))
-      also (λ e. rw e (refl, tt, bare (parts l 24 p e)))
-      also (λ e. rw e (refl, tt, bare (parts l 25 p e)))
-      also (λ e. rw e (refl, tt, bare (parts l 26 p e)))
-      also (λ e. rw e (refl, tt, bare (parts l 27 p e)))
+  each-kind =
+      (λ e. rw e (refl, tt, bare (parts l kinds.int p e)))
+      also (λ e. rw e (refl, tt, bare (parts l kinds.id p e)))
+      also (λ e. rw e (refl, tt, bare (parts l kinds.date p e)))
+      also (λ e. rw e (refl, tt, bare (parts l kinds.str p e)))
+      also (λ e. rw e (refl, tt, bare (parts l kinds.caller p e)))
+      also (λ e. rw e (refl, tt, bare (parts l kinds.native p e)))
+      also (λ e. rw e (refl, tt, bare (parts l kinds.inasset p e)))
+      also (λ e. rw e (refl, tt, bare (parts l kinds.now p e)))
       also others
 
   by-kind : Among grammar.Expr (l .kind) → Placed i j (exprOf (node i l ps))
-  by-kind a = pick (l .kind) kinds (a .0) (a .1) refl
+  by-kind a = pick (l .kind) each-kind (a .0) (a .1) refl
 
 module _ {S : List ℕ} {n : ℕ} where
   mutual
-    unfolding exprsOf times
+    unfolding exprsOf copies
 
     pub expr : {s : grammar.Sort} {t : Node} {i : ℕ} → Formed s t → s ≡ grammar.Expr → Held S n i t → Placed i (endAt S i) (exprOf t)
     expr {i = i} (formed {l = l} {ps = ps} a p fs) e (held h y r) = by-kind l i (endAt S i) ps p (λ m q. exprs fs m q r) (rw e at a)
 
-    pub exprs : {ss : List grammar.Sort} {ns : Nodes} {i j : ℕ} → FormedAll ss ns → (m : ℕ) → ss ≡ times m grammar.Expr → HeldAll S n i j ns → Chain m i j (exprsOf ns)
+    pub exprs : {ss : List grammar.Sort} {ns : Nodes} {i j : ℕ} → FormedAll ss ns → (m : ℕ) → ss ≡ copies m grammar.Expr → HeldAll S n i j ns → Chain m i j (exprsOf ns)
     exprs none-due zero e no-tree = end
     exprs none-due (suc m) e no-tree = absurd (let z : _≡_ {A = ℕ} 0 1 = cc in omega arith)
     exprs (one-due h hs) zero e (tree x xs) = absurd (let z : _≡_ {A = ℕ} 0 1 = cc in omega arith)

@@ -4,15 +4,14 @@ use mathlib.Core.Logic.{_≢_}
 use mathlib.Core.List.{List}
 use mathlib.Core.Bool.{Bool, true, false}
 use mathlib.Core.Option.{none, some}
-use Prim.Native.Nat.{ℕ, suc, _-_, _/_, _<_, _≤_}
+use Prim.Native.Nat.{ℕ, suc, _-_, _<_, _≤_}
 use native.Mathlib.Omega.{arith}
 use lib.Dec.{ltb}
-use lib.ListN.{length}
 use borrow.Author.Tests.{ltb-true, ltb-false, le-ltb}
 use Rattle.grammar.specs.Grammar as grammar
 use Rattle.sheet.specs.Held.{Among, spanless}
 use Rattle.sheet.specs.Line.{Line}
-use Rattle.sheet.specs.Scratch.{entry, kindAt, nameAt}
+use Rattle.sheet.specs.Scratch.{cell, kindAt, nameAt, lineCount}
 use Rattle.sheet.specs.Say.{nspanAt}
 use Rattle.sheet.specs.Tree.{Node, node, Nodes}
 use Rattle.sheet.proofs.Holds.{all-le}
@@ -23,6 +22,7 @@ use Rattle.rules.proofs.Parts.{Each, stop, _also_, pick}
 use Rattle.rules.proofs.Standing.{stands, beyond}
 use Rattle.rules.proofs.Exprs.{dot-at}
 use Rattle.rules.proofs.Records.{named}
+use Rattle.grammar.specs.Kinds as kinds
 
 -- ------------------------------------------------------------ every record as an expression or a type
 
@@ -31,17 +31,17 @@ fourteenMore m = suc (suc (suc (suc (suc (suc (suc (suc (suc (suc (suc (suc (suc
 
 -- P of each of the 14 kinds of expressions, and of those behind them
 by-place : {P : ℕ → Type 0} (k : ℕ) → Each P 0 14 → ((m : ℕ) → P (fourteenMore m)) → P k
-by-place {P} k f g = go (ltb k 14) refl
+by-place {P} k f g = by-cases (ltb k 14) refl
   where
-    go : (t : Bool) → ltb k 14 ≡ t → P k
-    go true q = pick k f (omega arith) (ltb-true k 14 q)
-    go false q = let h = ltb-false k 14 q in rw (let e : k ≡ fourteenMore (k - 14) = omega (arith, h) in e) (g (k - 14))
+    by-cases : (t : Bool) → ltb k 14 ≡ t → P k
+    by-cases true q = pick k f (omega arith) (ltb-true k 14 q)
+    by-cases false q = let h = ltb-false k 14 q in rw (let e : k ≡ fourteenMore (k - 14) = omega (arith, h) in e) (g (k - 14))
 
 -- a record as an expression: its span, and that it is a dot only where its kind is 30
-as-expr : (i : ℕ) (l : Line) (ps : Nodes) → (span (exprOf (node i l ps)) ≡ spanOf l) × (l .kind ≢ 30 → dotOf (exprOf (node i l ps)) ≡ none)
+as-expr : (i : ℕ) (l : Line) (ps : Nodes) → (span (exprOf (node i l ps)) ≡ spanOf l) × (l .kind ≢ kinds.dot → dotOf (exprOf (node i l ps)) ≡ none)
 unfolding span dotOf exprOf
 as-expr i l ps =
-    by-place {P = λ k. l .kind - 20 ≡ k → (span (exprOf (node i l ps)) ≡ spanOf l) × (l .kind ≢ 30 → dotOf (exprOf (node i l ps)) ≡ none)} (l .kind - 20)
+    by-place {P = λ k. l .kind - kinds.int ≡ k → (span (exprOf (node i l ps)) ≡ spanOf l) × (l .kind ≢ kinds.dot → dotOf (exprOf (node i l ps)) ≡ none)} (l .kind - kinds.int)
     ((λ e. rw e (refl, λ h. refl))
     also (λ e. rw e (refl, λ h. refl))
     also (λ e. rw e (refl, λ h. refl))
@@ -52,7 +52,7 @@ as-expr i l ps =
     also (λ e. rw e (refl, λ h. refl))
     also (λ e. rw e (refl, λ h. refl))
     also (λ e. rw e (refl, λ h. refl))
-    also (λ (e : l .kind - 20 ≡ 10). rw e (refl, λ h. absurd (h (omega (arith, e)))))
+    also (λ (e : l .kind - kinds.int ≡ 10). rw e (refl, λ h. absurd (h (omega (arith, e)))))
     also (λ e. rw e (refl, λ h. refl))
     also (λ e. rw e (refl, λ h. refl))
     also (λ e. rw e (refl, λ h. refl))
@@ -86,41 +86,41 @@ type-name-at s i = type-name-of (nodeAt s i)
 
 -- ------------------------------------------------------------ lines that are there, and others
 
-pub no-entry : (S : List ℕ) (i k : ℕ) → length S / 8 ≤ i → entry S i k ≡ 0
-unfolding entry
-no-entry S i k h = rw (le-ltb i (length S / 8) h) refl
+pub no-cell : (S : List ℕ) (i k : ℕ) → lineCount S ≤ i → cell S i k ≡ 0
+unfolding cell
+no-cell S i k h = rw (le-ltb i (lineCount S) h) refl
 
-pub no-kind : (S : List ℕ) (i : ℕ) → length S / 8 ≤ i → kindAt S i ≡ 0
+pub no-kind : (S : List ℕ) (i : ℕ) → lineCount S ≤ i → kindAt S i ≡ kinds.contract
 unfolding kindAt
-no-kind S i h = rw (no-entry S i 0 h) refl
+no-kind S i h = rw (no-cell S i 0 h) refl
 
 module _ {s S : List ℕ} (d : Loaded s S) (i : ℕ) where
   -- what holds of a line that is there, and of one that isn't, holds of every line
-  pub there-or-not : {P : Type 0} → (i < length S / 8 → P) → (length S / 8 ≤ i → P) → P
-  there-or-not {P} f g = go (ltb i (length S / 8)) refl
+  pub there-or-not : {P : Type 0} → (i < lineCount S → P) → (lineCount S ≤ i → P) → P
+  there-or-not {P} f g = by-cases (ltb i (lineCount S)) refl
     where
-      go : (t : Bool) → ltb i (length S / 8) ≡ t → P
-      go true q = f (ltb-true i (length S / 8) q)
-      go false q = g (ltb-false i (length S / 8) q)
+      by-cases : (t : Bool) → ltb i (lineCount S) ≡ t → P
+      by-cases true q = f (ltb-true i (lineCount S) q)
+      by-cases false q = g (ltb-false i (lineCount S) q)
 
   -- a line of a kind that is not the first is there
-  pub is-there : kindAt S i ≢ 0 → i < length S / 8
+  pub is-there : kindAt S i ≢ kinds.contract → i < lineCount S
   is-there h = there-or-not (λ w. w) (λ w. absurd (h (no-kind S i w)))
 
   pub named-at : nameAt s S i ≡ namedAt s i
   unfolding nameAt namedAt nodeName
-  named-at = there-or-not (λ w. sym (named d w)) (λ w. rw (no-entry S i 4 w, beyond d i w) refl)
+  named-at = there-or-not (λ w. sym (named d w)) (λ w. rw (no-cell S i 4 w, beyond d i w) refl)
 
-  pub no-place : length S / 8 ≤ i → placeAt s i ≡ 0
+  pub no-place : lineCount S ≤ i → placeAt s i ≡ 0
   unfolding placeAt nodeSpan
   no-place h = rw (beyond d i h) refl
 
   -- a record with no SPAN has no place
-  pub unplaced : spanless (grammar.rowOf (kindAt S i) .rules) ≡ true → placeAt s i ≡ 0
+  pub unplaced : spanless (grammar.recordOf (kindAt S i) .rules) ≡ true → placeAt s i ≡ 0
   unfolding placeAt nodeSpan
   unplaced h = there-or-not (λ w. let t = stands d i w in rw (t .here) (t .spells .bare (rw (← t .says .kind) h))) no-place
 
-  pub not-dot-at : kindAt S i ≢ 30 → dotOf (exprAt s i) ≡ none
+  pub not-dot-at : kindAt S i ≢ kinds.dot → dotOf (exprAt s i) ≡ none
   unfolding exprAt
   not-dot-at h =
       there-or-not
@@ -133,6 +133,6 @@ module _ {s S : List ℕ} (d : Loaded s S) (i : ℕ) where
       let w = is-there (λ e. omega (arith, a .0)) in
       record { within = w; kind = a; after = all-le (stands d i w .held) }
 
-  pub dot-there : kindAt S i ≡ 30 → dotOf (exprAt s i) ≡ some (record { base = exprAt s (suc i); name = nameAt s S i; nspan = nspanAt s S i })
+  pub dot-there : kindAt S i ≡ kinds.dot → dotOf (exprAt s i) ≡ some (record { base = exprAt s (suc i); name = nameAt s S i; nspan = nspanAt s S i })
   unfolding dotOf
   dot-there e = rw (dot-at d (here-at (omega (arith, e), omega (arith, e))) e .0) refl

@@ -7,7 +7,7 @@ use Prim.Native.Nat.{ℕ}
 use lib.Dec.{leb}
 use Rattle.rules.specs.Text.{Name, Piece}
 use Rattle.rules.specs.Ast.{Type', Arg, ofType, ofInt, mOfN, AssignOp, Expr, leaf, unary, binary, field, call, wrap, Exprs, nil, more, Param, Clause, limits, denies, mints, after, Entry, Stmt, guard, bind, emit, assign, do'}
-use Rattle.rules.specs.Asking.{Ty, Refusal, Rule, ret, refuse, _>>=_, _>>_, expect, when, ifSome, ifSomeElse, forEach}
+use Rattle.rules.specs.Asking.{Ty, Refusal, Rule, ret, refuse, _>>=_, _>>_, expect, provided, ifSome, ifSomeElse, forEach}
 use Rattle.rules.specs.Declarations.{guardianBound, storableArg, storableArgs, storableKeyed, known, storableAs, storable, eventFieldType, refuseWord64AsDigest}
 use Rattle.rules.specs.Model.{Model}
 use Rattle.rules.specs.Typing.{Env}
@@ -37,10 +37,10 @@ pub p-then : {A B : Type 0} {p : Rule A} {q : Rule B} → Pure p → Pure q → 
 unfolding _>>_
 p-then h k = p-bind h (λ _. k)
 
-pub p-when : (b : Bool) {p : Rule Unit} → Pure p → Pure (when b p)
-unfolding when
-p-when true h = h
-p-when false h = p-ret tt
+pub p-provided : (b : Bool) {p : Rule Unit} → Pure p → Pure (provided b p)
+unfolding provided
+p-provided true h = h
+p-provided false h = p-ret tt
 
 pub p-expect : (b : Bool) (n at : ℕ) (ps : List Piece) → leb 12 n ≡ true → Pure (expect b n at ps)
 unfolding expect
@@ -62,7 +62,7 @@ unfolding forEach
 p-for [] k = p-ret tt
 p-for (a ∷ as') k = p-bind (k a) (λ _. p-for as' k)
 
-pub ruleset pure = (p-ret, p-bind, p-then, p-when, p-expect, p-some, p-else, p-for)
+pub ruleset pure = (p-ret, p-bind, p-then, p-provided, p-expect, p-some, p-else, p-for)
 
 pub p-guardian : (t : Type') → Pure (guardianBound t)
 unfolding guardianBound

@@ -2,14 +2,14 @@
 use mathlib.Core.Path.{_≡_, refl, sym, ap, _∙_, subst}
 use mathlib.Core.List.{List, [], _∷_, _++_, map, append-nil}
 use mathlib.Core.Option.{Option·map}
-use Prim.Native.Nat.{ℕ, suc, _+_, _/_, _<_, _≤_}
+use Prim.Native.Nat.{ℕ, suc, _+_, _<_, _≤_}
 use native.Mathlib.Omega.{arith}
 use lib.ListN.{length, length-append, getD, take, drop, getElem?}
 use Rattle.grammar.specs.Grammar as grammar
 use Rattle.sheet.specs.Held.{Flagged}
 use Rattle.sheet.specs.Line.{Line}
-use Rattle.sheet.specs.Load.{sorts, times}
-use Rattle.sheet.specs.Scratch.{entry, kindAt, opAt, endAt, nameAt, skip}
+use Rattle.sheet.specs.Load.{sorts, copies}
+use Rattle.sheet.specs.Scratch.{kindAt, opAt, endAt, nameAt, skip, lineCount, firstCount, emitArgCount, targetCount, fromCount, paramCount, clauseCount, bodyCount, defaultCount}
 use Rattle.sheet.specs.Say.{spanAt}
 use Rattle.sheet.specs.Tree.{Node, node, Nodes, nil as done, more as then, takeNodes}
 use Rattle.sheet.proofs.Due.{length-times}
@@ -18,6 +18,7 @@ use Rattle.rules.specs.Standing.{nodeName, nodeSpan, namedAt, placeAt, t
 use Rattle.rules.proofs.Parts.{parts, flags}
 use Rattle.rules.proofs.Standing.{Stands, stands, nodes-next, nodes-length, parts-behind, row-behind, row-group, row-second, row-third, row-first, row-rest}
 use Rattle.rules.proofs.Forest.{skip-add, row-join, parts-end, ends-of}
+use Rattle.grammar.specs.Kinds as kinds
 
 -- ------------------------------------------------------------ nodes
 
@@ -50,7 +51,7 @@ drop-both [] bs cs j k e f = rw (← e, let z : 0 + k ≡ k = omega arith in z) 
 drop-both (a ∷ as') bs cs j k e f = rw (← e, let z : suc (length as') + k ≡ suc (length as' + k) = omega arith in z) (drop-both as' bs cs (length as') k refl f)
 
 module _ (i : ℕ) (l : Line) (ps : Nodes) (P Q R : List Node) where
-  after-from : (a b : ℕ) → l .kind ≡ 14 → l .parts ≡ (a, grammar.Expr) ∷ (b, grammar.Expr) ∷ [] → nodes ps ≡ P ++ Q → length P ≡ a
+  after-from : (a b : ℕ) → l .kind ≡ kinds.after → l .parts ≡ (a, grammar.Expr) ∷ (b, grammar.Expr) ∷ [] → nodes ps ≡ P ++ Q → length P ≡ a
       → clauseOf (node i l ps) ≡ after (Option·map exprOf (getElem? P 0)) (Option·map exprOf (getElem? Q 0))
   unfolding clauseOf
   after-from a b k p n e = rw (k, p, n, take-first P Q a e, drop-first P Q a e) refl
@@ -62,7 +63,7 @@ module _ (i : ℕ) (l : Line) (ps : Nodes) (P Q R : List Node) where
 
 -- ------------------------------------------------------------ a line
 
-module _ {s S : List ℕ} (d : Loaded s S) {i : ℕ} (w : i < length S / 8) where
+module _ {s S : List ℕ} (d : Loaded s S) {i : ℕ} (w : i < lineCount S) where
   abbrev t : Stands s S i
   t = stands d i w
 
@@ -75,13 +76,13 @@ module _ {s S : List ℕ} (d : Loaded s S) {i : ℕ} (w : i < length S / 8) wher
   named = rw (t .here) (sym (t .spells .name))
 
   -- its span, where its record starts with one
-  pub placed : (k : ℕ) (rs : List grammar.Rule) → kindAt S i ≡ k → grammar.rowOf k .rules ≡ grammar.span ∷ rs → placeAt s i ≡ spanAt s S i
+  pub placed : (k : ℕ) (rs : List grammar.Rule) → kindAt S i ≡ k → grammar.recordOf k .rules ≡ grammar.span ∷ rs → placeAt s i ≡ spanAt s S i
   unfolding placeAt nodeSpan
   placed k rs e r = rw (t .here) (sym (t .spells .span rs (rw (kind-is e) r)))
 
   -- its parts, which are of one sort
   pub group : (σ : grammar.Sort) (m : ℕ) → t .line .parts ≡ (m, σ) ∷ []
-      → (nodes (t .parts) ≡ nodesAt s m (suc i)) × (exprsOf (t .parts) ≡ exprsAt s m (suc i)) × Row S σ m (suc i) × (entry S i 5 ≡ m) × (skip S m (suc i) ≡ endAt S i)
+      → (nodes (t .parts) ≡ nodesAt s m (suc i)) × (exprsOf (t .parts) ≡ exprsAt s m (suc i)) × Row S σ m (suc i) × (firstCount S i ≡ m) × (skip S m (suc i) ≡ endAt S i)
   unfolding nodesAt exprsAt sorts
   group σ m e =
       let p : t .parts ≡ takeNodes m (treesFrom s (suc i)) = parts-behind t ∙ rw (e, append-nil, length-times) refl in
@@ -107,40 +108,40 @@ module _ {s S : List ℕ} (d : Loaded s S) {i : ℕ} (h : Here S grammar.Stmt i)
   is-kind : {k : ℕ} → kindAt S i ≡ k → st .line .kind ≡ k
   is-kind e = sym (st .says .kind) ∙ e
 
-  pub guard-at : kindAt S i ≡ 15 → Told (guard (exprAt s (suc i))) 1
+  pub guard-at : kindAt S i ≡ kinds.guard → Told (guard (exprAt s (suc i))) 1
   unfolding stmtAt stmtOf exprAt
   guard-at e =
-      let p = parts (st .line) 15 (st .parted) (is-kind e) in
+      let p = parts (st .line) kinds.guard (st .parted) (is-kind e) in
       let g = group d (h .within) grammar.Expr 1 p in
       (rw (st .here, is-kind e, one-part d (h .within) grammar.Expr p) refl, g .2, g .4)
 
-  pub let-at : kindAt S i ≡ 16 → Told (bind (nameAt s S i) (exprAt s (suc i))) 1
+  pub let-at : kindAt S i ≡ kinds.let' → Told (bind (nameAt s S i) (exprAt s (suc i))) 1
   unfolding stmtAt stmtOf exprAt
   let-at e =
-      let p = parts (st .line) 16 (st .parted) (is-kind e) in
+      let p = parts (st .line) kinds.let' (st .parted) (is-kind e) in
       let g = group d (h .within) grammar.Expr 1 p in
       (rw (st .here, is-kind e, one-part d (h .within) grammar.Expr p, st .spells .name) refl, g .2, g .4)
 
-  pub emit-at : kindAt S i ≡ 17 → Told (emit (nameAt s S i) (list (exprsAt s (entry S i 5) (suc i)))) (entry S i 5)
+  pub emit-at : kindAt S i ≡ kinds.emit → Told (emit (nameAt s S i) (list (exprsAt s (emitArgCount S i) (suc i)))) (emitArgCount S i)
   unfolding stmtAt stmtOf
   emit-at e =
-      let p = parts (st .line) 17 (st .parted) (is-kind e) in
+      let p = parts (st .line) kinds.emit (st .parted) (is-kind e) in
       let g = group d (h .within) grammar.Expr (p .0) (p .1) in
       rw (g .3) (rw (st .here, is-kind e, exprs-list (st .parts), g .1, st .spells .name) refl, g .2, g .4)
 
-  pub assign-at : kindAt S i ≡ 18 → Told (assign (placeAt s i) (getD assignOps (opAt S i) Set) (exprAt s (suc i)) (exprAt s (endAt S (suc i)))) 2
+  pub assign-at : kindAt S i ≡ kinds.assign → Told (assign (placeAt s i) (getD assignOps (opAt S i) Set) (exprAt s (suc i)) (exprAt s (endAt S (suc i)))) 2
   unfolding stmtAt stmtOf exprAt placeAt nodeSpan
   assign-at e =
-      let p = parts (st .line) 18 (st .parted) (is-kind e) in
+      let p = parts (st .line) kinds.assign (st .parted) (is-kind e) in
       let g = group d (h .within) grammar.Expr 2 p in
       let two : nodes (st .parts) ≡ nodeAt s (suc i) ∷ nodeAt s (endAt S (suc i)) ∷ [] =
       g .0 ∙ nodes-next d 1 (suc i) (row-first (g .2) .within) ∙ rw (nodes-next d 0 (endAt S (suc i)) (row-first (row-rest (g .2)) .within), no-nodes s (endAt S (endAt S (suc i)))) refl in
       (rw (st .here, is-kind e, two, st .says .op) refl, g .2, g .4)
 
-  pub do-at : kindAt S i ≡ 19 → Told (do' (exprAt s (suc i))) 1
+  pub do-at : kindAt S i ≡ kinds.do' → Told (do' (exprAt s (suc i))) 1
   unfolding stmtAt stmtOf exprAt
   do-at e =
-      let p = parts (st .line) 19 (st .parted) (is-kind e) in
+      let p = parts (st .line) kinds.do' (st .parted) (is-kind e) in
       let g = group d (h .within) grammar.Expr 1 p in
       (rw (st .here, is-kind e, one-part d (h .within) grammar.Expr p) refl, g .2, g .4)
 
@@ -156,41 +157,41 @@ module _ {s S : List ℕ} (d : Loaded s S) {i : ℕ} (h : Here S grammar.Clause 
   abbrev ToldC : Clause → ℕ → Type 0
   ToldC clause m = (clauseAt s i ≡ clause) × Row S grammar.Expr m (suc i) × (skip S m (suc i) ≡ endAt S i)
 
-  pub limits-at : kindAt S i ≡ 11 → ToldC (limits (exprAt s (suc i))) 1
+  pub limits-at : kindAt S i ≡ kinds.limits → ToldC (limits (exprAt s (suc i))) 1
   unfolding clauseAt clauseOf exprAt
   limits-at e =
-      let p = parts (ct .line) 11 (ct .parted) (kind-of e) in
+      let p = parts (ct .line) kinds.limits (ct .parted) (kind-of e) in
       let g = group d (h .within) grammar.Expr 1 p in
       (rw (ct .here, kind-of e, one-part d (h .within) grammar.Expr p) refl, g .2, g .4)
 
-  pub denies-at : kindAt S i ≡ 12 → ToldC (denies (exprAt s (suc i))) 1
+  pub denies-at : kindAt S i ≡ kinds.denies → ToldC (denies (exprAt s (suc i))) 1
   unfolding clauseAt clauseOf exprAt
   denies-at e =
-      let p = parts (ct .line) 12 (ct .parted) (kind-of e) in
+      let p = parts (ct .line) kinds.denies (ct .parted) (kind-of e) in
       let g = group d (h .within) grammar.Expr 1 p in
       (rw (ct .here, kind-of e, one-part d (h .within) grammar.Expr p) refl, g .2, g .4)
 
-  pub mints-at : kindAt S i ≡ 13 → ToldC mints 0
-  unfolding clauseAt clauseOf sorts times skip
+  pub mints-at : kindAt S i ≡ kinds.mints → ToldC mints 0
+  unfolding clauseAt clauseOf sorts copies skip
   mints-at e =
-      let p = parts (ct .line) 13 (ct .parted) (kind-of e) in
+      let p = parts (ct .line) kinds.mints (ct .parted) (kind-of e) in
       (rw (ct .here, kind-of e) refl, stop, parts-end grammar.Expr 0 ct (rw p refl))
 
   -- `after`: a target and a `from`, each of which may be there
-  pub after-at : kindAt S i ≡ 14
-      → (clauseAt s i ≡ after (Option·map exprOf (getElem? (nodesAt s (entry S i 5) (suc i)) 0)) (Option·map exprOf (getElem? (nodesAt s (entry S i 6) (skip S (entry S i 5) (suc i))) 0)))
-      × Row S grammar.Expr (entry S i 5 + entry S i 6) (suc i)
-      × (skip S (entry S i 5 + entry S i 6) (suc i) ≡ endAt S i)
-      × (entry S i 5 ≤ 1)
-      × (entry S i 6 ≤ 1)
+  pub after-at : kindAt S i ≡ kinds.after
+      → (clauseAt s i ≡ after (Option·map exprOf (getElem? (nodesAt s (targetCount S i) (suc i)) 0)) (Option·map exprOf (getElem? (nodesAt s (fromCount S i) (skip S (targetCount S i) (suc i))) 0)))
+      × Row S grammar.Expr (targetCount S i + fromCount S i) (suc i)
+      × (skip S (targetCount S i + fromCount S i) (suc i) ≡ endAt S i)
+      × (targetCount S i ≤ 1)
+      × (fromCount S i ≤ 1)
   unfolding clauseAt clauseOf sorts
   after-at e =
-      let p = parts (ct .line) 14 (ct .parted) (kind-of e) in
+      let p = parts (ct .line) kinds.after (ct .parted) (kind-of e) in
       let g = p .1 .1 in
-      let q = flags (ct .line) 14 (ct .parted) (kind-of e) in
+      let q = flags (ct .line) kinds.after (ct .parted) (kind-of e) in
       let f = subst (Flagged (grammar.flag grammar.Expr ∷ grammar.flag grammar.Expr ∷ [])) (sym (q .1) ∙ g) (q .2) in
-      let a : entry S i 5 ≡ p .0 = ct .says .first ∙ rw g refl in
-      let b : entry S i 6 ≡ p .1 .0 = ct .says .second ∙ rw g refl in
+      let a : targetCount S i ≡ p .0 = ct .says .first ∙ rw g refl in
+      let b : fromCount S i ≡ p .1 .0 = ct .says .second ∙ rw g refl in
       let r = row-group (p .0, grammar.Expr) ((p .1 .0, grammar.Expr) ∷ []) ct g in
       let u = row-second (p .0, grammar.Expr) (p .1 .0, grammar.Expr) [] ct g in
       let all = all-parts d (h .within) (p .0 + p .1 .0) (rw (g, append-nil, length-append, length-times, length-times) refl) in
@@ -214,21 +215,21 @@ pub record EntryParts (s S : List ℕ) (i a b c : ℕ) : Type 0 where
   pub ends : skip S c (skip S b (skip S a (suc i))) ≡ endAt S i
   pub is : entryAt s i ≡ record { params = paramsAt s a (suc i); clauses = clausesAt s b (skip S a (suc i)); body = stmtsAt s c (skip S b (skip S a (suc i))) }
 
-module _ {s S : List ℕ} (d : Loaded s S) {i : ℕ} (w : i < length S / 8) where
+module _ {s S : List ℕ} (d : Loaded s S) {i : ℕ} (w : i < lineCount S) where
   abbrev et : Stands s S i
   et = stands d i w
 
-  pub entry-at : kindAt S i ≡ 5 → EntryParts s S i (entry S i 5) (entry S i 6) (entry S i 7)
+  pub entry-at : kindAt S i ≡ kinds.entry → EntryParts s S i (paramCount S i) (clauseCount S i) (bodyCount S i)
   unfolding entryAt entryOf paramsAt clausesAt stmtsAt sorts
   entry-at e =
-      let p = parts (et .line) 5 (et .parted) (sym (et .says .kind) ∙ e) in
+      let p = parts (et .line) kinds.entry (et .parted) (sym (et .says .kind) ∙ e) in
       let a = p .0 in
       let b = p .1 .0 in
       let c = p .1 .1 .0 in
       let g = p .1 .1 .1 in
-      let A : entry S i 5 ≡ a = et .says .first ∙ rw g refl in
-      let B : entry S i 6 ≡ b = et .says .second ∙ rw g refl in
-      let C : entry S i 7 ≡ c = et .says .third ∙ rw g refl in
+      let A : paramCount S i ≡ a = et .says .first ∙ rw g refl in
+      let B : clauseCount S i ≡ b = et .says .second ∙ rw g refl in
+      let C : bodyCount S i ≡ c = et .says .third ∙ rw g refl in
       let x = row-group (a, grammar.Param) _ et g in
       let y = row-second (a, grammar.Param) (b, grammar.Clause) _ et g in
       let z = row-third (a, grammar.Param) (b, grammar.Clause) (c, grammar.Stmt) [] et g in
@@ -246,43 +247,43 @@ module _ {s S : List ℕ} (d : Loaded s S) {i : ℕ} (w : i < length S / 8) wher
         is = rw (et .here) (entry-from i (et .line) (et .parts) (nodesAt s a (suc i)) (nodesAt s b j) (nodesAt s c k) a b c g n (nodes-length d x) (nodes-length d y));
       })
 
-  pub event-at : kindAt S i ≡ 2 → (eventAt s i ≡ record { name = nameAt s S i; params = paramsAt s (entry S i 5) (suc i) }) × Row S grammar.Param (entry S i 5) (suc i)
+  pub event-at : kindAt S i ≡ kinds.event → (eventAt s i ≡ record { name = nameAt s S i; params = paramsAt s (paramCount S i) (suc i) }) × Row S grammar.Param (paramCount S i) (suc i)
   unfolding eventAt eventOf paramsAt
   event-at e =
-      let p = parts (et .line) 2 (et .parted) (sym (et .says .kind) ∙ e) in
+      let p = parts (et .line) kinds.event (et .parted) (sym (et .says .kind) ∙ e) in
       let g = group d w grammar.Param (p .0) (p .1) in
       rw (g .3) (rw (et .here, g .0, et .spells .name) refl, g .2)
 
   -- a parameter or a field, and its type
-  pub param-at : kindAt S i ≡ 7 → (paramAt s i ≡ record { name = nameAt s S i; ty = typeAt s (suc i) }) × Here S grammar.Ty (suc i)
+  pub param-at : kindAt S i ≡ kinds.param → (paramAt s i ≡ record { name = nameAt s S i; ty = typeAt s (suc i) }) × Here S grammar.Ty (suc i)
   unfolding paramAt paramOf typeAt
   param-at e =
-      let p = parts (et .line) 7 (et .parted) (sym (et .says .kind) ∙ e) in
+      let p = parts (et .line) kinds.param (et .parted) (sym (et .says .kind) ∙ e) in
       (rw (et .here, one-part d w grammar.Ty p, et .spells .name) refl, row-first (group d w grammar.Ty 1 p .2))
 
-  pub field-at : kindAt S i ≡ 6
-      → (fieldAt s i ≡ record { name = nameAt s S i; nspan = placeAt s i; ty = typeAt s (suc i); default = Option·map exprOf (getElem? (nodesAt s (entry S i 6) (endAt S (suc i))) 0) })
+  pub field-at : kindAt S i ≡ kinds.field
+      → (fieldAt s i ≡ record { name = nameAt s S i; nspan = placeAt s i; ty = typeAt s (suc i); default = Option·map exprOf (getElem? (nodesAt s (defaultCount S i) (endAt S (suc i))) 0) })
       × Here S grammar.Ty (suc i)
-      × Row S grammar.Expr (entry S i 6) (endAt S (suc i))
-      × (entry S i 6 ≤ 1)
-  unfolding fieldAt fieldOf typeAt placeAt nodeSpan sorts skip times
+      × Row S grammar.Expr (defaultCount S i) (endAt S (suc i))
+      × (defaultCount S i ≤ 1)
+  unfolding fieldAt fieldOf typeAt placeAt nodeSpan sorts skip copies
   field-at e =
       let k = sym (et .says .kind) ∙ e in
-      let p = parts (et .line) 6 (et .parted) k in
-      let q = flags (et .line) 6 (et .parted) k in
+      let p = parts (et .line) kinds.field (et .parted) k in
+      let q = flags (et .line) kinds.field (et .parted) k in
       let z : q .0 ≡ (p .0, grammar.Expr) ∷ [] = cc (p .1, q .1) in
       let f = subst (Flagged (grammar.span ∷ grammar.name ∷ grammar.flag grammar.Expr ∷ [])) z (q .2) in
       let r = row-group (1, grammar.Ty) _ et (p .1) in
       let u = row-second (1, grammar.Ty) (p .0, grammar.Expr) [] et (p .1) in
-      let all = all-parts d w (suc (p .0)) (rw (p .1) (ap suc (ap length (append-nil (times (p .0) grammar.Expr)) ∙ length-times (p .0) grammar.Expr))) in
+      let all = all-parts d w (suc (p .0)) (rw (p .1) (ap suc (ap length (append-nil (copies (p .0) grammar.Expr)) ∙ length-times (p .0) grammar.Expr))) in
       let n : nodes (et .parts) ≡ nodeAt s (suc i) ∷ nodesAt s (p .0) (endAt S (suc i)) = all .0 ∙ nodes-next d (p .0) (suc i) (row-first r .within) in
-      let m : entry S i 6 ≡ p .0 = et .says .second ∙ rw (p .1) refl in
+      let m : defaultCount S i ≡ p .0 = et .says .second ∙ rw (p .1) refl in
       rw m (rw (et .here, n, et .spells .name) refl, row-first r, u, f .0)
 
 -- ------------------------------------------------------------ rows
 
 -- the statements, clauses or parameters of a row, one by one
-module _ {s S : List ℕ} (d : Loaded s S) (m : ℕ) {i : ℕ} (w : i < length S / 8) where
+module _ {s S : List ℕ} (d : Loaded s S) (m : ℕ) {i : ℕ} (w : i < lineCount S) where
   pub stmts-next : stmtsAt s (suc m) i ≡ stmtAt s i ∷ stmtsAt s m (endAt S i)
   unfolding stmtsAt stmtAt
   stmts-next = rw (nodes-next d m i w) refl

@@ -1,15 +1,15 @@
 -- What is known of the lines of a sheet that is loaded. Assumes nothing.
 use mathlib.Core.Path.{_≡_, refl, sym, ap, _∙_}
 use mathlib.Core.List.{List, [], _∷_, _++_}
-use Prim.Native.Nat.{ℕ, zero, suc, _+_, _-_, _*_, _/_, _<_, _≤_}
+use Prim.Native.Nat.{ℕ, zero, suc, _+_, _-_, _*_, _<_, _≤_}
 use native.Mathlib.Omega.{arith}
 use mathlib.Core.Option.{some}
 use lib.ListN.{length, getElem?, take, length-take}
 use Rattle.grammar.specs.Grammar.{Sort}
 use Rattle.sheet.specs.Line.{Line}
-use Rattle.sheet.specs.Load.{lines, load, sorts, times}
-use Rattle.sheet.specs.Tree.{Node, node, Nodes, nil, more, takeNodes, build as trees, before}
-use Rattle.sheet.specs.Scratch.{endAt, skip}
+use Rattle.sheet.specs.Load.{lines, load, sorts, copies}
+use Rattle.sheet.specs.Tree.{Node, node, Nodes, nil, more, takeNodes, trees, before}
+use Rattle.sheet.specs.Scratch.{endAt, skip, lineCount, cellsPerLine}
 use Rattle.sheet.specs.Held.{Says, Held, held, HeldAll, no-tree, tree, every, EveryOf, no-more, and-more, Spells, Parted, formed, FormedAll, none-due, one-due}
 use Rattle.sheet.specs.Promise.{answer, scratchAfter}
 use Rattle.sheet.specs.Scan.{scanAll}
@@ -18,7 +18,7 @@ use Rattle.sheet.specs.declared.loader.Answer.the-variants.{Lines}
 use Rattle.sheet.proofs.Holds.{all-le}
 use Rattle.sheet.proofs.Loaded.{whole, loaded, left-size, left-few, answer-lines}
 use Rattle.rules.specs.Ast.{more as moreExprs, blankNode, nodes, exprsOf}
-use Rattle.rules.specs.Standing.{readLines, linesIn, without, treesFrom, nodeAt, nodesAt, exprAt, exprsAt, Loaded, LoadedIn, Here, Row, stop, next}
+use Rattle.rules.specs.Standing.{readLines, linesIn, dropLines, treesFrom, nodeAt, nodesAt, exprAt, exprsAt, Loaded, LoadedIn, Here, Row, stop, next}
 
 -- the trees from line i on: what their records are, where they stand and what they say
 record Trees (s S : List ℕ) (n i : ℕ) (ns : Nodes) : Type 0 where
@@ -48,39 +48,39 @@ spells-before (and-more e es) h = and-more e (spells-before es h)
 
 -- with its first line taken away
 below : {s S : List ℕ} {n i : ℕ} {ss : List Sort} {ns : Nodes} → i < n → FormedAll ss ns → HeldAll S n i n ns → EveryOf (Spells s S) ns
-    → Trees s S n (suc i) (without 1 ns)
-unfolding without
+    → Trees s S n (suc i) (dropLines 1 ns)
+unfolding dropLines
 below h none-due no-tree no-more = absurd (omega arith)
 below h (one-due (formed a p fs) gs) (tree (held b y r) rs) (and-more (every e es) xs) =
     record { due = _; formed = formed-before fs gs; held = held-before r rs; spells = spells-before es xs }
 
-without-one : (k : ℕ) (ns : Nodes) → without (suc k) ns ≡ without 1 (without k ns)
-unfolding without
+without-one : (k : ℕ) (ns : Nodes) → dropLines (suc k) ns ≡ dropLines 1 (dropLines k ns)
+unfolding dropLines
 without-one zero ns = refl
 without-one (suc k) nil = refl
 without-one (suc k) (more (node i l ps) ns) = without-one k (before ps ns)
 
-without-none : (k : ℕ) → without k nil ≡ nil
-unfolding without
+without-none : (k : ℕ) → dropLines k nil ≡ nil
+unfolding dropLines
 without-none zero = refl
 without-none (suc k) = refl
 
-without-add : (a b : ℕ) (ns : Nodes) → without (a + b) ns ≡ without b (without a ns)
-unfolding without
+without-add : (a b : ℕ) (ns : Nodes) → dropLines (a + b) ns ≡ dropLines b (dropLines a ns)
+unfolding dropLines
 without-add zero b ns = rw (let e : 0 + b ≡ b = omega arith in e) refl
 without-add (suc a) b nil = without-none (suc a + b) ∙ sym (without-none b)
 without-add (suc a) b (more (node i l ps) ns) = rw (let e : suc a + b ≡ suc (a + b) = omega arith in e) (without-add a b (before ps ns))
 
 -- with all lines of the first trees taken away, the others are left
 mutual
-  unfolding without before
+  unfolding dropLines before
 
-  past : {S : List ℕ} {n i : ℕ} {t : Node} → Held S n i t → (ns : Nodes) → (i < endAt S i) × (without (endAt S i - i) (more t ns) ≡ ns)
+  past : {S : List ℕ} {n i : ℕ} {t : Node} → Held S n i t → (ns : Nodes) → (i < endAt S i) × (dropLines (endAt S i - i) (more t ns) ≡ ns)
   past {S} {i = i} (held {ps = ps} h y r) ns =
       let q = past-all r ns in
       (q .0, rw (let e : endAt S i - i ≡ suc (endAt S i - suc i) = omega (arith, q .0) in e) (q .1))
 
-  past-all : {S : List ℕ} {n i j : ℕ} {ps : Nodes} → HeldAll S n i j ps → (ns : Nodes) → (i ≤ j) × (without (j - i) (before ps ns) ≡ ns)
+  past-all : {S : List ℕ} {n i j : ℕ} {ps : Nodes} → HeldAll S n i j ps → (ns : Nodes) → (i ≤ j) × (dropLines (j - i) (before ps ns) ≡ ns)
   past-all {i = i} no-tree ns = (omega arith, rw (let e : i - i ≡ 0 = omega arith in e) refl)
   past-all {S} {i = i} {j} (tree {t = t} {ns = ts} h r) ns =
       let p = past h (before ts ns) in
@@ -105,17 +105,17 @@ pub record Stands (s S : List ℕ) (i : ℕ) : Type 0 where
   pub spells : Spells s S i line
   pub parted : Parted line
   pub formed : FormedAll (sorts (line .parts)) parts
-  pub held : HeldAll S (length S / 8) (suc i) (endAt S i) parts
+  pub held : HeldAll S (lineCount S) (suc i) (endAt S i) parts
   pub behind : treesFrom s (suc i) ≡ before parts (treesFrom s (endAt S i))
   pub next : treesFrom s i ≡ more (nodeAt s i) (treesFrom s (endAt S i))
-  pub ends : endAt S i ≤ length S / 8
+  pub ends : endAt S i ≤ lineCount S
 
 module _ {s S : List ℕ} (d : Loaded s S) where
   abbrev n : ℕ
-  n = length S / 8
+  n = lineCount S
 
   from-line : (i : ℕ) → i ≤ n → Trees s S n i (treesFrom s i)
-  unfolding treesFrom without
+  unfolding treesFrom dropLines
   from-line zero h =
       rw (d .one)
       (record {
@@ -128,12 +128,12 @@ module _ {s S : List ℕ} (d : Loaded s S) where
       let t = from-line i (omega arith) in
       rw (without-one i (trees 0 (linesIn s))) (below h (t .formed) (t .held) (t .spells))
 
-  taken : (i j : ℕ) → i ≤ j → treesFrom s j ≡ without (j - i) (treesFrom s i)
+  taken : (i j : ℕ) → i ≤ j → treesFrom s j ≡ dropLines (j - i) (treesFrom s i)
   unfolding treesFrom
   taken i j h = rw (let e : j ≡ i + (j - i) = omega arith in e) (without-add i (j - i) _ ∙ rw (let f : i + (j - i) - i ≡ j - i = omega arith in f) refl)
 
   first-of : (i : ℕ) (ns : Nodes) {ss : List Sort} → treesFrom s i ≡ ns → i < n → FormedAll ss ns → HeldAll S n i n ns → EveryOf (Spells s S) ns → Stands s S i
-  unfolding nodeAt without
+  unfolding nodeAt dropLines
   first-of i nil q h none-due no-tree no-more = absurd (omega arith)
   first-of i (more t ns) q h (one-due (formed {l = l} {ps = ps} a p fs) gs) (tree (held b y r) rs) (and-more (every e es) xs) =
       let w = past-all r ns in
@@ -185,20 +185,20 @@ pub parts-behind : {s S : List ℕ} {i : ℕ} (t : Stands s S i) → t .parts �
 parts-behind t = rw (t .behind) (sym (taken-parts (t .formed) _))
 
 -- the first k parts of a line, which are of the sort σ, stand one behind another
-row-of : {S : List ℕ} {n j : ℕ} {σ : Sort} (k : ℕ) (rs : List Sort) {i : ℕ} {ps : Nodes} → n ≡ length S / 8 → FormedAll (times k σ ++ rs) ps → HeldAll S n i j ps → Row S σ k i
-unfolding times
+row-of : {S : List ℕ} {n j : ℕ} {σ : Sort} (k : ℕ) (rs : List Sort) {i : ℕ} {ps : Nodes} → n ≡ lineCount S → FormedAll (copies k σ ++ rs) ps → HeldAll S n i j ps → Row S σ k i
+unfolding copies
 row-of zero os e f h = stop
 row-of (suc k) os e (one-due (formed a p fs) gs) (tree {i = i} (held b y r) rs) =
     next {i = i} (record { within = rw (← e) b; kind = rw (y .kind) a; after = all-le r }) (row-of k os e gs rs)
 
 -- with the line after them
-pub row-behind : {s S : List ℕ} {i : ℕ} {σ : Sort} (k : ℕ) (rs : List Sort) (t : Stands s S i) → sorts (t .line .parts) ≡ times k σ ++ rs → Row S σ k (suc i)
+pub row-behind : {s S : List ℕ} {i : ℕ} {σ : Sort} (k : ℕ) (rs : List Sort) (t : Stands s S i) → sorts (t .line .parts) ≡ copies k σ ++ rs → Row S σ k (suc i)
 row-behind k rs t e = row-of k rs refl (rw e at (t .formed)) (t .held)
 
 -- the parts behind the first k
-rest-of : {S : List ℕ} {n j : ℕ} (σ : Sort) (k : ℕ) (rs : List Sort) {i : ℕ} {ps : Nodes} → FormedAll (times k σ ++ rs) ps → HeldAll S n i j ps
+rest-of : {S : List ℕ} {n j : ℕ} (σ : Sort) (k : ℕ) (rs : List Sort) {i : ℕ} {ps : Nodes} → FormedAll (copies k σ ++ rs) ps → HeldAll S n i j ps
     → (qs : Nodes) × FormedAll rs qs × HeldAll S n (skip S k i) j qs
-unfolding times skip
+unfolding copies skip
 rest-of σ zero os {ps = ps} f h = (ps, f, h)
 rest-of σ (suc k) os (one-due f fs) (tree h hs) = rest-of σ k os fs hs
 
@@ -267,10 +267,10 @@ unfolding linesIn readLines
 lines-in s ls e = rw e refl
 
 -- what `load` leaves of a sheet that it reads
-pub by-load : (s : List ℕ) (types : ℕ) (S : List ℕ) (ls : List Line) → load s types (length S) ≡ lines ls → Loaded s (take (8 * length ls) (scratchAfter s types S))
+pub by-load : (s : List ℕ) (types : ℕ) (S : List ℕ) (ls : List Line) → load s types (length S) ≡ lines ls → Loaded s (take (cellsPerLine * length ls) (scratchAfter s types S))
 by-load s types S ls e =
     let d = loaded s types S ls e in
-    let c : length (take (8 * length ls) (scratchAfter s types S)) / 8 ≡ length ls = omega (arith, left-size s types S ls e) in
+    let c : lineCount (take (cellsPerLine * length ls) (scratchAfter s types S)) ≡ length ls = omega (arith, left-size s types S ls e) in
     record { root = d .0; one = rw (lines-in s ls (whole s types S ls e .1)) (d .1); holding = rw c (d .2) }
 
 -- ... where it answers that there are n lines, and leaves U for S
@@ -278,6 +278,6 @@ pub by-answer : (s S U : List ℕ) (types n : ℕ) (r : Answer) → r ≡ answer
 by-answer s S U types n r a e u =
     let l = answer-lines (load s types (length S)) (sym e ∙ a) in
     let X = scratchAfter s types S in
-    let k = 8 * length (l .0) in
+    let k = cellsPerLine * length (l .0) in
     let h : k ≤ length X = omega (arith, left-size s types S (l .0) (l .1), length-take k X) in
     rw (u, l .2) (record { loaded = by-load s types S (l .0) (l .1); entries = h; few = left-few s types S (l .0) (l .1) })

@@ -1,4 +1,4 @@
--- `check_arithmetic`: module 6.
+-- `check_arithmetic`: sums that may overflow unchecked.
 use Prim.Native.Nat.{ℕ}
 use mathlib.Core.List.{List, [], _∷_, _++_, map}
 use mathlib.Core.Bool.{Bool, true, false, not, _&&_, _||_}
@@ -8,9 +8,10 @@ use Rattle.text.specs.Text.{same}
 use Rattle.rules.specs.Text.{Name, is, among, get, Piece, lit, raw}
 use Rattle.rules.specs.Ast.{BinOp, Or, And, Eq, Ne, Lt, Gt, Le, Ge, Add, Sub, Mul, Div, Rem, Shr, AssignOp, Set, AddTo, SubFrom, Expr, leaf, unary, binary, field, call, wrap, Exprs, nil, more, Param, Clause, limits, denies, mints, after, Entry, Stmt, guard, bind, emit, assign, do'}
 use Rattle.rules.specs.Asking.{Ty, Rule, ret, expect, ifSome, forEach}
-use Rattle.rules.specs.Declared.{intOf}
+use Rattle.rules.specs.Types.{intOf}
 use Rattle.rules.specs.Model.{isAssetParam}
 use Rattle.rules.specs.Typing.{identOf, dotOf, isSome, leafHas}
+use Rattle.grammar.specs.Operators as ops
 
 unfoldable pub any : {A : Type 0} → (A → Bool) → List A → Bool
 any p [] = false
@@ -18,20 +19,20 @@ any p (a ∷ as') = p a || any p as'
 
 -- an operator's place among all of them
 unfoldable pub opPlace : BinOp → ℕ
-opPlace Or = 0
-opPlace And = 1
-opPlace Eq = 2
-opPlace Ne = 3
-opPlace Lt = 4
-opPlace Gt = 5
-opPlace Le = 6
-opPlace Ge = 7
-opPlace Add = 8
-opPlace Sub = 9
-opPlace Mul = 10
-opPlace Div = 11
-opPlace Rem = 12
-opPlace Shr = 13
+opPlace Or = ops.binOr
+opPlace And = ops.binAnd
+opPlace Eq = ops.binEq
+opPlace Ne = ops.binNe
+opPlace Lt = ops.binLt
+opPlace Gt = ops.binGt
+opPlace Le = ops.binLe
+opPlace Ge = ops.binGe
+opPlace Add = ops.binAdd
+opPlace Sub = ops.binSub
+opPlace Mul = ops.binMul
+opPlace Div = ops.binDiv
+opPlace Rem = ops.binRem
+opPlace Shr = ops.binShr
 
 unfoldable pub isOp : BinOp → BinOp → Bool
 isOp o p = eqb (opPlace o) (opPlace p)

@@ -6,21 +6,22 @@ use mathlib.Core.Bool.{Bool, true, false, _&&_, _||_, cond}
 use mathlib.Core.Option.{Option, none, some}
 use lib.Dec.{eqb}
 use Rattle.rules.specs.Text.{Piece}
+use Rattle.rules.specs.Codes as codes
 
 pub data Ty : Type 0 where
   Int Boolean Address Asset Word64 TName Time Str Collection Unknown : Ty
 
 unfoldable pub code : Ty → ℕ
-code Int = 1
-code Boolean = 2
-code Address = 3
-code Asset = 4
-code Word64 = 5
-code TName = 6
-code Time = 7
-code Str = 8
-code Collection = 9
-code Unknown = 10
+code Int = codes.int
+code Boolean = codes.boolean
+code Address = codes.address
+code Asset = codes.asset
+code Word64 = codes.word64
+code TName = codes.name
+code Time = codes.time
+code Str = codes.str
+code Collection = codes.collection
+code Unknown = codes.unknown
 
 pub record Refusal : Type 0 where
   pub number : ℕ
@@ -54,9 +55,9 @@ expect true n at ps = ret tt
 expect false n at ps = refuse (record { number = n; place = at; text = ps })
 
 -- the rule where the test holds
-unfoldable pub when : Bool → Rule Unit → Rule Unit
-when true p = p
-when false p = ret tt
+unfoldable pub provided : Bool → Rule Unit → Rule Unit
+provided true p = p
+provided false p = ret tt
 
 -- `if let Some(a) = o`
 unfoldable pub ifSome : {A : Type 0} → Option A → (A → Rule Unit) → Rule Unit
@@ -76,8 +77,8 @@ forEach (a ∷ as') f = f a >>= (λ _. forEach as' f)
 abbrev pub Asking : Type 0
 Asking = ℕ × ℕ
 
--- document 01: a line that has an asking is reached; its code is 0 if it has none, 11 if any of its askings has 11, else
--- that of its first
+-- a line that has an asking is reached; its code is 0 if it has none, 11 if any of its askings has 11, else that of its
+-- first
 unfoldable pub reached : ℕ → List Asking → Bool
 reached l [] = false
 reached l (a ∷ rest) = eqb (a .0) l || reached l rest
@@ -89,14 +90,14 @@ reachedFrom i (suc n) asked = elim (reached i asked) [ true ↦ suc (reachedFrom
 
 unfoldable pub refusedIn : ℕ → List Asking → Bool
 refusedIn l [] = false
-refusedIn l (a ∷ rest) = (eqb (a .0) l && eqb (a .1) 11) || refusedIn l rest
+refusedIn l (a ∷ rest) = (eqb (a .0) l && eqb (a .1) codes.refused) || refusedIn l rest
 
 unfoldable pub firstCode : ℕ → List Asking → ℕ
 firstCode l [] = 0
 firstCode l (a ∷ rest) = cond (eqb (a .0) l) (a .1) (firstCode l rest)
 
 unfoldable pub codeOf : ℕ → List Asking → ℕ
-codeOf l asked = cond (refusedIn l asked) 11 (firstCode l asked)
+codeOf l asked = cond (refusedIn l asked) codes.refused (firstCode l asked)
 
 pub record Out (A : Type 0) : Type 0 where
   pub res : Res A
@@ -104,18 +105,18 @@ pub record Out (A : Type 0) : Type 0 where
 
 unfoldable pub codeR : Res Ty → ℕ
 codeR (ok t) = code t
-codeR (refused r) = 11
+codeR (refused r) = codes.refused
 
 -- the asking of line l that came out so has ended: go on, or end in its refusal
-unfoldable pub ended : {A : Type 0} → ℕ → Res Ty → List Asking → (Ty → Out A) → Out A
-ended l (ok t) asked f =
+unfoldable pub concluded : {A : Type 0} → ℕ → Res Ty → List Asking → (Ty → Out A) → Out A
+concluded l (ok t) asked f =
     let o = f t in
     record { res = o .res; log = asked ++ ((l, code t) ∷ o .log) }
-ended l (refused r) asked f = record { res = refused r; log = asked ++ ((l, 11) ∷ []) }
+concluded l (refused r) asked f = record { res = refused r; log = asked ++ ((l, codes.refused) ∷ []) }
 
 unfoldable pub fresh : {A : Type 0} → Rule A → Out A
 fresh (ret a) = record { res = ok a; log = [] }
 fresh (refuse r) = record { res = refused r; log = [] }
 fresh (ask g l p k) =
     let o = fresh p in
-    ended l (o .res) (o .log) (λ t. fresh (k t))
+    concluded l (o .res) (o .log) (λ t. fresh (k t))

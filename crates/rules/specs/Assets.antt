@@ -1,4 +1,4 @@
--- Asset use, and the flow of wrapping values to narrow slots: module 6.
+-- Asset use (`asset_calls_consumed`), and the flow of wrapping values to narrow slots (`narrow_wrapping`).
 use Prim.Native.Nat.{ℕ}
 use mathlib.Core.List.{List, [], _∷_, _++_, zip}
 use mathlib.Core.Bool.{Bool, true, false, cond, not, _&&_, _||_}
@@ -6,8 +6,8 @@ use mathlib.Core.Option.{Option, none, some}
 use lib.ListN.{getElem?}
 use Rattle.rules.specs.Text.{Name, is, Piece, lit, raw}
 use Rattle.rules.specs.Ast.{Arg, ofType, ofInt, mOfN, Checked, Wrapping, Expr, leaf, unary, binary, field, call, wrap, Exprs, nil, more, Entry, Stmt, guard, bind, emit, assign, do', span, list, typeName, args}
-use Rattle.rules.specs.Asking.{Rule, ret, _>>=_, _>>_, expect, when, ifSome, ifSomeElse, forEach}
-use Rattle.rules.specs.Declared.{narrowMax}
+use Rattle.rules.specs.Asking.{Rule, ret, _>>_, expect, provided, ifSome, ifSomeElse, forEach}
+use Rattle.rules.specs.Types.{narrowMax}
 use Rattle.rules.specs.Model.{Model, fieldNamed, eventNamed}
 use Rattle.rules.specs.Typing.{identOf, identIs, dotOf, callOf, isSome, leafHas}
 use Rattle.rules.specs.Statements.{narrowField}
@@ -96,7 +96,7 @@ unfoldable pub narrowSet : Model → (wrapped : List Name) → Expr → Rule Uni
 narrowSet m wrapped e =
     ifSome (callOf e) λ c.
     ifSome (dotOf (c .callee)) λ d.
-    when (is (d .name) "set") (
+    provided (is (d .name) "set") (
     ifSome (identOf (d .base)) λ map.
     ifSome (getElem? (list (c .args)) 1) λ value.
     reaches wrapped (narrowValues m map) value (valuesSlot map))

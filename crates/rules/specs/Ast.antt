@@ -7,6 +7,7 @@ use Rattle.grammar.specs.Grammar.{Contract}
 use Rattle.sheet.specs.Line.{Line}
 use Rattle.sheet.specs.Tree.{Node, node, Nodes, nil as done, more as then}
 use Rattle.rules.specs.Text.{Name}
+use Rattle.grammar.specs.Kinds as kinds
 
 -- ------------------------------------------------------------ ast.rs
 
@@ -125,7 +126,7 @@ abbrev mutual
   linesAfter i nil = i
   linesAfter i (more e es) = linesAfter (lineAfter e) es
 
--- the leaf of an expression with no parts
+-- which leaf the expression is, where it has no parts
 unfoldable pub leafOf : Expr → Option Leaf
 leafOf (leaf l s k) = some k
 leafOf (unary l s o e) = none
@@ -152,7 +153,7 @@ unfoldable pub args : Type' → List Arg
 args (type s n as') = argList as'
 
 -- ------------------------------------------------------------ from the sheet's records
--- A record is told by its kind, its place in the sheet's `records`. What no read sheet has comes to `blank`.
+-- A record is told by its kind (grammar's Kinds). For what no read sheet has there is a default, as `blank` or `mints`.
 
 abbrev pub spanOf : Line → ℕ
 spanOf l = getD (l .spans) 0 0
@@ -163,13 +164,13 @@ nspanOf l = getD (l .spans) 1 0
 abbrev blank : Expr
 blank = leaf 0 0 now
 
-abbrev pub first : Exprs → Expr
-first nil = blank
-first (more e es) = e
+abbrev pub firstExpr : Exprs → Expr
+firstExpr nil = blank
+firstExpr (more e es) = e
 
-abbrev pub rest : Exprs → Exprs
-rest nil = nil
-rest (more e es) = es
+abbrev pub otherExprs : Exprs → Exprs
+otherExprs nil = nil
+otherExprs (more e es) = es
 
 abbrev bare : Leaf → ℕ → Line → Exprs → Expr
 bare k i l es = leaf i (spanOf l) k
@@ -189,17 +190,17 @@ exprKinds =
     (λ i l es. leaf i (spanOf l) (int (l .name)))
     ∷ (λ i l es. leaf i (spanOf l) (id (l .name)))
     ∷ bare date ∷ bare str ∷ bare caller ∷ bare native ∷ bare inasset ∷ bare now
-    ∷ (λ i l es. unary i (spanOf l) (getD unaryOps (l .op) Neg) (first es))
-    ∷ (λ i l es. binary i (spanOf l) (getD binOps (l .op) Shr) (first es) (first (rest es)))
-    ∷ (λ i l es. field i (spanOf l) (first es) (l .name) (nspanOf l))
-    ∷ (λ i l es. call i (spanOf l) (first es) (rest es))
-    ∷ (λ i l es. wrap i (spanOf l) Checked (first es))
-    ∷ (λ i l es. wrap i (spanOf l) Wrapping (first es))
+    ∷ (λ i l es. unary i (spanOf l) (getD unaryOps (l .op) Neg) (firstExpr es))
+    ∷ (λ i l es. binary i (spanOf l) (getD binOps (l .op) Shr) (firstExpr es) (firstExpr (otherExprs es)))
+    ∷ (λ i l es. field i (spanOf l) (firstExpr es) (l .name) (nspanOf l))
+    ∷ (λ i l es. call i (spanOf l) (firstExpr es) (otherExprs es))
+    ∷ (λ i l es. wrap i (spanOf l) Checked (firstExpr es))
+    ∷ (λ i l es. wrap i (spanOf l) Wrapping (firstExpr es))
     ∷ []
 
 unfoldable mutual
   pub exprOf : Node → Expr
-  exprOf (node i l ns) = getD exprKinds (l .kind - 20) (bare now) i l (exprsOf ns)
+  exprOf (node i l ns) = getD exprKinds (l .kind - kinds.int) (bare now) i l (exprsOf ns)
 
   pub exprsOf : Nodes → Exprs
   exprsOf done = nil
@@ -211,7 +212,7 @@ argKinds = (λ l as'. ofType (type (spanOf l) (l .name) as')) ∷ (λ l as'. ofI
 
 unfoldable mutual
   pub argOf : Node → Arg
-  argOf (node i l ns) = getD argKinds (l .kind - 8) (λ l as'. mOfN) l (argsOf ns)
+  argOf (node i l ns) = getD argKinds (l .kind - kinds.type) (λ l as'. mOfN) l (argsOf ns)
 
   pub argsOf : Nodes → Args
   argsOf done = anil
@@ -230,12 +231,12 @@ blankNode = node 0 (record { kind = 0; at = 0; op = 0; spans = []; start = 0; na
 abbrev at : List Node → ℕ → Node
 at ns k = getD ns k blankNode
 
-abbrev exprAt : List Node → ℕ → Expr
-exprAt ns k = exprOf (at ns k)
+abbrev exprIn : List Node → ℕ → Expr
+exprIn ns k = exprOf (at ns k)
 
--- how many parts the k-th COUNT or FLAG tells
-abbrev count : Line → ℕ → ℕ
-count l k = getD (l .parts) k (0, Contract) .0
+-- how many parts there are in group k, counted from 0: the groups that a record always has come first, then one for each COUNT or FLAG
+abbrev groupCount : Line → ℕ → ℕ
+groupCount l k = getD (l .parts) k (0, Contract) .0
 
 abbrev fieldFrom : Line → List Node → Field
 fieldFrom l ns = record { name = l .name; nspan = spanOf l; ty = typeOf (at ns 0); default = Option·map exprOf (getElem? ns 1) }
@@ -249,27 +250,27 @@ paramOf (node i l ns) = record { name = l .name; ty = typeOf (at (nodes ns) 0) }
 -- clauses, kinds 11 to 14
 abbrev clauseKinds : List (Line → List Node → Clause)
 clauseKinds =
-    (λ l ns. limits (exprAt ns 0))
-    ∷ (λ l ns. denies (exprAt ns 0))
+    (λ l ns. limits (exprIn ns 0))
+    ∷ (λ l ns. denies (exprIn ns 0))
     ∷ (λ l ns. mints)
-    ∷ (λ l ns. after (Option·map exprOf (getElem? (take (count l 0) ns) 0)) (Option·map exprOf (getElem? (drop (count l 0) ns) 0)))
+    ∷ (λ l ns. after (Option·map exprOf (getElem? (take (groupCount l 0) ns) 0)) (Option·map exprOf (getElem? (drop (groupCount l 0) ns) 0)))
     ∷ []
 
 unfoldable pub clauseOf : Node → Clause
-clauseOf (node i l ns) = getD clauseKinds (l .kind - 11) (λ l ns. mints) l (nodes ns)
+clauseOf (node i l ns) = getD clauseKinds (l .kind - kinds.limits) (λ l ns. mints) l (nodes ns)
 
 -- statements, kinds 15 to 19
 abbrev stmtKinds : List (Line → List Node → Stmt)
 stmtKinds =
-    (λ l ns. guard (exprAt ns 0))
-    ∷ (λ l ns. bind (l .name) (exprAt ns 0))
+    (λ l ns. guard (exprIn ns 0))
+    ∷ (λ l ns. bind (l .name) (exprIn ns 0))
     ∷ (λ l ns. emit (l .name) (map exprOf ns))
-    ∷ (λ l ns. assign (spanOf l) (getD assignOps (l .op) Set) (exprAt ns 0) (exprAt ns 1))
-    ∷ (λ l ns. do' (exprAt ns 0))
+    ∷ (λ l ns. assign (spanOf l) (getD assignOps (l .op) Set) (exprIn ns 0) (exprIn ns 1))
+    ∷ (λ l ns. do' (exprIn ns 0))
     ∷ []
 
 unfoldable pub stmtOf : Node → Stmt
-stmtOf (node i l ns) = getD stmtKinds (l .kind - 15) (λ l ns. do' blank) l (nodes ns)
+stmtOf (node i l ns) = getD stmtKinds (l .kind - kinds.guard) (λ l ns. do' blank) l (nodes ns)
 
 unfoldable pub eventOf : Node → Event
 eventOf (node i l ns) = record { name = l .name; params = map paramOf (nodes ns) }
@@ -277,9 +278,9 @@ eventOf (node i l ns) = record { name = l .name; params = map paramOf (nodes ns)
 abbrev entryFrom : Line → List Node → Entry
 entryFrom l ns =
     record {
-      params = map paramOf (take (count l 0) ns);
-      clauses = map clauseOf (take (count l 1) (drop (count l 0) ns));
-      body = map stmtOf (drop (count l 0 + count l 1) ns);
+      params = map paramOf (take (groupCount l 0) ns);
+      clauses = map clauseOf (take (groupCount l 1) (drop (groupCount l 0) ns));
+      body = map stmtOf (drop (groupCount l 0 + groupCount l 1) ns);
     }
 
 unfoldable pub entryOf : Node → Entry
@@ -290,13 +291,13 @@ abbrev itemKinds : List (Line → List Node → Item)
 itemKinds =
     (λ l ns. state (map fieldOf ns))
     ∷ (λ l ns. event (record { name = l .name; params = map paramOf ns }))
-    ∷ (λ l ns. invariant (exprAt ns 0))
+    ∷ (λ l ns. invariant (exprIn ns 0))
     ∷ (λ l ns. genesis (map stmtOf ns))
     ∷ (λ l ns. entry (entryFrom l ns))
     ∷ []
 
 unfoldable pub itemOf : Node → Item
-itemOf (node i l ns) = getD itemKinds (l .kind - 1) (λ l ns. state []) l (nodes ns)
+itemOf (node i l ns) = getD itemKinds (l .kind - kinds.state) (λ l ns. state []) l (nodes ns)
 
 -- the items of the one contract of a read sheet
 unfoldable pub contractOf : Nodes → List Item

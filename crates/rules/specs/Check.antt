@@ -5,7 +5,7 @@ use mathlib.Core.Bool.{true, false, not}
 use Rattle.rules.specs.Text.{Name, isOne, Piece, lit, raw}
 use Rattle.rules.specs.Ast.{Type', Set, id, Expr, leaf, Field, Param, Clause, limits, denies, mints, after, Entry, Stmt, guard, bind, emit, assign, do', span, lineAfter, typeName, typeSpan}
 use Rattle.rules.specs.Asking.{Ty, Collection, Rule, ret, _>>=_, _>>_, expect, ifSome, forEach}
-use Rattle.rules.specs.Declared.{tyOfDecl, eqTy}
+use Rattle.rules.specs.Types.{tyOfDecl, eqTy}
 use Rattle.rules.specs.Declarations.{guardianFits, guardianBound, storable, eventFieldType, refuseWord64AsDigest}
 use Rattle.rules.specs.Model.{Model, values}
 use Rattle.rules.specs.Typing.{Env, new, inGenesis, bound, Asked, tyOfIdent, askOf, tyOf}

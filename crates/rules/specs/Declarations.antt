@@ -1,4 +1,4 @@
--- Declarations: module 2.
+-- Declarations: state fields, event fields, guardian sets, digest names.
 use Prim.Native.Nat.{ℕ, _+_}
 use Prim.Native.String.{String}
 use mathlib.Core.List.{List, [], _∷_, _++_}
@@ -10,7 +10,7 @@ use Rattle.text.specs.Text.{bytes}
 use Rattle.rules.specs.Text.{Name, is, pick, Piece, lit, raw, dec}
 use Rattle.rules.specs.Ast.{Type', type, Arg, ofType, ofInt, mOfN, Args, anil, amore, typeName, typeSpan, args}
 use Rattle.rules.specs.Asking.{Int, Boolean, Address, Asset, Word64, TName, Time, Str, Collection, Unknown, Rule, ret, _>>=_, _>>_, expect}
-use Rattle.rules.specs.Declared.{parseU64, tyOfDecl, eqTy, isTy}
+use Rattle.rules.specs.Types.{parseU64, tyOfDecl, eqTy, isTy}
 
 -- ------------------------------------------------------------ guardian_bound
 
@@ -39,17 +39,17 @@ guardianBound ty = expect (guardianFits ty) 20 (typeSpan ty) guardianText
 
 unfoldable mutual
   pub typeText : Type' → List Piece
-  typeText (type s n as') = raw n ∷ argsText "<" as'
+  typeText (type s n as') = raw n ∷ argsText true as'
 
   pub argText : Arg → List Piece
   argText (ofType t) = typeText t
   argText (ofInt n) = raw n ∷ []
   argText mOfN = lit "_" ∷ []
 
-  -- the arguments, with what stands before the next of them; at the end `>`, where there was one
-  pub argsText : (before : String) → Args → List Piece
-  argsText before anil = cond (is (bytes before) "<") [] (lit ">" ∷ [])
-  argsText before (amore a as') = lit before ∷ (argText a ++ argsText ", " as')
+  -- the arguments from the first on, or those behind it: `<`, then `, ` before each other, then `>`; nothing where there is none at all
+  pub argsText : (first : Bool) → Args → List Piece
+  argsText first anil = cond first [] (lit ">" ∷ [])
+  argsText first (amore a as') = lit (cond first "<" ", ") ∷ (argText a ++ argsText false as')
 
 -- ------------------------------------------------------------ storable
 

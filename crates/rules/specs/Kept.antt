@@ -1,11 +1,12 @@
 -- The same rules with the types kept in a table, on any table; and the marks that a list of askings makes.
-use Prim.Native.Nat.{ℕ, zero, suc}
+use Prim.Native.Nat.{ℕ, zero, suc, _≤_}
 use mathlib.Core.List.{List, [], _∷_}
 use mathlib.Core.Bool.{Bool, true, false, _||_}
 use mathlib.Core.Option.{Option, none, some}
 use lib.Dec.{eqb}
 use lib.ListN.{getD, set, getElem?}
 use Rattle.rules.specs.Asking.{Ty, Int, Boolean, Address, Asset, Word64, TName, Time, Str, Collection, Unknown, Res, ok, refused, Rule, ret, refuse, ask, Asking, codeR}
+use Rattle.rules.specs.Codes as codes
 
 abbrev pub Table : Type 0
 Table = List ℕ
@@ -19,6 +20,14 @@ unfoldable pub tyOfMark : ℕ → Option Ty
 tyOfMark zero = none
 tyOfMark (suc n) = getElem? types n
 
+-- a code of a type
+abbrev pub IsCode : ℕ → Type 0
+IsCode c = (codes.int ≤ c) × (c ≤ codes.unknown)
+
+-- the type that a code tells; Unknown where it is no code
+unfoldable pub tyFrom : ℕ → Ty
+tyFrom c = elim (tyOfMark c) [ none ↦ Unknown | some t ↦ t ]
+
 pub record Kept (A : Type 0) : Type 0 where
   pub res : Res A
   pub table : Table
@@ -31,7 +40,7 @@ stored (refused r) T f = record { res = refused r; table = T }
 -- a line has been typed again: it keeps its first type, or is marked as refused
 unfoldable pub retyped : {A : Type 0} → ℕ → Res Ty → Table → (Ty → Table → Kept A) → Kept A
 retyped l (ok t) T f = f t T
-retyped l (refused r) T f = record { res = refused r; table = set T l 11 }
+retyped l (refused r) T f = record { res = refused r; table = set T l codes.refused }
 
 unfoldable pub kept : {A : Type 0} → Rule A → Table → Kept A
 kept (ret a) T = record { res = ok a; table = T }
@@ -48,7 +57,7 @@ putIf false T l c = T
 
 -- the mark of one asking: 11 always, else where the line has none yet
 unfoldable pub mark : Table → Asking → Table
-mark T a = putIf (eqb (getD T (a .0) 0) 0 || eqb (a .1) 11) T (a .0) (a .1)
+mark T a = putIf (eqb (getD T (a .0) 0) 0 || eqb (a .1) codes.refused) T (a .0) (a .1)
 
 unfoldable pub marks : Table → List Asking → Table
 marks T [] = T

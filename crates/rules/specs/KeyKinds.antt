@@ -1,4 +1,4 @@
--- `check_key_kinds`: module 6.
+-- `check_key_kinds`: one kind of key for each Map or Registry.
 use Prim.Native.Nat.{ℕ}
 use mathlib.Core.List.{List, [], _∷_, _++_}
 use mathlib.Core.Bool.{Bool, true, false, not, _&&_, Bool·beq}

@@ -1,8 +1,9 @@
+pub mod Codes
 pub mod Text
 pub mod Ast
 pub mod Asking
 pub mod Kept
-pub mod Declared
+pub mod Types
 pub mod Declarations
 pub mod Model
 pub mod Typing

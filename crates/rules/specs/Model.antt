@@ -1,4 +1,4 @@
--- `Model::build`: module 3. Of model.rs only what the rules read, and the contract's items parted by their kind.
+-- `Model::build`: of model.rs only what the rules read, and the contract's items parted by their kind.
 use mathlib.Core.List.{List, [], _∷_, _++_}
 use mathlib.Core.Bool.{Bool}
 use mathlib.Core.Option.{Option, none, some}

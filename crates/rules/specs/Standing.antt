@@ -1,15 +1,16 @@
--- What stands at a line of a sheet: the tree of its record, told from the sheet's bytes alone.
-use Prim.Native.Nat.{ℕ, zero, suc, _*_, _/_, _<_, _≤_}
+-- What stands at a line of a sheet: the tree of its record, told from the sheet's bytes alone. At the end what the code asks of the
+-- scratch: that it holds the sheet's lines, and that records of a sort stand there.
+use Prim.Native.Nat.{ℕ, zero, suc, _*_, _<_, _≤_}
 use mathlib.Core.List.{List, [], map}
 use mathlib.Core.Path.{_≡_}
 use lib.ListN.{length, take}
 use Rattle.grammar.specs.Grammar.{Sort}
 use Rattle.sheet.specs.Held.{Among, Holding}
-use Rattle.sheet.specs.Line.{Line}
-use Rattle.sheet.specs.Load.{Loaded as Read, lines, refused}
+use Rattle.sheet.specs.Line.{Line, mostLines}
+use Rattle.sheet.specs.Load.{LoadResult as Read, lines, refused}
 use Rattle.sheet.specs.Scan.{scanAll}
-use Rattle.sheet.specs.Scratch.{kindAt, endAt}
-use Rattle.sheet.specs.Tree.{Node, node, Nodes, nil, more, takeNodes, build as trees, before}
+use Rattle.sheet.specs.Scratch.{kindAt, endAt, lineCount, cellsPerLine}
+use Rattle.sheet.specs.Tree.{Node, node, Nodes, nil, more, takeNodes, trees, before}
 use Rattle.rules.specs.Ast.{Type', Arg, Expr, Exprs, Field, Param, Clause, Stmt, Entry, Event, blankNode, nodes, spanOf, argOf, typeOf, exprOf, exprsOf, fieldOf, paramOf, clauseOf, stmtOf, entryOf, eventOf}
 use Rattle.rules.specs.Text.{Name}
 use Rattle.rules.specs.Model.{Model}
@@ -27,14 +28,14 @@ unfoldable pub modelIn : List ℕ → Model
 modelIn s = modelOf (linesIn s)
 
 -- the trees that are left when k lines are taken away, each from the first tree
-unfoldable pub without : ℕ → Nodes → Nodes
-without zero ns = ns
-without (suc k) nil = nil
-without (suc k) (more (node i l ps) ns) = without k (before ps ns)
+unfoldable pub dropLines : ℕ → Nodes → Nodes
+dropLines zero ns = ns
+dropLines (suc k) nil = nil
+dropLines (suc k) (more (node i l ps) ns) = dropLines k (before ps ns)
 
 -- the trees from line i on
 unfoldable pub treesFrom : List ℕ → ℕ → Nodes
-treesFrom s i = without i (trees 0 (linesIn s))
+treesFrom s i = dropLines i (trees 0 (linesIn s))
 
 abbrev firstOf : Nodes → Node
 firstOf nil = blankNode
@@ -102,21 +103,21 @@ placeAt s i = nodeSpan (nodeAt s i)
 
 -- ------------------------------------------------------------ lines that are loaded
 
--- the entries S are those of the sheet s, which is read
+-- S are the cells of the lines of the sheet s: the lines that are read make one tree, and S holds it
 pub record Loaded (s S : List ℕ) : Type 0 where
   pub root : Node
   pub one : trees 0 (linesIn s) ≡ more root nil
-  pub holding : Holding s S (length S / 8) root
+  pub holding : Holding s S (lineCount S) root
 
--- the scratch U starts with the entries of the sheet s, which is read and has n lines
+-- the scratch U starts with the cells of the n lines of the sheet s, which are at most 1,024
 pub record LoadedIn (s U : List ℕ) (n : ℕ) : Type 0 where
-  pub loaded : Loaded s (take (8 * n) U)
-  pub entries : 8 * n ≤ length U
-  pub few : n ≤ 1024
+  pub loaded : Loaded s (take (cellsPerLine * n) U)
+  pub entries : cellsPerLine * n ≤ length U
+  pub few : n ≤ mostLines
 
--- at line i stands a record that may stand where the sort σ is due
+-- line i is there, its kind may stand where the sort σ is due, and its parts end behind it
 pub record Here (S : List ℕ) (σ : Sort) (i : ℕ) : Type 0 where
-  pub within : i < length S / 8
+  pub within : i < lineCount S
   pub kind : Among σ (kindAt S i)
   pub after : i < endAt S i
 

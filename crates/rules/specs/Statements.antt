@@ -1,4 +1,4 @@
--- Statements and emits: module 5.
+-- Statements, conditions, emits and recipients.
 use Prim.Native.Nat.{ℕ}
 use mathlib.Core.List.{List, [], _∷_, _++_, zip}
 use mathlib.Core.Bool.{Bool, true, false, not, _&&_, _||_}
@@ -8,7 +8,7 @@ use lib.ListN.{getElem?}
 use Rattle.rules.specs.Text.{Name, is, pick, Piece, lit, raw, dec}
 use Rattle.rules.specs.Ast.{AssignOp, Set, AddTo, SubFrom, Wrap, Checked, Wrapping, Expr, leaf, unary, binary, field, call, wrap, Param, Stmt, guard, bind, emit, assign, do', span, list, typeName}
 use Rattle.rules.specs.Asking.{Ty, Boolean, Address, Asset, TName, Collection, Unknown, Rule, ret, _>>=_, _>>_, expect, ifSome, forEach}
-use Rattle.rules.specs.Declared.{parseU128, intOf, narrowMax, tyOfDecl, eqTy, isTy, describe, numeric, oneWord, compatible}
+use Rattle.rules.specs.Types.{parseU128, intOf, narrowMax, tyOfDecl, eqTy, isTy, describe, numeric, oneWord, compatible}
 use Rattle.rules.specs.Declarations.{typeText}
 use Rattle.rules.specs.Model.{Model, fieldNamed, eventNamed}
 use Rattle.rules.specs.Typing.{Env, Asked, identOf, identIs, dotOf, callOf, isSome, isNameParam, checkKeyedCall, typings, askOf, tyOf}

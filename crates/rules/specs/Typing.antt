@@ -1,4 +1,4 @@
--- Typing: module 4. `ty_of` and its branches, `check_keyed_call`.
+-- Typing: `ty_of` and its branches, `check_keyed_call`.
 use Prim.Native.Nat.{ℕ}
 use Prim.Native.String.{String}
 use mathlib.Core.List.{List, [], _∷_, _++_}
@@ -7,8 +7,8 @@ use mathlib.Core.Option.{Option, none, some}
 use lib.Dec.{ltb}
 use Rattle.rules.specs.Text.{Name, is, isOne, pick, among, get, Piece, lit, raw}
 use Rattle.rules.specs.Ast.{UnaryOp, Not, Neg, BinOp, Or, And, Eq, Ne, Lt, Gt, Le, Ge, Add, Sub, Mul, Div, Rem, Shr, Type', Leaf, int, id, date, str, caller, native, inasset, now, Expr, leaf, unary, binary, field, call, wrap, Exprs, nil, more, Field, span, line, leafOf, typeName}
-use Rattle.rules.specs.Asking.{Ty, Int, Boolean, Address, Asset, Word64, TName, Time, Str, Unknown, Rule, ret, ask, _>>=_, _>>_, expect, when, ifSome}
-use Rattle.rules.specs.Declared.{isZeroLiteral, tyOfDecl, declaredArg, eqTy, isTy, describe, numeric, compatible}
+use Rattle.rules.specs.Asking.{Ty, Int, Boolean, Address, Asset, Word64, TName, Time, Str, Unknown, Rule, ret, ask, _>>=_, _>>_, expect, provided, ifSome}
+use Rattle.rules.specs.Types.{isZeroLiteral, tyOfDecl, declaredArg, eqTy, isTy, describe, numeric, compatible}
 use Rattle.rules.specs.Declarations.{typeText}
 use Rattle.rules.specs.Model.{Model, fieldNamed}
 
@@ -16,7 +16,7 @@ pub record Env : Type 0 where
   pub model : Model
   pub params : List (Name × Ty)
   pub locals : List (Name × Ty)
-  -- the same `let`s, each with the first line behind it: what document 01's exception goes by
+  -- the same `let`s, each with the first line behind it: what `stale` goes by
   pub ends : List (Name × ℕ)
   pub genesis : Bool
 
@@ -98,8 +98,8 @@ isNameParam Γ e =
     ]
 
 -- the state field of a bare name that no parameter has; a local doesn't hide it
-unfoldable pub fieldOf : Env → Expr → Option Field
-fieldOf Γ e =
+unfoldable pub stateFieldOf : Env → Expr → Option Field
+stateFieldOf Γ e =
     elim (identOf e) [
       | none ↦ none
       | some x ↦
@@ -108,31 +108,31 @@ fieldOf Γ e =
 
 unfoldable pub keyedField : Env → Expr → Option Field
 keyedField Γ base =
-    elim (fieldOf Γ base) [
+    elim (stateFieldOf Γ base) [
       | none ↦ none
       | some f ↦
           elim (isOne (typeName (f .ty)) ("Map" ∷ "Registry" ∷ [])) [ true ↦ some f | false ↦ none ]
     ]
 
 unfoldable pub isPool : Env → Expr → Bool
-isPool Γ base = elim (fieldOf Γ base) [ none ↦ false | some f ↦ is (typeName (f .ty)) "Q_Asset" ]
+isPool Γ base = elim (stateFieldOf Γ base) [ none ↦ false | some f ↦ is (typeName (f .ty)) "Q_Asset" ]
 
 -- ------------------------------------------------------------ keyed calls
 
-abbrev pub straightText : Name → List Piece
-straightText f =
+abbrev pub nameNotParamText : Name → List Piece
+nameNotParamText f =
     lit "`" ∷ raw f ∷ lit "` takes a name only straight from a Q_Name parameter, whose characters and length the entry checks" ∷ []
 
-abbrev pub byNameText : Name → List Piece
-byNameText f = lit "`" ∷ raw f ∷ lit "` is keyed by Q_Name, so it takes a Q_Name parameter here" ∷ []
+abbrev pub nameWantedText : Name → List Piece
+nameWantedText f = lit "`" ∷ raw f ∷ lit "` is keyed by Q_Name, so it takes a Q_Name parameter here" ∷ []
 
 abbrev pub holdsText : Name → (want got : Ty) → List Piece
 holdsText f want got = lit "`" ∷ raw f ∷ lit "` holds " ∷ lit (describe want) ∷ lit " here, not a " ∷ lit (describe got) ∷ lit " value" ∷ []
 
 unfoldable pub judgeKey : Env → Name → (isKey : Bool) → Expr → (want got : Ty) → Rule Unit
 judgeKey Γ f isKey arg want got = do
-  expect (not (eqTy got TName) || isNameParam Γ arg) 33 (span arg) (straightText f)
-  expect (not (eqTy want TName) || eqTy got TName) 34 (span arg) (byNameText f)
+  expect (not (eqTy got TName) || isNameParam Γ arg) 33 (span arg) (nameNotParamText f)
+  expect (not (eqTy want TName) || eqTy got TName) 34 (span arg) (nameWantedText f)
   expect ((isKey && eqTy got TName) || compatible want got) 35 (span arg) (holdsText f want got)
 
 unfoldable pub checkKeys : Env → Name → (isKey : Bool) → List Asked → List Ty → Rule Unit
@@ -168,7 +168,7 @@ unfoldable pub checkKeyedCall : Env → (callee : Expr) → List Asked → Rule 
 checkKeyedCall Γ callee args =
     ifSome (dotOf callee) λ d.
     ifSome (keyedField Γ (d .base)) λ f. do
-      when (isOne (d .name) ("credit" ∷ "debit" ∷ [])) (checkAmount (d .name) args)
+      provided (isOne (d .name) ("credit" ∷ "debit" ∷ [])) (checkAmount (d .name) args)
       checkKeys Γ (f .name) true args (expected (d .name) (f .ty))
 
 unfoldable pub keyedOpFits : Type' → Name → Bool
@@ -277,8 +277,8 @@ arithmeticText = "arithmetic needs a number"
 abbrev pub orderingText : String
 orderingText = "an ordering needs numbers"
 
-abbrev pub namesText : List Piece
-namesText =
+abbrev pub namesComparedText : List Piece
+namesComparedText =
     lit "two names cannot be compared directly, the comparison would see only their first eight bytes; key a map by the name instead" ∷ []
 
 abbrev pub comparedText : (l r : Ty) → List Piece
@@ -312,7 +312,7 @@ ordering left right l r = do
 
 unfoldable pub equality : (left right : Expr) → (l r : Ty) → Rule Ty
 equality left right l r = do
-  expect (not (eqTy l TName || eqTy r TName)) 41 (span left) namesText
+  expect (not (eqTy l TName || eqTy r TName)) 41 (span left) namesComparedText
   expect (compatible l r || (eqTy l Address && isZeroLiteral right) || (eqTy r Address && isZeroLiteral left)) 42 (span right) (comparedText l r)
   ret Boolean
 
@@ -367,7 +367,7 @@ unfoldable pub later : ℕ → List (Name × ℕ) → List Name
 later i [] = []
 later i (b ∷ bs) = elim (ltb i (b .1)) [ true ↦ b .0 ∷ later i bs | false ↦ later i bs ]
 
--- document 01's exception for `let`s
+-- the exception for `let`s: one that ends behind the line has a name that stands in an `id` of it, so a kept type is not the answer
 unfoldable pub stale : Env → Expr → Bool
 stale Γ e = has (later (line e) (Γ .ends)) e
 

@@ -6,8 +6,8 @@ use mathlib.Core.Bool.{true, false, cond}
 use lib.Dec.{eqb, leb}
 use lib.ListN.{length, drop, replicate}
 use Rattle.sheet.specs.Line.{Line}
-use Rattle.sheet.specs.Load.{Loaded, lines, refused as unread, load}
-use Rattle.sheet.specs.Tree.{build as trees}
+use Rattle.sheet.specs.Load.{LoadResult, lines, refused as unread, load}
+use Rattle.sheet.specs.Tree.{trees}
 use Rattle.rules.specs.Text.{render}
 use Rattle.rules.specs.Ast.{contractOf}
 use Rattle.rules.specs.Asking.{Res, ok, refused, Out, fresh}
@@ -15,7 +15,8 @@ use Rattle.rules.specs.Kept.{Table, kept, marks, count}
 use Rattle.rules.specs.Model.{Model, build}
 use Rattle.rules.specs.Check.{check, guardianPlaces}
 
--- The answer; what is written into the message buffer from its start, and into the type table. Nothing is written elsewhere.
+-- The answer: its four numbers, and what is written from the start of the message buffer and of the type table. What the scratch is left
+-- with is said by `outcome` of verdict/specs/Outcome.
 pub record Answer : Type 0 where
   pub number : ℕ
   pub place : ℕ
@@ -25,16 +26,16 @@ pub record Answer : Type 0 where
   pub types : List ℕ
 
 -- a buffer after this was written into it
-unfoldable pub written : List ℕ → List ℕ → List ℕ
-written new old = new ++ drop (length new) old
+unfoldable pub overwritten : List ℕ → List ℕ → List ℕ
+overwritten new old = new ++ drop (length new) old
 
 -- a message that doesn't fit is not written at all
 unfoldable pub fitting : (most : ℕ) → List ℕ → List ℕ
 fitting most text = cond (leb (length text) most) text []
 
-unfoldable pub told : (most : ℕ) → Res Unit → Table → Answer
-told most (ok u) T = record { number = 0; place = 0; count = count T; length = 0; message = []; types = T }
-told most (refused r) T =
+unfoldable pub answerFor : (most : ℕ) → Res Unit → Table → Answer
+answerFor most (ok u) T = record { number = 0; place = 0; count = count T; length = 0; message = []; types = T }
+answerFor most (refused r) T =
     let text = render (r .text) in
     record { number = r .number; place = r .place; count = count T; length = length text; message = fitting most text; types = T }
 
@@ -43,13 +44,13 @@ modelOf ls = build (contractOf (trees 0 ls))
 
 -- the rules on n lines
 unfoldable pub ruled : (most n : ℕ) → Out Unit → Answer
-ruled most n o = told most (o .res) (marks (replicate n 0) (o .log))
+ruled most n o = answerFor most (o .res) (marks (replicate n 0) (o .log))
 
 -- a sheet that isn't read
 unfoldable pub refusedSheet : (number line : ℕ) → Answer
 refusedSheet n i = record { number = n; place = i; count = 0; length = 0; message = []; types = [] }
 
-unfoldable pub judge : (most : ℕ) → Loaded → Answer
+unfoldable pub judge : (most : ℕ) → LoadResult → Answer
 judge most (unread n i) = refusedSheet n i
 judge most (lines ls) = ruled most (length ls) (fresh (check (modelOf ls)))
 
@@ -63,9 +64,9 @@ longest = 16384
 
 -- ------------------------------------------------------------ the same with kept types
 
-unfoldable pub keptJudge : (most : ℕ) → Loaded → Answer
+unfoldable pub keptJudge : (most : ℕ) → LoadResult → Answer
 keptJudge most (unread n i) = refusedSheet n i
-keptJudge most (lines ls) = let o = kept (check (modelOf ls)) (replicate (length ls) 0) in told most (o .res) (o .table)
+keptJudge most (lines ls) = let o = kept (check (modelOf ls)) (replicate (length ls) 0) in answerFor most (o .res) (o .table)
 
 unfoldable pub keptVerdict : List ℕ → (types scratch message : ℕ) → Answer
 keptVerdict s types scratch message = keptJudge message (load s types scratch)
@@ -77,7 +78,7 @@ someOr [] p = p ∷ []
 someOr (q ∷ qs) p = q ∷ qs
 
 -- the places allowed where the rules give this number and place
-unfoldable pub places : Loaded → (number place : ℕ) → List ℕ
+unfoldable pub places : LoadResult → (number place : ℕ) → List ℕ
 places (unread n i) number place = place ∷ []
 places (lines ls) number place = elim (eqb number 20) [ true ↦ someOr (guardianPlaces (modelOf ls)) place | false ↦ place ∷ [] ]
 

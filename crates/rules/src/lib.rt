@@ -1,11 +1,16 @@
 // The rules of the type pass.
+pub mod codes;
+mod table;
+
+pub use table::marked;
 ghost use mathlib.Core.Path.{_≡_};
 ghost use mathlib.Core.Bool.{_&&_};
 ghost use lib.Dec.{leb};
+ghost use Rattle.rules.specs.Codes as codes;
 
 // Whether a mark of the type table tells a type.
 pub fn is_type(mark: u8) -> bool
-    ensures { λ r. ⌜ r ≡ (leb 1 mark && leb mark 10) ⌝ }
+    ensures { λ r. ⌜ r ≡ (leb codes.int mark && leb mark codes.unknown) ⌝ }
 {
-    (1 <= mark) & (mark <= 10)
+    (codes::INT <= mark) & (mark <= codes::UNKNOWN)
 }

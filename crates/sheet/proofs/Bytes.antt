@@ -10,9 +10,9 @@ use borrow.Author.Tests.{leb-true, ltb-true}
 use lib.Dec.{leb, ltb}
 use lib.ListN.{length, length-append}
 use Rattle.text.specs.Text.{bytes, either, same, ended}
-use Rattle.text.specs.Word.{place}
+use Rattle.text.specs.Word.{indexIn}
 use Rattle.text.proofs.Words.{same-is}
-use Rattle.grammar.specs.Grammar.{Sort, Contract, Item, Field, Param, Ty, Arg, Clause, Stmt, Expr, Rule, span, name, text, assignOp, unOp, binOp, count, flag, Row, rows, none, first, wordsOf, kindFor}
+use Rattle.grammar.specs.Grammar.{Sort, Contract, Item, Field, Param, Ty, Arg, Clause, Stmt, Expr, Rule, span, name, text, assignOp, unOp, binOp, count, flag, Record, recordsFor, noKind, firstKind, wordsOf, kindFor}
 use Rattle.sheet.specs.Line.{Line, readField, readFields, good, readPieces, readLine, fieldsOf}
 use Rattle.sheet.specs.Load.{lines, linesOf, scan}
 use Rattle.sheet.specs.Held.{Each, none as no-line, one}
@@ -31,12 +31,12 @@ bytes-most : (p : ℕ → Bool) (w l : List ℕ) (k : ℕ) → bytesUpto k (ende
 unfolding ended
 bytes-most p w l zero = omega arith
 bytes-most p w [] (suc k) = omega arith
-bytes-most p w (b ∷ bs) (suc k) = go (p b) (bytes-most p [] bs k) (bytes-most p (w ++ (b ∷ [])) bs (suc k))
+bytes-most p w (b ∷ bs) (suc k) = by-cases (p b) (bytes-most p [] bs k) (bytes-most p (w ++ (b ∷ [])) bs (suc k))
   where
-    go : (t : Bool) → bytesUpto k (ended p [] bs) ≤ 0 + length bs → bytesUpto (suc k) (ended p (w ++ (b ∷ [])) bs) ≤ length (w ++ (b ∷ [])) + length bs
+    by-cases : (t : Bool) → bytesUpto k (ended p [] bs) ≤ 0 + length bs → bytesUpto (suc k) (ended p (w ++ (b ∷ [])) bs) ≤ length (w ++ (b ∷ [])) + length bs
         → bytesUpto (suc k) (elim t [ true ↦ w ∷ ended p [] bs | false ↦ ended p (w ++ (b ∷ [])) bs ]) ≤ length w + suc (length bs)
-    go true h g = omega arith
-    go false h g = omega (arith, length-append w (b ∷ []))
+    by-cases true h g = omega arith
+    by-cases false h g = omega (arith, length-append w (b ∷ []))
 
 pub lines-most : (s : List ℕ) (k : ℕ) → bytesUpto k (linesOf s) ≤ length s
 lines-most s k = omega (arith, bytes-most (either 10 10) [] s k)
@@ -44,26 +44,26 @@ lines-most s k = omega (arith, bytes-most (either 10 10) [] s k)
 -- ------------------------------------------------------------ a line
 
 -- the word has two bytes or more
-abbrev long : List Row → Bool
+abbrev long : List Record → Bool
 long = every (λ r. leb 2 (length (bytes (r .word))))
 
-place-long : (w : List ℕ) (rs : List Row) → long rs ≡ true → place w (wordsOf rs) < length rs → 2 ≤ length w
-unfolding place
+place-long : (w : List ℕ) (rs : List Record) → long rs ≡ true → indexIn w (wordsOf rs) < length rs → 2 ≤ length w
+unfolding indexIn
 place-long w [] t h = absurd (omega arith)
 place-long w (r ∷ rs) t h =
     let both = and-eq-true-iff (leb 2 (length (bytes (r .word)))) (long rs) .0 t in
-    go (same w (bytes (r .word))) refl h (leb-true 2 (length (bytes (r .word))) (both .0)) (place-long w rs (both .1))
+    by-cases (same w (bytes (r .word))) refl h (leb-true 2 (length (bytes (r .word))) (both .0)) (place-long w rs (both .1))
   where
-    go : (b : Bool) → same w (bytes (r .word)) ≡ b → cond b 0 (1 + place w (wordsOf rs)) < suc (length rs) → 2 ≤ length (bytes (r .word))
-        → (place w (wordsOf rs) < length rs → 2 ≤ length w) → 2 ≤ length w
-    go true q g k f = rw (same-is w (bytes (r .word)) q) k
-    go false q g k f = f (omega arith)
+    by-cases : (b : Bool) → same w (bytes (r .word)) ≡ b → cond b 0 (1 + indexIn w (wordsOf rs)) < suc (length rs) → 2 ≤ length (bytes (r .word))
+        → (indexIn w (wordsOf rs) < length rs → 2 ≤ length w) → 2 ≤ length w
+    by-cases true q g k f = rw (same-is w (bytes (r .word)) q) k
+    by-cases false q g k f = f (omega arith)
 
-word-long : (σ : Sort) (w : List ℕ) → kindFor σ w ≢ none → 2 ≤ length w
+word-long : (σ : Sort) (w : List ℕ) → kindFor σ w ≢ noKind → 2 ≤ length w
 unfolding kindFor
-word-long σ w h = go (ltb (place w (wordsOf (rows σ))) (length (rows σ))) refl h
+word-long σ w h = by-cases (ltb (indexIn w (wordsOf (recordsFor σ))) (length (recordsFor σ))) refl h
   where
-    all-long : (σ : Sort) → long (rows σ) ≡ true
+    all-long : (σ : Sort) → long (recordsFor σ) ≡ true
     all-long Contract = refl
     all-long Item = refl
     all-long Field = refl
@@ -74,9 +74,9 @@ word-long σ w h = go (ltb (place w (wordsOf (rows σ))) (length (rows σ))) ref
     all-long Stmt = refl
     all-long Expr = refl
 
-    go : (b : Bool) → ltb (place w (wordsOf (rows σ))) (length (rows σ)) ≡ b → cond b (first σ + place w (wordsOf (rows σ))) none ≢ none → 2 ≤ length w
-    go true q g = place-long w (rows σ) (all-long σ) (ltb-true _ _ q)
-    go false q g = absurd (g refl)
+    by-cases : (b : Bool) → ltb (indexIn w (wordsOf (recordsFor σ))) (length (recordsFor σ)) ≡ b → cond b (firstKind σ + indexIn w (wordsOf (recordsFor σ))) noKind ≢ noKind → 2 ≤ length w
+    by-cases true q g = place-long w (recordsFor σ) (all-long σ) (ltb-true _ _ q)
+    by-cases false q g = absurd (g refl)
 
 fields-name : (rs : List Rule) (a : ℕ) (fs : List (List ℕ)) (l m : Line) → readFields rs a fs l ≡ some m → length (m .name) ≤ length (l .name) + bytesUpto (length fs) fs
 unfolding readFields readField
@@ -119,5 +119,5 @@ lines-take [] i at (d ∷ ds) xs e = absurd (let z : _≡_ {A = ℕ} 0 1 = cc in
 lines-take (l ∷ ls) i at [] xs e = absurd (let z : _≡_ {A = ℕ} 0 1 = cc in omega arith)
 lines-take (l ∷ ls) i at (d ∷ ds) xs e =
     let r = judged-lines _ _ i _ xs e in
-    let first : Takes (l ∷ ls) 0 (r .0) = omega (arith, line-least (d .1) at l (r .0) (r .2)) in
-    rw (r .4) (one first (each-next (λ k x h. omega (arith, h)) (lines-take ls _ _ _ _ (r .3))))
+    let firstKind : Takes (l ∷ ls) 0 (r .0) = omega (arith, line-least (d .1) at l (r .0) (r .2)) in
+    rw (r .4) (one firstKind (each-next (λ k x h. omega (arith, h)) (lines-take ls _ _ _ _ (r .3))))

@@ -8,8 +8,9 @@ use lib.Dec.{eqb}
 use lib.ListN.{getD}
 use borrow.Author.Tests.{eq-eqb, ne-eqb, lt-ltb, le-ltb}
 use Rattle.sheet.specs.Open.{settled, groupAt, nextSort}
-use Rattle.sheet.specs.Scratch.{entry, kindAt}
-use Rattle.grammar.specs.Table.{sortTable}
+use Rattle.sheet.specs.Scratch.{cell, kindAt, firstCount, secondCount, thirdCount, kindCell, kindRange}
+use Rattle.grammar.specs.Table.{mostGroups, sortTable}
+use Rattle.grammar.specs.Grammar.{noKind}
 
 -- the deepest of the depths, with the others
 settled-top : (ds : List ℕ) (n : ℕ) → 0 < n → settled ds n ≡ cond (eqb (getD ds (n - 1) 0) 0) (settled ds (n - 1)) n
@@ -31,20 +32,20 @@ module _ (ds : List ℕ) (n r : ℕ) (e : r ≡ settled ds n) where
   unfolding settled
   settle-over h = sym (e ∙ rw (let z : n ≡ 0 = omega arith in z))
 
--- The sort of the next part, by the entries of its line: k is the part's number.
-module _ (S : List ℕ) (i n e a b c r : ℕ) (p : e ≡ entry S i 0) (q : a ≡ entry S i 5) (s : b ≡ entry S i 6) (t : c ≡ entry S i 7) where
-  pub next-first : a + b + c - n < a → r ≡ getD sortTable (3 * (e % 64) + 0) 0 → r ≡ nextSort S i n
+-- The sort of the next part, by the cells of its line: k is the part's number.
+module _ (S : List ℕ) (i n e a b c r : ℕ) (p : e ≡ cell S i kindCell) (q : a ≡ firstCount S i) (s : b ≡ secondCount S i) (t : c ≡ thirdCount S i) where
+  pub next-first : a + b + c - n < a → r ≡ getD sortTable (mostGroups * (e % kindRange) + 0) 0 → r ≡ nextSort S i n
   unfolding nextSort groupAt kindAt
   next-first h g = rw (← p, ← q, ← s, ← t, lt-ltb (a + b + c - n) a h) g
 
-  pub next-second : a ≤ a + b + c - n → a + b + c - n < a + b → r ≡ getD sortTable (3 * (e % 64) + 1) 0 → r ≡ nextSort S i n
+  pub next-second : a ≤ a + b + c - n → a + b + c - n < a + b → r ≡ getD sortTable (mostGroups * (e % kindRange) + 1) 0 → r ≡ nextSort S i n
   unfolding nextSort groupAt kindAt
   next-second f h g = rw (← p, ← q, ← s, ← t, le-ltb (a + b + c - n) a f, lt-ltb (a + b + c - n) (a + b) h) g
 
-  pub next-third : a ≤ a + b + c - n → a + b ≤ a + b + c - n → r ≡ getD sortTable (3 * (e % 64) + 2) 0 → r ≡ nextSort S i n
+  pub next-third : a ≤ a + b + c - n → a + b ≤ a + b + c - n → r ≡ getD sortTable (mostGroups * (e % kindRange) + 2) 0 → r ≡ nextSort S i n
   unfolding nextSort groupAt kindAt
   next-third f h g = rw (← p, ← q, ← s, ← t, le-ltb (a + b + c - n) a f, le-ltb (a + b + c - n) (a + b) h) g
 
-pub kind-below : (S : List ℕ) (i e : ℕ) → e ≡ entry S i 0 → kindAt S i < 34 → e % 64 < 34
+pub kind-below : (S : List ℕ) (i e : ℕ) → e ≡ cell S i kindCell → kindAt S i < noKind → e % kindRange < noKind
 unfolding kindAt
 kind-below S i e p h = rw p h

@@ -4,11 +4,11 @@ use mathlib.Core.List.{List, [], _∷_}
 use Prim.Native.Nat.{ℕ, zero, suc}
 use lib.ListN.{length, length-append}
 use Rattle.grammar.specs.Grammar.{Sort}
-use Rattle.sheet.specs.Load.{times, sorts, due}
+use Rattle.sheet.specs.Load.{copies, sorts, due}
 use Rattle.sheet.specs.Tree.{total}
 
-pub length-times : {A : Type 0} (n : ℕ) (x : A) → length (times n x) ≡ n
-unfolding times
+pub length-times : {A : Type 0} (n : ℕ) (x : A) → length (copies n x) ≡ n
+unfolding copies
 length-times zero x = refl
 length-times (suc n) x = ap suc (length-times n x)
 

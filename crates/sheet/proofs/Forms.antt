@@ -7,12 +7,12 @@ use native.Mathlib.Omega.{arith}
 use lib.Dec.{ltb}
 use lib.ListN.{length}
 use borrow.Author.Tests.{ltb-true}
-use Rattle.text.specs.Word.{place}
-use Rattle.grammar.specs.Grammar.{Sort, rows, first, wordsOf, kindFor}
+use Rattle.text.specs.Word.{indexIn}
+use Rattle.grammar.specs.Grammar.{Sort, recordsFor, firstKind, wordsOf, kindFor}
 use Rattle.grammar.specs.Grammar as grammar
 use Rattle.sheet.specs.Line.{Line, readLine, fieldsOf}
 use Rattle.sheet.specs.Load.{lines, sorts, due, scan}
-use Rattle.sheet.specs.Tree.{Node, Nodes, more, takeNodes, dropNodes, grow, build}
+use Rattle.sheet.specs.Tree.{Node, Nodes, more, takeNodes, dropNodes, grow, trees}
 use Rattle.sheet.specs.Held.{Among, Formed, formed, FormedAll, none-due, one-due}
 use Rattle.sheet.proofs.Due.{length-sorts}
 use Rattle.sheet.proofs.Holds.{judged-lines}
@@ -36,16 +36,16 @@ formed-split [] h = (none-due, h)
 formed-split (s ∷ as') (one-due h r) = let q = formed-split as' r in (one-due h (q .0), q .1)
 
 -- a word that is allowed has a kind among those of the sort
-among : (s : Sort) (w : List ℕ) (k : ℕ) → k ≡ kindFor s w → k < grammar.none → Among s k
+among : (s : Sort) (w : List ℕ) (k : ℕ) → k ≡ kindFor s w → k < grammar.noKind → Among s k
 unfolding kindFor
-among s w k e h = go (ltb (place w (wordsOf (rows s))) (length (rows s))) refl e
+among s w k e h = by-cases (ltb (indexIn w (wordsOf (recordsFor s))) (length (recordsFor s))) refl e
   where
-    go : (b : Bool) → ltb (place w (wordsOf (rows s))) (length (rows s)) ≡ b → k ≡ cond b (first s + place w (wordsOf (rows s))) grammar.none → Among s k
-    go true q f = let m = ltb-true (place w (wordsOf (rows s))) (length (rows s)) q in (omega arith, omega arith)
-    go false q f = absurd (omega arith)
+    by-cases : (b : Bool) → ltb (indexIn w (wordsOf (recordsFor s))) (length (recordsFor s)) ≡ b → k ≡ cond b (firstKind s + indexIn w (wordsOf (recordsFor s))) grammar.noKind → Among s k
+    by-cases true q f = let m = ltb-true (indexIn w (wordsOf (recordsFor s))) (length (recordsFor s)) q in (omega arith, omega arith)
+    by-cases false q f = absurd (omega arith)
 
-pub scan-formed : (ls : List (List ℕ)) (i at j : ℕ) (ds : List (ℕ × Sort)) (xs : List Line) → scan i at ds ls ≡ lines xs → FormedAll (due-sorts ds) (build j xs)
-unfolding scan build grow readLine fieldsOf
+pub scan-formed : (ls : List (List ℕ)) (i at j : ℕ) (ds : List (ℕ × Sort)) (xs : List Line) → scan i at ds ls ≡ lines xs → FormedAll (due-sorts ds) (trees j xs)
+unfolding scan trees grow readLine fieldsOf
 scan-formed [] i at j [] xs e = let n : xs ≡ [] = cc in rw n none-due
 scan-formed [] i at j (d ∷ ds) xs e = absurd (let z : _≡_ {A = ℕ} 0 1 = cc in omega arith)
 scan-formed (l ∷ ls) i at j [] xs e = absurd (let z : _≡_ {A = ℕ} 0 1 = cc in omega arith)

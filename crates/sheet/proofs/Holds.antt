@@ -2,26 +2,26 @@
 use mathlib.Core.Path.{_≡_, refl, sym, ap, _∙_}
 use mathlib.Core.Bool.{Bool, true, false}
 use mathlib.Core.List.{List, [], _∷_}
-use Prim.Native.Nat.{ℕ, zero, suc, _+_, _*_, _/_, _<_, _≤_}
+use Prim.Native.Nat.{ℕ, zero, suc, _+_, _*_, _<_, _≤_}
 use native.Mathlib.Omega.{arith}
 use lib.ListN.{length, getD, length-append}
 use Rattle.grammar.specs.Grammar.{Sort}
 use Rattle.sheet.specs.Line.{Line, Read, good, bad}
-use Rattle.sheet.specs.Load.{Loaded, lines, refused, after, judged, scan}
-use Rattle.sheet.specs.Tree.{Node, node, Nodes, nil, more, total, takeNodes, dropNodes, grow, build, treeCount}
-use Rattle.sheet.specs.Step.{told}
+use Rattle.sheet.specs.Load.{LoadResult, lines, refused, after, judged, scan}
+use Rattle.sheet.specs.Tree.{Node, node, Nodes, nil, more, total, takeNodes, dropNodes, grow, trees, treeCount}
+use Rattle.sheet.specs.Step.{codeLine}
 use Rattle.grammar.specs.Table.{numbersIn}
-use Rattle.sheet.specs.Scratch.{entry, put, putLine, kindAt, opAt, endAt, partsAt, written, skip, closed}
+use Rattle.sheet.specs.Scratch.{cell, put, putLine, kindAt, opAt, endAt, partsAt, putLines, skip, closed, lineCount, cellsPerLine, kindCell, kindRange, startCell, nameCell, lengthCell, firstCell, secondCell, thirdCell, endCell}
 use Rattle.sheet.specs.Held.{Says, Held, held, HeldAll, no-tree, tree, Due, done, next, Sound, Each, none, one}
 use Rattle.sheet.proofs.Due.{length-sorts, length-due}
-use Rattle.sheet.proofs.Entries.{length-put, entry-same, entry-other, length-puts, puts-below, puts-last}
+use Rattle.sheet.proofs.Cells.{length-put, cell-same, cell-other, length-puts, puts-below, puts-last}
 
-after-lines : (l : Line) (r : Loaded) (xs : List Line) → after l r ≡ lines xs → (ys : List Line) × (r ≡ lines ys) × (xs ≡ l ∷ ys)
+after-lines : (l : Line) (r : LoadResult) (xs : List Line) → after l r ≡ lines xs → (ys : List Line) × (r ≡ lines ys) × (xs ≡ l ∷ ys)
 after-lines l (lines ys) xs e = (ys, refl, cc)
 after-lines l (refused n i) xs e = absurd (let z : _≡_ {A = ℕ} 0 1 = cc in omega arith)
 
 -- a turn of `scan` that gives lines has read one
-pub judged-lines : (b : Bool) (r : Read) (i : ℕ) (f : Line → Loaded) (xs : List Line) → judged i b r f ≡ lines xs
+pub judged-lines : (b : Bool) (r : Read) (i : ℕ) (f : Line → LoadResult) (xs : List Line) → judged i b r f ≡ lines xs
     → (x : Line) × (ys : List Line) × (r ≡ good x) × (f x ≡ lines ys) × (xs ≡ x ∷ ys)
 unfolding judged
 judged-lines true r i f xs e = absurd (let z : _≡_ {A = ℕ} 0 1 = cc in omega arith)
@@ -29,13 +29,13 @@ judged-lines false (bad n) i f xs e = absurd (let z : _≡_ {A = ℕ} 0 1 = cc i
 judged-lines false (good x) i f xs e = let r = after-lines x (f x) xs e in (x, r .0, refl, r .1, r .2)
 
 -- ... at a depth that is allowed
-pub judged-shallow : (i : ℕ) (b : Bool) (r : Read) (f : Line → Loaded) (xs : List Line) → judged i b r f ≡ lines xs → b ≡ false
+pub judged-shallow : (i : ℕ) (b : Bool) (r : Read) (f : Line → LoadResult) (xs : List Line) → judged i b r f ≡ lines xs → b ≡ false
 unfolding judged
 judged-shallow i true r f xs e = absurd (let z : _≡_ {A = ℕ} 0 1 = cc in omega arith)
 judged-shallow i false r f xs e = refl
 
 -- conversely, where a line is read at such a depth and lines follow, the turn gives lines
-pub judged-good : (j : ℕ) (b : Bool) (r : Read) (f : Line → Loaded) (y : Line) (ys : List Line) → b ≡ false → r ≡ good y → f y ≡ lines ys → judged j b r f ≡ lines (y ∷ ys)
+pub judged-good : (j : ℕ) (b : Bool) (r : Read) (f : Line → LoadResult) (y : Line) (ys : List Line) → b ≡ false → r ≡ good y → f y ≡ lines ys → judged j b r f ≡ lines (y ∷ ys)
 unfolding judged
 judged-good j b r f y ys e g h = rw (e, g, h)
 
@@ -47,8 +47,8 @@ scan-due (l ∷ ls) i at [] xs e = absurd (let z : _≡_ {A = ℕ} 0 1 = cc in o
 scan-due (l ∷ ls) i at (d ∷ ds) xs e =
     let r = judged-lines _ _ i _ xs e in rw (r .4) (next (rw (length-append, length-due, length-sorts) at (scan-due ls _ _ _ _ (r .3))))
 
--- what line i says stays where entry 2 alone may change
-says-kept : {S T : List ℕ} {i : ℕ} {l : Line} → ((m : ℕ) → (m < 8) × (m ≡ 2 → ⊥) → entry T i m ≡ entry S i m) → Says S i l → Says T i l
+-- what line i says stays where its end cell alone may change
+says-kept : {S T : List ℕ} {i : ℕ} {l : Line} → ((m : ℕ) → (m < cellsPerLine) × (m ≡ endCell → ⊥) → cell T i m ≡ cell S i m) → Says S i l → Says T i l
 unfolding kindAt opAt
 says-kept f s =
     record {
@@ -62,8 +62,8 @@ says-kept f s =
       third = f 7 (omega arith) ∙ s .third;
     }
 
-pub says-put : {S : List ℕ} {i : ℕ} {l : Line} (j v : ℕ) → Says S i l → Says (put S j 2 v) i l
-says-put {i} j v = says-kept (λ m h. entry-other _ j 2 v i m (omega arith) (h .0) (λ e f. h .1 (sym f)))
+pub says-put : {S : List ℕ} {i : ℕ} {l : Line} (j v : ℕ) → Says S i l → Says (put S j endCell v) i l
+says-put {i} j v = says-kept (λ m h. cell-other _ j endCell v i m (omega arith) (h .0) (λ e f. h .1 (sym f)))
 
 -- a tree ends behind its line
 mutual
@@ -74,15 +74,15 @@ mutual
   all-le no-tree = omega arith
   all-le (tree h r) = omega (arith, held-less h, all-le r)
 
-end-put : (S : List ℕ) (i j v : ℕ) → j < i → endAt (put S j 2 v) i ≡ endAt S i
-end-put S i j v g = entry-other S j 2 v i 2 (omega arith) (omega arith) (omega arith)
+end-put : (S : List ℕ) (i j v : ℕ) → j < i → endAt (put S j endCell v) i ≡ endAt S i
+end-put S i j v g = cell-other S j endCell v i endCell (omega arith) (omega arith) (omega arith)
 
--- where entry 2 of a line is put, the trees behind the line stay
+-- where the end cell of a line is put, the trees behind the line stay
 mutual
-  held-put : {S : List ℕ} {n i : ℕ} {t : Node} → Held S n i t → (j v : ℕ) → j < i → Held (put S j 2 v) n i t
+  held-put : {S : List ℕ} {n i : ℕ} {t : Node} → Held S n i t → (j v : ℕ) → j < i → Held (put S j endCell v) n i t
   held-put (held {i} h s r) j v g = held h (says-put j v s) (rw (← end-put _ i j v g) at (all-put r j v (omega arith)))
 
-  all-put : {S : List ℕ} {n i k : ℕ} {ns : Nodes} → HeldAll S n i k ns → (j v : ℕ) → j < i → HeldAll (put S j 2 v) n i k ns
+  all-put : {S : List ℕ} {n i k : ℕ} {ns : Nodes} → HeldAll S n i k ns → (j v : ℕ) → j < i → HeldAll (put S j endCell v) n i k ns
   all-put no-tree j v g = no-tree
   all-put (tree {i} h r) j v g = tree (held-put h j v g) (rw (← end-put _ i j v g) at (all-put r j v (omega (arith, held-less h))))
 
@@ -93,11 +93,11 @@ count-drop (suc k) nil h = absurd (omega arith)
 count-drop (suc k) (more t ns) h = omega (arith, count-drop k ns (omega arith))
 
 -- as many trees are built as are due
-pub due-count : {k : ℕ} {ls : List Line} → Due k ls → (i : ℕ) → treeCount (build i ls) ≡ k
-unfolding build grow
+pub due-count : {k : ℕ} {ls : List Line} → Due k ls → (i : ℕ) → treeCount (trees i ls) ≡ k
+unfolding trees grow
 due-count done i = refl
 due-count (next {k} {l} {ls} d) i =
-    let e = due-count d (suc i) in omega (arith, count-drop (total (l .parts)) (build (suc i) ls) (omega arith))
+    let e = due-count d (suc i) in omega (arith, count-drop (total (l .parts)) (trees (suc i) ls) (omega arith))
 
 -- the first k trees and those behind them
 split : (k : ℕ) {S : List ℕ} {n i j : ℕ} {ns : Nodes} → HeldAll S n i j ns → k ≤ treeCount ns
@@ -107,13 +107,13 @@ split zero h g = (no-tree, h)
 split (suc k) no-tree g = absurd (omega arith)
 split (suc k) (tree h r) g = let q = split k r (omega arith) in (tree h (q .0), q .1)
 
--- the entries of a line but entry 2
+-- the cells of a line but its end cell
 abbrev entries : Line → List (ℕ × ℕ)
 entries x =
-    let l = told x in (0, l .kind + 64 * l .op) ∷ (1, l .at) ∷ (3, l .start) ∷ (4, l .len) ∷ (5, l .first) ∷ (6, l .second) ∷ (7, l .third) ∷ []
+    let l = codeLine x in (kindCell, l .kind + kindRange * l .op) ∷ (startCell, l .at) ∷ (nameCell, l .start) ∷ (lengthCell, l .len) ∷ (firstCell, l .first) ∷ (secondCell, l .second) ∷ (thirdCell, l .third) ∷ []
 
 -- a line that is put is said
-pub line-says : (S : List ℕ) (i : ℕ) (l : Line) → i < length S / 8 → l .kind < 64 → Says (putLine S i (told l)) i l
+pub line-says : (S : List ℕ) (i : ℕ) (l : Line) → i < lineCount S → l .kind < 64 → Says (putLine S i (codeLine l)) i l
 unfolding putLine kindAt opAt
 line-says S i l g h =
     let e = puts-last (entries l) S i in
@@ -128,39 +128,39 @@ line-says S i l g h =
       third = e 7 g (omega arith);
     }
 
-pub line-below : (S : List ℕ) (i : ℕ) (l : Line) (j m : ℕ) → j < i → m < 8 → entry (putLine S i (told l)) j m ≡ entry S j m
+pub line-below : (S : List ℕ) (i : ℕ) (l : Line) (j m : ℕ) → j < i → m < cellsPerLine → cell (putLine S i (codeLine l)) j m ≡ cell S j m
 unfolding putLine
 line-below S i l j m g h = puts-below (entries l) S i j m g h
 
-pub length-line : (S : List ℕ) (i : ℕ) (l : Line) → length (putLine S i (told l)) ≡ length S
+pub length-line : (S : List ℕ) (i : ℕ) (l : Line) → length (putLine S i (codeLine l)) ≡ length S
 unfolding putLine
 length-line S i l = length-puts (entries l) S i
 
-written-below : (ls : List Line) (S : List ℕ) (i j m : ℕ) → j < i → m < 8 → entry (written i ls S) j m ≡ entry S j m
-unfolding written putLine
+written-below : (ls : List Line) (S : List ℕ) (i j m : ℕ) → j < i → m < cellsPerLine → cell (putLines i ls S) j m ≡ cell S j m
+unfolding putLines putLine
 written-below [] S i j m g h = refl
-written-below (l ∷ ls) S i j m g h = written-below ls (putLine S i (told l)) (suc i) j m (omega arith) h ∙ line-below S i l j m g h
+written-below (l ∷ ls) S i j m g h = written-below ls (putLine S i (codeLine l)) (suc i) j m (omega arith) h ∙ line-below S i l j m g h
 
-written-says : {ls : List Line} {i : ℕ} → Each (λ j. Sound) i ls → (S : List ℕ) → 8 * (i + length ls) ≤ length S
-    → Each (Says (written i ls S)) i ls
-unfolding written
+written-says : {ls : List Line} {i : ℕ} → Each (λ j. Sound) i ls → (S : List ℕ) → cellsPerLine * (i + length ls) ≤ length S
+    → Each (Says (putLines i ls S)) i ls
+unfolding putLines
 written-says none S g = none
 written-says (one {i} {l} {ls} s ss) S g =
     let e = length-line S i l in
     one (says-kept (λ m h. written-below ls _ (suc i) i m (omega arith) (h .0)) (line-says S i l (omega arith) (s .kind)))
-    (written-says ss (putLine S i (told l)) (omega arith))
+    (written-says ss (putLine S i (codeLine l)) (omega arith))
 
-pub length-written : (ls : List Line) (S : List ℕ) (i : ℕ) → length (written i ls S) ≡ length S
-unfolding written
+pub length-written : (ls : List Line) (S : List ℕ) (i : ℕ) → length (putLines i ls S) ≡ length S
+unfolding putLines
 length-written [] S i = refl
-length-written (l ∷ ls) S i = length-written ls (putLine S i (told l)) (suc i) ∙ length-line S i l
+length-written (l ∷ ls) S i = length-written ls (putLine S i (codeLine l)) (suc i) ∙ length-line S i l
 
 pub length-closed : (n : ℕ) (S : List ℕ) → length (closed n S) ≡ length S
 unfolding closed
 length-closed zero S = refl
-length-closed (suc i) S = length-closed i _ ∙ length-put S i 2 _
+length-closed (suc i) S = length-closed i _ ∙ length-put S i endCell _
 
--- the three groups of parts that entries 5 to 7 tell are all
+-- the three groups of parts that cells 5 to 7 tell are all
 parts-total : (gs : List (ℕ × Sort)) → length gs ≤ 3 → getD (numbersIn gs) 0 0 + getD (numbersIn gs) 1 0 + getD (numbersIn gs) 2 0 ≡ total gs
 unfolding total
 parts-total [] h = refl
@@ -175,9 +175,9 @@ stand : {S : List ℕ} {n i v j : ℕ} {l : Line} {ps ns : Nodes} → i < n → 
 stand h s e p r = tree (held h s (rw (← e) at p)) (rw (← e) at r)
 
 -- to put the line after its parts to a line makes it a tree, with the first of the trees behind it
-grown : {S : List ℕ} {n i : ℕ} {l : Line} {ns : Nodes} → i < n → 8 * n ≤ length S → Sound l → Says S i l
+grown : {S : List ℕ} {n i : ℕ} {l : Line} {ns : Nodes} → i < n → cellsPerLine * n ≤ length S → Sound l → Says S i l
     → HeldAll S n (suc i) n ns → total (l .parts) ≤ treeCount ns
-    → HeldAll (put S i 2 (skip S (partsAt S i) (suc i))) n i n (grow i l ns)
+    → HeldAll (put S i endCell (skip S (partsAt S i) (suc i))) n i n (grow i l ns)
 unfolding grow
 grown {S} {i} {l} h g o s r e =
     let p : partsAt S i ≡ total (l .parts) = rw (s .first, s .second, s .third) (parts-total (l .parts) (o .groups)) in
@@ -185,7 +185,7 @@ grown {S} {i} {l} h g o s r e =
     let q = split (total (l .parts)) r e in
     let le = all-le (q .0) in
     rw p
-    (stand h (says-put i v s) (entry-same S i 2 v (omega arith) (omega arith)) (all-put (q .0) i v (omega arith)) (all-put (q .1) i v (omega arith)))
+    (stand h (says-put i v s) (cell-same S i endCell v (omega arith) (omega arith)) (all-put (q .0) i v (omega arith)) (all-put (q .1) i v (omega arith)))
 
 -- what stands when the lines from line i on are closed, and those before are not yet
 record Closing (S : List ℕ) (n i : ℕ) (ls : List Line) : Type 0 where
@@ -193,34 +193,34 @@ record Closing (S : List ℕ) (n i : ℕ) (ls : List Line) : Type 0 where
   same : closed n S ≡ closed i now
   says : {j : ℕ} {l : Line} → Says S j l → Says now j l
   long : length now ≡ length S
-  trees : HeldAll now n i n (build i ls)
+  held : HeldAll now n i n (trees i ls)
 
 closing : {ls : List Line} {S : List ℕ} {n i k : ℕ} → Each (Says S) i ls → Each (λ j. Sound) i ls → Due k ls
-    → i + length ls ≡ n → 8 * n ≤ length S → Closing S n i ls
-unfolding build closed
+    → i + length ls ≡ n → cellsPerLine * n ≤ length S → Closing S n i ls
+unfolding trees closed
 closing {S} {n} {i} none none done e g =
-    let f : n ≡ i = omega arith in record { now = S; same = ap (λ m. closed m S) f; says = λ s. s; long = refl; trees = rw f no-tree }
+    let f : n ≡ i = omega arith in record { now = S; same = ap (λ m. closed m S) f; says = λ s. s; long = refl; held = rw f no-tree }
 closing {n} (one {i} {l} {ls} s ss) (one o os) (next d) e g =
     let r = closing ss os d (omega arith) g in
     let c = due-count d (suc i) in
     record {
-      now = put (r .now) i 2 (skip (r .now) (partsAt (r .now) i) (suc i));
+      now = put (r .now) i endCell (skip (r .now) (partsAt (r .now) i) (suc i));
       same = r .same;
       says = λ t. says-put i _ (r .says t);
-      long = length-put _ i 2 _ ∙ r .long;
-      trees = grown (omega arith) (omega (arith, r .long)) o (r .says s) (r .trees) (omega arith);
+      long = length-put _ i endCell _ ∙ r .long;
+      held = grown (omega arith) (omega (arith, r .long)) o (r .says s) (r .held) (omega arith);
     }
 
 -- the lines of a sheet, written and closed, hold its trees
-pub holds : {ls : List Line} {n k : ℕ} (S : List ℕ) → length S ≡ 8 * n → length ls ≡ n → Each (λ i. Sound) 0 ls → Due k ls
-    → HeldAll (closed n (written 0 ls S)) n 0 n (build 0 ls)
+pub holds : {ls : List Line} {n k : ℕ} (S : List ℕ) → length S ≡ cellsPerLine * n → length ls ≡ n → Each (λ i. Sound) 0 ls → Due k ls
+    → HeldAll (closed n (putLines 0 ls S)) n 0 n (trees 0 ls)
 unfolding closed
 holds {ls} {n} S g e o d =
-    let c = closing {n = n} (written-says o S (omega arith)) o d (omega arith) (omega (arith, length-written ls S 0)) in rw (c .same) (c .trees)
+    let c = closing {n = n} (written-says o S (omega arith)) o d (omega arith) (omega (arith, length-written ls S 0)) in rw (c .same) (c .held)
 
 -- ... and where one record is due, that is one tree
-pub one-tree : {ls : List Line} → Due 1 ls → (t : Node) × (build 0 ls ≡ more t nil)
-one-tree {ls} d = single (build 0 ls) (due-count d 0)
+pub one-tree : {ls : List Line} → Due 1 ls → (t : Node) × (trees 0 ls ≡ more t nil)
+one-tree {ls} d = single (trees 0 ls) (due-count d 0)
   where
     single : (ns : Nodes) → treeCount ns ≡ 1 → (t : Node) × (ns ≡ more t nil)
     single nil e = absurd (omega arith)

@@ -5,7 +5,7 @@ use Prim.Native.Nat.{ℕ, _+_}
 use lib.ListN.{length}
 use Rattle.grammar.specs.Grammar.{Sort, Contract}
 use Rattle.sheet.specs.Line.{Line, readLine}
-use Rattle.sheet.specs.Load.{Loaded, lines, sorts, due, scan, loadFrom, load}
+use Rattle.sheet.specs.Load.{LoadResult, lines, sorts, due, scan, loadFrom, load}
 use Rattle.sheet.specs.Same.{SameLine}
 use Rattle.sheet.specs.Joined.{Reads, Joins}
 use Rattle.sheet.proofs.Holds.{judged-lines, judged-good}
@@ -18,7 +18,7 @@ unfolding due
 due-append d [] us = refl
 due-append d (s ∷ ss) us = ap (λ l. (d, s) ∷ l) (due-append d ss us)
 
-of-line : (f : Line → Loaded) (c x : Line) (r ys : List Line) → f x ≡ lines ys → c ∷ r ≡ x ∷ ys → f c ≡ lines r
+of-line : (f : Line → LoadResult) (c x : Line) (r ys : List Line) → f x ≡ lines ys → c ∷ r ≡ x ∷ ys → f c ≡ lines r
 of-line f c x r ys h e = let p : c ≡ x = cc in let q : r ≡ ys = cc in rw (p, q) h
 
 -- what stands behind the first line of a sheet that is read

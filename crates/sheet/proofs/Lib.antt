@@ -5,7 +5,7 @@ pub mod Turns
 pub mod Told
 pub mod ReadAs
 pub mod Due
-pub mod Entries
+pub mod Cells
 pub mod Holds
 pub mod Saying
 pub mod Counts

@@ -9,12 +9,12 @@ use lib.Seq.{take-at}
 use borrow.Author.Tests.{lt-ltb}
 use Rattle.text.specs.Text.{either, upto}
 use Rattle.text.proofs.Pieces.{piece-first}
-use Rattle.sheet.specs.Field.{fieldAt}
+use Rattle.sheet.specs.Field.{pieceAt}
 use Rattle.grammar.specs.Grammar.{Sort}
-use Rattle.sheet.specs.Line.{Line, readLine, fieldsOf}
-use Rattle.sheet.specs.Load.{Loaded as Read, lines, refused, linesOf, scan, unended, early, load}
-use Rattle.sheet.specs.Tree.{Node, node, Nodes, nil, more, takeNodes, dropNodes, grow, build}
-use Rattle.sheet.specs.Scratch.{nameAt, written, closed}
+use Rattle.sheet.specs.Line.{Line, readLine, fieldsOf, mostBytes, mostLines}
+use Rattle.sheet.specs.Load.{LoadResult as Read, lines, refused, linesOf, scan, unended, early, load}
+use Rattle.sheet.specs.Tree.{Node, node, Nodes, nil, more, takeNodes, dropNodes, grow, trees}
+use Rattle.sheet.specs.Scratch.{nameAt, putLines, closed, cellsPerLine}
 use Rattle.sheet.specs.Say.{numberAt, spanAt, nspanAt}
 use Rattle.sheet.specs.Held.{Says, Held, held, HeldAll, no-tree, tree, Sound, Each, none, one, Every, every, EveryOf, no-more, and-more, Spells, Holding}
 use Rattle.sheet.specs.Scan.{Whole, linesFrom, scanAll}
@@ -26,7 +26,7 @@ use Rattle.sheet.proofs.Trees.{tree-of}
 use Rattle.sheet.proofs.Scanning.{line-part}
 use Rattle.sheet.proofs.Loading.{scan-length, passed, loads, loaded-whole}
 
--- a line that the entries can say, and that they then spell with the sheet's bytes
+-- a line that cells can say, and that they then spell with the sheet's bytes
 record Sayable (s : List ℕ) (l : Line) : Type 0 where
   sound : Sound l
   spells : {S : List ℕ} {i : ℕ} → Says S i l → Spells s S i l
@@ -38,7 +38,7 @@ module _ (σ : Sort) (s y q : List ℕ) (at : ℕ) (x : Line) (d : drop at s ≡
   unfolding numberAt
   number a v t = rw (piece-within s y q at a (t .0) d (t .1), t .2)
 
-  ends : at + length (fieldAt y 0) < length s
+  ends : at + length (pieceAt y 0) < length s
   ends = omega (arith, r .word .1, simp (length-drop, length-append) at (ap length d))
 
   spelled : {S : List ℕ} {i : ℕ} → Says S i x → Spells s S i x
@@ -46,7 +46,7 @@ module _ (σ : Sort) (s y q : List ℕ) (at : ℕ) (x : Line) (d : drop at s ≡
   spelled h =
       record {
         name = rw (h .start, h .len) (stands-within s y q at (x .start) (x .name) d (r .named));
-        span = λ rs e. rw (h .at, r .at, piece-within s y q at at (fieldAt y 0) d (r .word), lt-ltb _ _ ends) (number _ _ (r .spanned rs e));
+        span = λ rs e. rw (h .kind, e, h .at, r .at, piece-within s y q at at (pieceAt y 0) d (r .word), lt-ltb _ _ ends) (number _ _ (r .spanned rs e));
         nspan = λ e. rw (h .start, h .len) (number _ _ (r .nspanned e));
         bare = r .bare;
       }
@@ -54,7 +54,7 @@ module _ (σ : Sort) (s y q : List ℕ) (at : ℕ) (x : Line) (d : drop at s ≡
   line-read : at + length y ≤ 65535 → Sayable s x
   line-read h = record { sound = record { small = sound-small σ at y x h r; kind = omega (arith, r .known); groups = r .groups }; spells = spelled }
 
-module _ (s : List ℕ) (u : unended s ≡ false) (b : length s ≤ 16384) where
+module _ (s : List ℕ) (u : unended s ≡ false) (b : length s ≤ mostBytes) where
   -- the line l at `at`, and what comes after it
   line-split : (at : ℕ) (l : List ℕ) → l ≡ upto (either 10 10) (drop at s) → at + length l < length s → (q : List ℕ) × (drop at s ≡ (l ++ (10 ∷ [])) ++ q)
   line-split at l e h =
@@ -94,8 +94,8 @@ every-drop zero h = h
 every-drop (suc k) no-more = no-more
 every-drop (suc k) (and-more h r) = every-drop k r
 
-pub built : {P : ℕ → Line → Type 0} {i : ℕ} {ls : List Line} → Each P i ls → EveryOf P (build i ls)
-unfolding build grow
+pub built : {P : ℕ → Line → Type 0} {i : ℕ} {ls : List Line} → Each P i ls → EveryOf P (trees i ls)
+unfolding trees grow
 built none = no-more
 built (one h r) = let b = built r in and-more (every h (every-take _ b)) (every-drop _ b)
 
@@ -118,7 +118,7 @@ every-line (every h r) = (h, r)
 -- A sheet that is loaded: its lines are ls.
 module _ (s : List ℕ) (types : ℕ) (S : List ℕ) (ls : List Line) (e : load s types (length S) ≡ lines ls) where
   abbrev T : List ℕ
-  T = take (8 * length ls) S
+  T = take (cellsPerLine * length ls) S
 
   pub whole : (early s types (length S) ≡ 0) × (scanAll s ≡ lines ls)
   whole = loaded-whole s types (length S) ls e
@@ -129,24 +129,24 @@ module _ (s : List ℕ) (types : ℕ) (S : List ℕ) (ls : List Line) (e : load 
   passes : Whole s T
   passes = passed s types S _ (length ls) refl (whole .0) count
 
-  size : length T ≡ 8 * length ls
+  size : length T ≡ cellsPerLine * length ls
   size = passes .entries ∙ rw count
 
-  left : take (8 * length ls) (scratchAfter s types S) ≡ closed (length ls) (written 0 ls T)
+  left : take (cellsPerLine * length ls) (scratchAfter s types S) ≡ closed (length ls) (putLines 0 ls T)
   unfolding laid
   left =
       rw (← loads s types S _ (length ls) refl (whole .0) count _ _ refl refl .1, whole .1)
       (take-at _ _ _ (length-closed (length ls) _ ∙ length-written ls T 0 ∙ size))
 
-  -- eight entries a line, of no more than 1,024 lines
-  pub left-size : length (take (8 * length ls) (scratchAfter s types S)) ≡ 8 * length ls
+  -- eight cells a line, of no more than 1,024 lines
+  pub left-size : length (take (cellsPerLine * length ls) (scratchAfter s types S)) ≡ cellsPerLine * length ls
   left-size = rw left (length-closed (length ls) _ ∙ length-written ls T 0 ∙ size)
 
-  pub left-few : length ls ≤ 1024
+  pub left-few : length ls ≤ mostLines
   left-few = rw count (passes .few)
 
   -- it holds its tree
-  pub loaded : (t : Node) × (build 0 ls ≡ more t nil) × Holding s (take (8 * length ls) (scratchAfter s types S)) (length ls) t
+  pub loaded : (t : Node) × (trees 0 ls ≡ more t nil) × Holding s (take (cellsPerLine * length ls) (scratchAfter s types S)) (length ls) t
   loaded =
       let q = tree-of s types (length S) ls e in
       let r = lines-read s (passes .ended) (passes .small) (linesOf s) 1 0 0 _ ls refl (whole .1) in

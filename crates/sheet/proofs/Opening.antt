@@ -10,28 +10,28 @@ use lib.Dec.{eqb, ltb}
 use lib.ListN.{length, getD, set, drop-of-length-le, length-set, length-append}
 use lib.Seq.{drop-cons, getD-set-same, getD-set-other}
 use borrow.Author.Tests.{lt-leb, eqb-true, eqb-false, ltb-true, ltb-false}
-use Rattle.grammar.specs.Grammar.{Expr}
-use Rattle.sheet.specs.Load.{times, due}
+use Rattle.grammar.specs.Grammar.{Expr, noKind}
+use Rattle.sheet.specs.Load.{copies, due}
 use Rattle.grammar.specs.Table.{sortOf}
-use Rattle.sheet.specs.Scratch.{entry, kindAt, partsAt}
+use Rattle.sheet.specs.Scratch.{cell, kindAt, partsAt, firstCount, secondCount, thirdCount, cellsPerLine}
 use Rattle.sheet.specs.Open.{groupSort, groupAt, nextSort, sortsAt, leftAt, opened, settled, spent, Owned, Open}
 use Rattle.sheet.specs.Scan.{sortDue}
 use Rattle.sheet.proofs.Due.{length-times}
 
 -- an element of a list of one element, many times, and one past it
-getD-times : {A : Type 0} (n k : ℕ) (x d : A) (ys : List A) → k < n → getD (times n x ++ ys) k d ≡ x
-unfolding times
+getD-times : {A : Type 0} (n k : ℕ) (x d : A) (ys : List A) → k < n → getD (copies n x ++ ys) k d ≡ x
+unfolding copies
 getD-times zero k x d ys h = absurd (omega arith)
 getD-times (suc n) zero x d ys h = refl
 getD-times (suc n) (suc k) x d ys h = getD-times n k x d ys (omega arith)
 
-getD-past : {A : Type 0} (n k : ℕ) (x d : A) (ys : List A) → n ≤ k → getD (times n x ++ ys) k d ≡ getD ys (k - n) d
-unfolding times
+getD-past : {A : Type 0} (n k : ℕ) (x d : A) (ys : List A) → n ≤ k → getD (copies n x ++ ys) k d ≡ getD ys (k - n) d
+unfolding copies
 getD-past zero k x d ys h = ap (λ m. getD ys m d) (let e : k ≡ k - 0 = omega arith in e)
 getD-past (suc n) zero x d ys h = absurd (omega arith)
 getD-past (suc n) (suc k) x d ys h = getD-past n k x d ys (omega arith) ∙ ap (λ m. getD ys m d) (let e : k - n ≡ suc k - suc n = omega arith in e)
 
-getD-all : {A : Type 0} (n k : ℕ) (x d : A) → k < n → getD (times n x) k d ≡ x
+getD-all : {A : Type 0} (n k : ℕ) (x d : A) → k < n → getD (copies n x) k d ≡ x
 getD-all n k x d h = rw append-nil at (getD-times n k x d [] h)
 
 pub sorts-length : (S : List ℕ) (i : ℕ) → length (sortsAt S i) ≡ partsAt S i
@@ -39,20 +39,20 @@ unfolding sortsAt
 sorts-length S i = simp (length-append, length-times) (omega arith)
 
 -- part k of a line is of the sort of its group
-sort-of : (S : List ℕ) (i k : ℕ) (b c : Bool) → k < partsAt S i → ltb k (entry S i 5) ≡ b → ltb k (entry S i 5 + entry S i 6) ≡ c
+sort-of : (S : List ℕ) (i k : ℕ) (b c : Bool) → k < partsAt S i → ltb k (firstCount S i) ≡ b → ltb k (firstCount S i + secondCount S i) ≡ c
     → getD (sortsAt S i) k Expr ≡ sortOf (groupSort S i (cond b 0 (cond c 1 2)))
 unfolding sortsAt
-sort-of S i k true c h p q = getD-times (entry S i 5) k _ _ _ (ltb-true _ _ p)
-sort-of S i k false c h p q = getD-past (entry S i 5) k _ _ _ (ltb-false _ _ p) ∙ later c q
+sort-of S i k true c h p q = getD-times (firstCount S i) k _ _ _ (ltb-true _ _ p)
+sort-of S i k false c h p q = getD-past (firstCount S i) k _ _ _ (ltb-false _ _ p) ∙ later c q
   where
-    later : (c : Bool) → ltb k (entry S i 5 + entry S i 6) ≡ c
-        → getD (times (entry S i 6) (sortOf (groupSort S i 1)) ++ times (entry S i 7) (sortOf (groupSort S i 2))) (k - entry S i 5) Expr
+    later : (c : Bool) → ltb k (firstCount S i + secondCount S i) ≡ c
+        → getD (copies (secondCount S i) (sortOf (groupSort S i 1)) ++ copies (thirdCount S i) (sortOf (groupSort S i 2))) (k - firstCount S i) Expr
         ≡ sortOf (groupSort S i (cond c 1 2))
     later true q =
-        let e : k < entry S i 5 + entry S i 6 = ltb-true _ _ q in
-        let f : entry S i 5 ≤ k = ltb-false _ _ p in getD-times _ _ _ _ _ (omega arith)
+        let e : k < firstCount S i + secondCount S i = ltb-true _ _ q in
+        let f : firstCount S i ≤ k = ltb-false _ _ p in getD-times _ _ _ _ _ (omega arith)
     later false q =
-        let e : entry S i 5 + entry S i 6 ≤ k = ltb-false _ _ q in getD-past _ _ _ _ _ (omega arith) ∙ getD-all _ _ _ _ (omega arith)
+        let e : firstCount S i + secondCount S i ≤ k = ltb-false _ _ q in getD-past _ _ _ _ _ (omega arith) ∙ getD-all _ _ _ _ (omega arith)
 
 next-sort-is : (S : List ℕ) (i n : ℕ) → n ≤ partsAt S i → 0 < n → getD (sortsAt S i) (partsAt S i - n) Expr ≡ sortOf (nextSort S i n)
 unfolding nextSort groupAt
@@ -60,7 +60,7 @@ next-sort-is S i n h g = sort-of S i (partsAt S i - n) _ _ (omega arith) refl re
 
 -- Where nothing is due at a depth, nothing is left there.
 left-none : (S ds os : List ℕ) (d : ℕ) → getD ds d 0 ≡ 0 → leftAt S ds os d ≡ []
-unfolding leftAt times
+unfolding leftAt copies
 left-none S ds os zero h = rw h
 left-none S ds os (suc d) h =
     let i = getD os (suc d) 0 in
@@ -77,32 +77,32 @@ opened-same S T ds es os ps (suc n) f = rw (f n (omega arith), opened-same S T d
 pub opened-settled : (S ds os : List ℕ) (n : ℕ) → opened S ds os (settled ds n) ≡ opened S ds os n
 unfolding settled opened due
 opened-settled S ds os zero = refl
-opened-settled S ds os (suc n) = go (eqb (getD ds n 0) 0) refl (opened-settled S ds os n)
+opened-settled S ds os (suc n) = by-cases (eqb (getD ds n 0) 0) refl (opened-settled S ds os n)
   where
-    go : (b : Bool) → eqb (getD ds n 0) 0 ≡ b → opened S ds os (settled ds n) ≡ opened S ds os n
+    by-cases : (b : Bool) → eqb (getD ds n 0) 0 ≡ b → opened S ds os (settled ds n) ≡ opened S ds os n
         → opened S ds os (cond b (settled ds n) (suc n)) ≡ due n (leftAt S ds os n) ++ opened S ds os n
-    go true e h = h ∙ rw (left-none S ds os n (eqb-true _ _ e))
-    go false e h = refl
+    by-cases true e h = h ∙ rw (left-none S ds os n (eqb-true _ _ e))
+    by-cases false e h = refl
 
 pub settled-most : (ds : List ℕ) (n : ℕ) → settled ds n ≤ n
 unfolding settled
 settled-most ds zero = omega arith
-settled-most ds (suc n) = go (eqb (getD ds n 0) 0) (settled-most ds n)
+settled-most ds (suc n) = by-cases (eqb (getD ds n 0) 0) (settled-most ds n)
   where
-    go : (b : Bool) → settled ds n ≤ n → cond b (settled ds n) (suc n) ≤ suc n
-    go true h = omega arith
-    go false h = omega arith
+    by-cases : (b : Bool) → settled ds n ≤ n → cond b (settled ds n) (suc n) ≤ suc n
+    by-cases true h = omega arith
+    by-cases false h = omega arith
 
 -- something is due at the deepest of the depths that are left
 settled-due : (ds : List ℕ) (n : ℕ) → 0 < settled ds n → 0 < getD ds (settled ds n - 1) 0
 unfolding settled
 settled-due ds zero h = absurd (omega arith)
-settled-due ds (suc n) h = go (eqb (getD ds n 0) 0) refl (settled-due ds n) h
+settled-due ds (suc n) h = by-cases (eqb (getD ds n 0) 0) refl (settled-due ds n) h
   where
-    go : (b : Bool) → eqb (getD ds n 0) 0 ≡ b → (0 < settled ds n → 0 < getD ds (settled ds n - 1) 0) → 0 < cond b (settled ds n) (suc n)
+    by-cases : (b : Bool) → eqb (getD ds n 0) 0 ≡ b → (0 < settled ds n → 0 < getD ds (settled ds n - 1) 0) → 0 < cond b (settled ds n) (suc n)
         → 0 < getD ds (cond b (settled ds n) (suc n) - 1) 0
-    go true e f g = f g
-    go false e f g = rw (let q : suc n - 1 ≡ n = omega arith in q) (omega (arith, eqb-false (getD ds n 0) 0 e))
+    by-cases true e f g = f g
+    by-cases false e f g = rw (let q : suc n - 1 ≡ n = omega arith in q) (omega (arith, eqb-false (getD ds n 0) 0 e))
 
 -- Of a depth above the deepest nothing is spent.
 spent-below : (ds : List ℕ) (n d : ℕ) → d < n - 1 → getD (spent ds n) d 0 ≡ getD ds d 0
@@ -112,15 +112,15 @@ spent-top : (ds : List ℕ) (n : ℕ) → n - 1 < length ds → getD (spent ds n
 spent-top ds n h = getD-set-same ds (n - 1) (getD ds (n - 1) 0 - 1) 0 h
 
 spent-most : (ds : List ℕ) (n d : ℕ) → d < n → n ≤ length ds → getD (spent ds n) d 0 ≤ getD ds d 0
-spent-most ds n d h g = go (eqb d (n - 1)) refl
+spent-most ds n d h g = by-cases (eqb d (n - 1)) refl
   where
-    go : (b : Bool) → eqb d (n - 1) ≡ b → getD (spent ds n) d 0 ≤ getD ds d 0
-    go true e = rw (eqb-true d (n - 1) e, spent-top ds n (omega arith)) (omega arith)
-    go false e = rw (spent-below ds n d (let z = eqb-false d (n - 1) e in omega arith)) (omega arith)
+    by-cases : (b : Bool) → eqb d (n - 1) ≡ b → getD (spent ds n) d 0 ≤ getD ds d 0
+    by-cases true e = rw (eqb-true d (n - 1) e, spent-top ds n (omega arith)) (omega arith)
+    by-cases false e = rw (spent-below ds n d (let z = eqb-false d (n - 1) e in omega arith)) (omega arith)
 
--- what is left goes by the count, and the entries of the line that it belongs to
+-- what is left goes by the count, and the cells of the line that it belongs to
 left-same : (S T ds es os ps : List ℕ) (d : ℕ) → getD ds d 0 ≡ getD es d 0 → (0 < d → getD os d 0 ≡ getD ps d 0)
-    → (0 < d → (k : ℕ) → k < 8 → entry S (getD os d 0) k ≡ entry T (getD os d 0) k) → leftAt S ds os d ≡ leftAt T es ps d
+    → (0 < d → (k : ℕ) → k < cellsPerLine → cell S (getD os d 0) k ≡ cell T (getD os d 0) k) → leftAt S ds os d ≡ leftAt T es ps d
 unfolding leftAt sortsAt kindAt
 left-same S T ds es os ps zero p q r = rw p
 left-same S T ds es os ps (suc d) p q r =
@@ -129,7 +129,7 @@ left-same S T ds es os ps (suc d) p q r =
 
 -- the first that is left at the deepest depth, and the others
 left-head : (S ds os : List ℕ) (i n : ℕ) → Open S ds os i n → 0 < n → leftAt S ds os (n - 1) ≡ sortOf (sortDue S ds os n) ∷ leftAt S (spent ds n) os (n - 1)
-unfolding leftAt sortDue times
+unfolding leftAt sortDue copies
 left-head S ds os i zero o h = absurd (omega arith)
 left-head S ds os i (suc zero) o h =
     let t = o .top h in
@@ -165,8 +165,8 @@ unfolding leftAt
 left-new T ds os zero i parts h g f e = absurd (omega arith)
 left-new T ds os (suc n) i parts h g f e = rw (getD-set-same os (suc n) i 0 f, getD-set-same ds (suc n) parts 0 g, e, sub-self)
 
--- Line i is read at the deepest of n depths, and written: T has its entries, and those of the lines before it.
-module _ (S T ds os : List ℕ) (i n : ℕ) (o : Open S ds os i n) (some : 0 < n) (same : (j k : ℕ) → j < i → k < 8 → entry S j k ≡ entry T j k) where
+-- Line i is read at the deepest of n depths, and written: T has its cells, and those of the lines before it.
+module _ (S T ds os : List ℕ) (i n : ℕ) (o : Open S ds os i n) (some : 0 < n) (same : (j k : ℕ) → j < i → k < cellsPerLine → cell S j k ≡ cell T j k) where
   -- what was due before, without that line
   before : (es ps : List ℕ) → ((d : ℕ) → d < n → getD es d 0 ≡ getD (spent ds n) d 0) → ((d : ℕ) → d < n → getD ps d 0 ≡ getD os d 0)
       → opened T es ps n ≡ opened S (spent ds n) os n
@@ -192,7 +192,7 @@ module _ (S T ds os : List ℕ) (i n : ℕ) (o : Open S ds os i n) (some : 0 < n
   unfolding kindAt
   owned-after es ps d z h f g =
       let w = o .owned d z h in
-      let e : (k : ℕ) → k < 8 → entry S (getD os d 0) k ≡ entry T (getD os d 0) k = λ k l. same (getD os d 0) k (w .above) l in
+      let e : (k : ℕ) → k < cellsPerLine → cell S (getD os d 0) k ≡ cell T (getD os d 0) k = λ k l. same (getD os d 0) k (w .above) l in
       let e5 = e 5 (omega arith) in
       let e6 = e 6 (omega arith) in
       let e7 = e 7 (omega arith) in
@@ -215,7 +215,7 @@ module _ (S T ds os : List ℕ) (i n : ℕ) (o : Open S ds os i n) (some : 0 < n
         top = settled-due (spent ds n) n;
       }
 
-  pub open-some : (parts : ℕ) → 0 < parts → n < 65 → kindAt T i < 34 → parts ≡ partsAt T i → parts < 65536 → Open T (set (spent ds n) n parts) (set os n i) (suc i) (n + 1)
+  pub open-some : (parts : ℕ) → 0 < parts → n < 65 → kindAt T i < noKind → parts ≡ partsAt T i → parts < 65536 → Open T (set (spent ds n) n parts) (set os n i) (suc i) (n + 1)
   open-some parts p h k e r =
       record {
         counts = length-set (spent ds n) n parts ∙ length-set ds (n - 1) _ ∙ o .counts;

@@ -12,19 +12,18 @@ use lib.Dec.{eqb}
 use lib.ListN.{length, getD, take, drop, length-append, length-drop}
 use lib.Seq.{drop-drop, drop-append-le}
 use Rattle.text.specs.Text.{either, upto, ended}
-use Rattle.text.specs.Word.{place}
+use Rattle.text.specs.Word.{indexIn}
 use Rattle.text.specs.Field.{numberOf}
 use Rattle.text.specs.declared.field.Number.{Number}
 use Rattle.text.specs.declared.field.Number.the-variants.{Is, Bad}
 use Rattle.text.proofs.Fields.{number-most}
 use Rattle.text.proofs.Pieces.{upto-front, piece-first}
-use Rattle.sheet.specs.Field.{fieldAt}
-use Rattle.grammar.specs.Grammar.{Sort, Rule, span, name, text, assignOp, unOp, binOp, count, flag, assignOps, unOps, binOps, none, rowOf, kindFor}
+use Rattle.sheet.specs.Field.{pieceAt}
+use Rattle.grammar.specs.Grammar.{Sort, Rule, span, name, text, assignOp, unOp, binOp, count, flag, assignOps, unOps, binOps, noKind, recordOf, kindFor}
 use Rattle.sheet.specs.Held.{spanless, Flagged, Parted}
-use Rattle.sheet.specs.Line.{Line, begun, when, onNumber, readField, andThen, readFields, good, bad, orTen, readAs, readPieces}
-use Rattle.sheet.specs.Say.{pieceAt}
+use Rattle.sheet.specs.Line.{Line, begun, when, onNumber, readField, andThen, readFields, good, bad, orTen, readAs, readPieces, mostCount, mostLines, mostSpan}
 use Rattle.sheet.specs.Scratch.{Small}
-use Rattle.sheet.specs.Step.{told}
+use Rattle.sheet.specs.Step.{codeLine}
 use Rattle.grammar.specs.Table.{toldSorts, sortsIn, groupSorts, numbersIn}
 use Rattle.sheet.specs.Tree.{total}
 use Rattle.grammar.proofs.KindLaws.{kind-known}
@@ -34,12 +33,12 @@ use Rattle.grammar.proofs.TableLaws.{at-most, few-parts}
 upto-append : (p : ℕ → Bool) (l q : List ℕ) → length (upto p l) < length l → upto p (l ++ q) ≡ upto p l
 unfolding upto
 upto-append p [] q h = absurd (omega arith)
-upto-append p (b ∷ bs) q h = go (p b) (upto-append p bs q) h
+upto-append p (b ∷ bs) q h = by-cases (p b) (upto-append p bs q) h
   where
-    go : (t : Bool) → (length (upto p bs) < length bs → upto p (bs ++ q) ≡ upto p bs) → length (cond t [] (b ∷ upto p bs)) < suc (length bs)
+    by-cases : (t : Bool) → (length (upto p bs) < length bs → upto p (bs ++ q) ≡ upto p bs) → length (cond t [] (b ∷ upto p bs)) < suc (length bs)
         → cond t [] (b ∷ upto p (bs ++ q)) ≡ cond t [] (b ∷ upto p bs)
-    go true f h = refl
-    go false f h = ap (λ l. b ∷ l) (f (omega arith))
+    by-cases true f h = refl
+    by-cases false f h = ap (λ l. b ∷ l) (f (omega arith))
 
 -- the bytes from c on of a line y that starts at `at` in the sheet s, with q after it
 drop-within : (s y q : List ℕ) (at c : ℕ) → drop at s ≡ y ++ q → c ≤ length y → drop (at + c) s ≡ drop c y ++ q
@@ -47,7 +46,7 @@ drop-within s y q at c d h = sym (drop-drop c at s) ∙ rw d (drop-append-le c y
 
 -- the piece f of the line y starts at a, where the line starts at `at`
 abbrev pub Piece : ℕ → List ℕ → ℕ → List ℕ → Type 0
-Piece at y a f = (f ≡ fieldAt y (a - at)) × (a + length f < at + length y) × (at ≤ a)
+Piece at y a f = (f ≡ pieceAt y (a - at)) × (a + length f < at + length y) × (at ≤ a)
 
 -- ... and is that piece of the sheet
 pub piece-within : (s y q : List ℕ) (at a : ℕ) (f : List ℕ) → drop at s ≡ y ++ q → Piece at y a f → pieceAt s a ≡ f
@@ -73,7 +72,7 @@ Stand at y a (f ∷ fs) = Piece at y a f × Stand at y (a + length f + 1) fs
 
 -- no number of the parts is above 1024
 abbrev pub Counted : List (ℕ × Sort) → Type 0
-Counted ps = (i : ℕ) → getD (numbersIn ps) i 0 ≤ 1024
+Counted ps = (i : ℕ) → getD (numbersIn ps) i 0 ≤ mostCount
 
 -- parts, with those of the sorts `rest` to come, of the sorts ss
 abbrev Parts : List Sort → List Sort → List (ℕ × Sort) → Type 0
@@ -103,13 +102,13 @@ sorts-more : (ps : List (ℕ × Sort)) (n : ℕ) (s : Sort) (ss : List Sort) →
 sorts-more [] n s ss = refl
 sorts-more (p ∷ ps) n s ss = ap (λ l. p .1 ∷ l) (sorts-more ps n s ss)
 
-counted-more : (ps : List (ℕ × Sort)) (n : ℕ) (s : Sort) → n ≤ 1024 → Counted ps → Counted (ps ++ ((n, s) ∷ []))
+counted-more : (ps : List (ℕ × Sort)) (n : ℕ) (s : Sort) → n ≤ mostCount → Counted ps → Counted (ps ++ ((n, s) ∷ []))
 counted-more [] n s h c zero = h
 counted-more [] n s h c (suc i) = c 0
 counted-more (p ∷ ps) n s h c zero = c 0
 counted-more (p ∷ ps) n s h c (suc i) = counted-more ps n s h (λ i. c (suc i)) i
 
-more-parts : (ss rest : List Sort) (n : ℕ) (s : Sort) (ps : List (ℕ × Sort)) → n ≤ 1024 → Parts ss (s ∷ rest) ps → Parts ss rest (ps ++ ((n, s) ∷ []))
+more-parts : (ss rest : List Sort) (n : ℕ) (s : Sort) (ps : List (ℕ × Sort)) → n ≤ mostCount → Parts ss (s ∷ rest) ps → Parts ss rest (ps ++ ((n, s) ∷ []))
 more-parts ss rest n s ps h p = (sorts-more ps n s rest ∙ p .0, counted-more ps n s h (p .1))
 
 some-is : (C : Line → Type 0) {l m : Line} → some l ≡ some m → C l → C m
@@ -163,7 +162,7 @@ parts-kept (flag s ∷ rs) a (f ∷ fs) l m e =
 module _ (at : ℕ) (y : List ℕ) where
   -- the SPAN v starts at a
   abbrev pub SpanAt : ℕ → ℕ → Type 0
-  SpanAt a v = (f : List ℕ) × Piece at y a f × (numberOf 4294967295 f ≡ Is v)
+  SpanAt a v = (f : List ℕ) × Piece at y a f × (numberOf mostSpan f ≡ Is v)
 
   span-first : (rs : List Rule) (a : ℕ) (fs : List (List ℕ)) (k : ℕ) (m : Line)
       → Stand at y a fs → readFields (span ∷ rs) a fs (begun k at) ≡ some m → SpanAt a (getD (m .spans) 0 0)
@@ -198,14 +197,14 @@ module _ (at : ℕ) (y : List ℕ) where
   fields-like k ss (text ∷ rs) a (f ∷ fs) l m t e i =
       on-test _ _ _ m _ e (λ q w. fields-like k ss rs _ fs _ m (t .1) w (i .0, i .1, stands (t .0), i .3))
   fields-like k ss (assignOp ∷ rs) a (f ∷ fs) l m t e i =
-      on-test _ _ _ m _ e (λ q w. fields-like k ss rs _ fs _ m (t .1) w (i .0, omega (arith, ltb-true (place f assignOps) 3 q), i .2, i .3))
+      on-test _ _ _ m _ e (λ q w. fields-like k ss rs _ fs _ m (t .1) w (i .0, omega (arith, ltb-true (indexIn f assignOps) 3 q), i .2, i .3))
   fields-like k ss (unOp ∷ rs) a (f ∷ fs) l m t e i =
-      on-test _ _ _ m _ e (λ q w. fields-like k ss rs _ fs _ m (t .1) w (i .0, omega (arith, ltb-true (place f unOps) 2 q), i .2, i .3))
+      on-test _ _ _ m _ e (λ q w. fields-like k ss rs _ fs _ m (t .1) w (i .0, omega (arith, ltb-true (indexIn f unOps) 2 q), i .2, i .3))
   fields-like k ss (binOp ∷ rs) a (f ∷ fs) l m t e i =
-      on-test _ _ _ m _ e (λ q w. fields-like k ss rs _ fs _ m (t .1) w (i .0, ltb-true (place f binOps) 14 q, i .2, i .3))
+      on-test _ _ _ m _ e (λ q w. fields-like k ss rs _ fs _ m (t .1) w (i .0, ltb-true (indexIn f binOps) 14 q, i .2, i .3))
   fields-like k ss (count s ∷ rs) a (f ∷ fs) l m t e i =
       on-number _ _ _ m _ e (λ v q w. fields-like k ss rs _ fs _ m (t .1) w
-      (i .0, i .1, i .2, more-parts ss (toldSorts rs) v s (l .parts) (number-most 1024 v f q) (i .3)))
+      (i .0, i .1, i .2, more-parts ss (toldSorts rs) v s (l .parts) (number-most mostCount v f q) (i .3)))
   fields-like k ss (flag s ∷ rs) a (f ∷ fs) l m t e i =
       on-number _ _ _ m _ e (λ v q w. fields-like k ss rs _ fs _ m (t .1) w
       (i .0, i .1, i .2, more-parts ss (toldSorts rs) v s (l .parts) (omega (arith, number-most 1 v f q)) (i .3)))
@@ -227,15 +226,15 @@ or-ten nothing l e = absurd (let z : _≡_ {A = ℕ} 0 1 = cc in omega arith)
 
 -- what stands behind a line that is read
 pub read-as : (k at n : ℕ) (fs : List (List ℕ)) (l : Line) → readAs k at n fs ≡ good l
-    → (k ≢ none) × (readFields (rowOf k .rules) (at + n + 1) fs (begun k at) ≡ some l)
+    → (k ≢ noKind) × (readFields (recordOf k .rules) (at + n + 1) fs (begun k at) ≡ some l)
 unfolding readAs
-read-as k at n fs l e = go (eqb k none) (eqb (length fs) (length (rowOf k .rules))) refl e
+read-as k at n fs l e = by-cases (eqb k noKind) (eqb (length fs) (length (recordOf k .rules))) refl e
   where
-    go : (t u : Bool) → eqb k none ≡ t → cond t (bad 8) (cond u (orTen (readFields (rowOf k .rules) (at + n + 1) fs (begun k at))) (bad 9)) ≡ good l
-        → (k ≢ none) × (readFields (rowOf k .rules) (at + n + 1) fs (begun k at) ≡ some l)
-    go true u q e = absurd (let z : _≡_ {A = ℕ} 0 1 = cc in omega arith)
-    go false true q e = (eqb-false k none q, or-ten _ l e)
-    go false false q e = absurd (let z : _≡_ {A = ℕ} 0 1 = cc in omega arith)
+    by-cases : (t u : Bool) → eqb k noKind ≡ t → cond t (bad 8) (cond u (orTen (readFields (recordOf k .rules) (at + n + 1) fs (begun k at))) (bad 9)) ≡ good l
+        → (k ≢ noKind) × (readFields (recordOf k .rules) (at + n + 1) fs (begun k at) ≡ some l)
+    by-cases true u q e = absurd (let z : _≡_ {A = ℕ} 0 1 = cc in omega arith)
+    by-cases false true q e = (eqb-false k noKind q, or-ten _ l e)
+    by-cases false false q e = absurd (let z : _≡_ {A = ℕ} 0 1 = cc in omega arith)
 
 part-most : (ps : List (ℕ × Sort)) (i : ℕ) → getD (numbersIn ps) i 0 ≤ total ps
 unfolding total
@@ -243,9 +242,9 @@ part-most [] i = omega arith
 part-most (p ∷ ps) zero = omega arith
 part-most (p ∷ ps) (suc i) = omega (arith, part-most ps i)
 
-always-counted : (k : ℕ) → k < none → Counted (rowOf k .always)
+always-counted : (k : ℕ) → k < noKind → Counted (recordOf k .always)
 unfolding total
-always-counted k h i = omega (arith, part-most (rowOf k .always) i, at-most (λ r. total (r .always)) 1024 k refl h)
+always-counted k h i = omega (arith, part-most (recordOf k .always) i, at-most (λ r. total (r .always)) mostLines k refl h)
 
 sorts-length : (ps : List (ℕ × Sort)) → length (sortsIn ps) ≡ length ps
 sorts-length [] = refl
@@ -253,15 +252,15 @@ sorts-length (p ∷ ps) = ap suc (sorts-length ps)
 
 -- A line l that is read from y, which starts at a position a of the sheet, where a record of the sort s is due.
 pub record ReadAs (s : Sort) (a : ℕ) (y : List ℕ) (l : Line) : Type 0 where
-  pub fits : l .kind ≡ kindFor s (fieldAt y 0)
-  pub known : l .kind < none
+  pub fits : l .kind ≡ kindFor s (pieceAt y 0)
+  pub known : l .kind < noKind
   pub at : l .at ≡ a
   pub op : l .op < 14
-  pub word : Piece a y a (fieldAt y 0)
+  pub word : Piece a y a (pieceAt y 0)
   pub named : Stands a y (l .start) (l .name)
-  pub spanned : (rs : List Rule) → rowOf (l .kind) .rules ≡ span ∷ rs → SpanAt a y (a + length (fieldAt y 0) + 1) (getD (l .spans) 0 0)
-  pub nspanned : rowOf (l .kind) .rules ≡ span ∷ name ∷ span ∷ [] → SpanAt a y (l .start + length (l .name) + 1) (getD (l .spans) 1 0)
-  pub bare : spanless (rowOf (l .kind) .rules) ≡ true → getD (l .spans) 0 0 ≡ 0
+  pub spanned : (rs : List Rule) → recordOf (l .kind) .rules ≡ span ∷ rs → SpanAt a y (a + length (pieceAt y 0) + 1) (getD (l .spans) 0 0)
+  pub nspanned : recordOf (l .kind) .rules ≡ span ∷ name ∷ span ∷ [] → SpanAt a y (l .start + length (l .name) + 1) (getD (l .spans) 1 0)
+  pub bare : spanless (recordOf (l .kind) .rules) ≡ true → getD (l .spans) 0 0 ≡ 0
   pub parted : Parted l
   pub groups : length (l .parts) ≤ 3
   pub counted : Counted (l .parts)
@@ -274,13 +273,13 @@ module _ (s : Sort) (a : ℕ) (y : List ℕ) (l : Line) where
       let k = kindFor s w in
       let r = read-as k a (length w) fs l h in
       let known = kind-known s w k refl (r .0) in
-      let w-at : w ≡ fieldAt y 0 = piece-first (either 44 10) y 0 w fs e .1 in
+      let w-at : w ≡ pieceAt y 0 = piece-first (either 44 10) y 0 w fs e .1 in
       let t : Stand a y a (w ∷ fs) = rw add-zero at (pieces-stand a y (w ∷ fs) 0 e) in
       let i =
-      fields-like a y k (groupSorts (rowOf k)) (rowOf k .rules) _ fs (begun k a) l (t .1) (r .1)
+      fields-like a y k (groupSorts (recordOf k)) (recordOf k .rules) _ fs (begun k a) l (t .1) (r .1)
       ((refl, refl), omega arith, ((λ h. absurd (omega arith)), omega arith), (refl, always-counted k known))
       in
-      let sorts : sortsIn (l .parts) ≡ groupSorts (rowOf k) = sym (append-nil (sortsIn (l .parts))) ∙ i .3 .0 in
+      let sorts : sortsIn (l .parts) ≡ groupSorts (recordOf k) = sym (append-nil (sortsIn (l .parts))) ∙ i .3 .0 in
       record {
         fits = i .0 .0 ∙ ap (kindFor s) w-at;
         known = rw (i .0 .0) known;
@@ -290,17 +289,17 @@ module _ (s : Sort) (a : ℕ) (y : List ℕ) (l : Line) where
         named = i .2;
         spanned = λ rs q. rw (← w-at) (span-first a y rs _ fs k l (t .1) (rw (rw (i .0 .0) at q) at (r .1)));
         nspanned = λ q. span-second a y _ fs k l (t .1) (rw (rw (i .0 .0) at q) at (r .1));
-        bare = λ q. rw (no-spans (rowOf k .rules) _ fs (begun k a) l (rw (i .0 .0) at q) (r .1)) refl;
-        parted = rw (i .0 .0) (record { sorts = sorts; always = parts-kept (rowOf k .rules) _ fs (begun k a) l (r .1) });
-        groups = omega (arith, sorts-length (l .parts), simp length-append at (ap length sorts), sorts-length (rowOf k .always), few-parts k known);
+        bare = λ q. rw (no-spans (recordOf k .rules) _ fs (begun k a) l (rw (i .0 .0) at q) (r .1)) refl;
+        parted = rw (i .0 .0) (record { sorts = sorts; always = parts-kept (recordOf k .rules) _ fs (begun k a) l (r .1) });
+        groups = omega (arith, sorts-length (l .parts), simp length-append at (ap length sorts), sorts-length (recordOf k .always), few-parts k known);
         counted = i .3 .1;
       }
 
   pub read-sound : readPieces s a (ended (either 44 10) [] y) ≡ good l → ReadAs s a y l
   read-sound = pieces-sound _ refl
 
-  -- the entries of the scratch hold its numbers
-  pub sound-small : a + length y ≤ 65535 → ReadAs s a y l → Small (told l)
+  -- the cells of the scratch hold its numbers
+  pub sound-small : a + length y ≤ 65535 → ReadAs s a y l → Small (codeLine l)
   sound-small h t =
       record {
         kind = omega (arith, t .known, t .op);

@@ -5,43 +5,43 @@ use mathlib.Core.List.{List}
 use Prim.Native.Nat.{ℕ, _+_, _-_}
 use lib.ListN.{length, take, drop}
 use Rattle.text.specs.Text.{either}
-use Rattle.text.specs.Word.{place}
+use Rattle.text.specs.Word.{indexIn}
 use Rattle.text.specs.Field.{numberOf}
 use Rattle.text.proofs.Pieces.{upto-between}
 use Rattle.text.specs.declared.field.Number.{Number}
 use Rattle.text.specs.declared.field.Number.the-variants.{Is, Bad}
-use Rattle.sheet.specs.Field.{fieldAt, endAt, nextAt, isWritten, valueThen, nameThen}
+use Rattle.sheet.specs.Field.{pieceAt, pieceEnd, nextAt, isNameOrText, valueThen, nameThen}
 use Rattle.sheet.specs.declared.cursor.NumberRead.the-variants.{Value, BadValue}
 use Rattle.sheet.specs.declared.cursor.NameRead.the-variants.{Name, BadName}
 use native.Mathlib.Omega.{arith}
 
 -- Each takes where the field ends, and what was found of it.
-module _ (y : List ℕ) (at end : ℕ) (e : end ≡ endAt y at) where
-  part : take (end - at) (drop at y) ≡ fieldAt y at
+module _ (y : List ℕ) (at end : ℕ) (e : end ≡ pieceEnd y at) where
+  part : take (end - at) (drop at y) ≡ pieceAt y at
   part = upto-between (either 44 10) y at end e
 
   pub number-good : (most : ℕ) (r : Number) (v : ℕ) → r ≡ numberOf most (take (end - at) (drop at y)) → r ≡ Is v
-      → Value v (record { at = end + 1 }) ≡ valueThen (numberOf most (fieldAt y at)) (nextAt y at)
+      → Value v (record { at = end + 1 }) ≡ valueThen (numberOf most (pieceAt y at)) (nextAt y at)
   unfolding valueThen
-  number-good most r v p q = rw (let f : numberOf most (fieldAt y at) ≡ Is v = rw part at (sym p ∙ q) in f, e)
+  number-good most r v p q = rw (let f : numberOf most (pieceAt y at) ≡ Is v = rw part at (sym p ∙ q) in f, e)
 
   pub number-bad : (most : ℕ) (r : Number) → r ≡ numberOf most (take (end - at) (drop at y)) → r ≡ Bad
-      → BadValue ≡ valueThen (numberOf most (fieldAt y at)) (nextAt y at)
+      → BadValue ≡ valueThen (numberOf most (pieceAt y at)) (nextAt y at)
   unfolding valueThen
   number-bad most r p q = rw (← part, ← p, q)
 
-  pub written-good : (name b : Bool) → b ≡ isWritten name (take (end - at) (drop at y)) → b ≡ true
-      → Name at (end - at) (record { at = end + 1 }) ≡ nameThen (isWritten name (fieldAt y at)) at (length (fieldAt y at)) (nextAt y at)
+  pub written-good : (name b : Bool) → b ≡ isNameOrText name (take (end - at) (drop at y)) → b ≡ true
+      → Name at (end - at) (record { at = end + 1 }) ≡ nameThen (isNameOrText name (pieceAt y at)) at (length (pieceAt y at)) (nextAt y at)
   unfolding nameThen
   written-good name b p q =
-      let f : isWritten name (fieldAt y at) ≡ true = rw part at (sym p ∙ q) in
-      let n : end - at ≡ length (fieldAt y at) = omega arith in
+      let f : isNameOrText name (pieceAt y at) ≡ true = rw part at (sym p ∙ q) in
+      let n : end - at ≡ length (pieceAt y at) = omega arith in
       rw (f, n, e)
 
-  pub written-bad : (name b : Bool) → b ≡ isWritten name (take (end - at) (drop at y)) → b ≡ false
-      → BadName ≡ nameThen (isWritten name (fieldAt y at)) at (length (fieldAt y at)) (nextAt y at)
+  pub written-bad : (name b : Bool) → b ≡ isNameOrText name (take (end - at) (drop at y)) → b ≡ false
+      → BadName ≡ nameThen (isNameOrText name (pieceAt y at)) at (length (pieceAt y at)) (nextAt y at)
   unfolding nameThen
   written-bad name b p q = rw (← part, ← p, q)
 
-  pub place-field : (ws : List (List ℕ)) (r : ℕ) → r ≡ place (take (end - at) (drop at y)) ws → r ≡ place (fieldAt y at) ws
+  pub place-field : (ws : List (List ℕ)) (r : ℕ) → r ≡ indexIn (take (end - at) (drop at y)) ws → r ≡ indexIn (pieceAt y at) ws
   place-field ws r p = rw (← part) p

@@ -6,15 +6,15 @@ use Prim.Native.Nat.{ℕ, zero, suc, _+_, _≤_}
 use native.Mathlib.Omega.{arith}
 use lib.Dec.{eqb, ltb}
 use lib.ListN.{length}
-use Rattle.grammar.specs.Grammar.{Sort, Contract, rowOf, none, kindFor}
+use Rattle.grammar.specs.Grammar.{Sort, Contract, recordOf, noKind, kindFor}
 use Rattle.sheet.specs.Line.{Line, Read, good, bad, orTen, readAs, fieldsOf, readPieces, readLine}
-use Rattle.sheet.specs.Load.{Loaded, lines, refused, linesOf, after, sorts, due, judged, scan, early, loadFrom, load}
+use Rattle.sheet.specs.Load.{LoadResult, lines, refused, linesOf, after, sorts, due, judged, scan, early, loadFrom, load}
 
 abbrev ReadFromOne : Read → Type 0
 ReadFromOne (good l) = Unit
 ReadFromOne (bad n) = 1 ≤ n
 
-abbrev pub FromOne : Loaded → Type 0
+abbrev pub FromOne : LoadResult → Type 0
 FromOne (lines ls) = Unit
 FromOne (refused n i) = 1 ≤ n
 
@@ -29,19 +29,19 @@ ten-one nothing = omega arith
 
 line-one : (s : Sort) (at : ℕ) (l : List ℕ) → ReadFromOne (readLine s at l)
 unfolding readLine readPieces readAs
-line-one s at l = go (fieldsOf l)
+line-one s at l = by-cases (fieldsOf l)
   where
-    go : (fs : List (List ℕ)) → ReadFromOne (readPieces s at fs)
-    go [] = omega arith
-    go (w ∷ fs) =
-        either-one (eqb (kindFor s w) none) _ _ (omega arith)
-        (either-one (eqb (length fs) (length (rowOf (kindFor s w) .rules))) _ _ (ten-one _) (omega arith))
+    by-cases : (fs : List (List ℕ)) → ReadFromOne (readPieces s at fs)
+    by-cases [] = omega arith
+    by-cases (w ∷ fs) =
+        either-one (eqb (kindFor s w) noKind) _ _ (omega arith)
+        (either-one (eqb (length fs) (length (recordOf (kindFor s w) .rules))) _ _ (ten-one _) (omega arith))
 
-after-one : (l : Line) (r : Loaded) → FromOne r → FromOne (after l r)
+after-one : (l : Line) (r : LoadResult) → FromOne r → FromOne (after l r)
 after-one l (lines ls) h = tt
 after-one l (refused n i) h = h
 
-judged-one : (i : ℕ) (b : Bool) (r : Read) (f : Line → Loaded) → ReadFromOne r → ((l : Line) → FromOne (f l)) → FromOne (judged i b r f)
+judged-one : (i : ℕ) (b : Bool) (r : Read) (f : Line → LoadResult) → ReadFromOne r → ((l : Line) → FromOne (f l)) → FromOne (judged i b r f)
 unfolding judged
 judged-one i true r f h k = omega arith
 judged-one i false (bad n) f h k = h
@@ -57,8 +57,8 @@ scan-one i at (d ∷ ds) (l ∷ ls) =
 
 pub load-one : (s : List ℕ) (types scratch : ℕ) → FromOne (load s types scratch)
 unfolding load loadFrom
-load-one s types scratch = go (early s types scratch)
+load-one s types scratch = by-cases (early s types scratch)
   where
-    go : (k : ℕ) → FromOne (loadFrom k s)
-    go zero = scan-one 1 0 ((0, Contract) ∷ []) (linesOf s)
-    go (suc k) = omega arith
+    by-cases : (k : ℕ) → FromOne (loadFrom k s)
+    by-cases zero = scan-one 1 0 ((0, Contract) ∷ []) (linesOf s)
+    by-cases (suc k) = omega arith

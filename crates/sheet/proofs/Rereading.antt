@@ -9,16 +9,17 @@ use native.Mathlib.Omega.{arith}
 use lib.Dec.{eqb, ltb}
 use lib.ListN.{length}
 use Rattle.text.specs.Text.{bytes, same}
-use Rattle.text.specs.Word.{place}
+use Rattle.text.specs.Word.{indexIn}
 use Rattle.text.specs.Field.{isText, numberOf}
 use Rattle.text.specs.declared.field.Number.{Number}
 use Rattle.text.specs.declared.field.Number.the-variants.{Is, Bad}
-use Rattle.grammar.specs.Grammar.{Sort, Contract, Item, Field, Param, Ty, Arg, Clause, Stmt, Expr, Rule, span, name, text, assignOp, unOp, binOp, count, flag, rowOf, none, kindFor}
-use Rattle.sheet.specs.Line.{Line, begun, withSpan, withOp, withName, withParts, when, onNumber, readField, andThen, readFields, Read, good, bad, orTen, readAs, fieldsOf, readPieces, readLine}
-use Rattle.sheet.specs.Load.{Loaded, lines, sorts, due, scan}
+use Rattle.grammar.specs.Grammar.{Sort, Contract, Item, Field, Param, Ty, Arg, Clause, Stmt, Expr, Rule, span, name, text, assignOp, unOp, binOp, count, flag, recordOf, noKind, kindFor}
+use Rattle.sheet.specs.Line.{Line, begun, withSpan, withOp, withName, withParts, when, onNumber, readField, andThen, readFields, Read, good, bad, orTen, readAs, fieldsOf, readPieces, readLine, mostSpan}
+use Rattle.sheet.specs.Load.{LoadResult, lines, sorts, due, scan}
 use Rattle.sheet.specs.Same.{SameRecord, SameLine, SameButText, LineSameButText, same-bytes, int-texts}
 use Rattle.sheet.proofs.Holds.{judged-lines, judged-shallow, judged-good}
 use Rattle.sheet.proofs.Paired.{Opt, o-none, o-some}
+use Rattle.grammar.specs.Kinds as kinds
 
 -- ------------------------------------------------------------ one line, elsewhere
 
@@ -85,14 +86,14 @@ module _ {Free : Type 0} where
   -- a line of the same bytes, wherever it starts
   line-same : (s : Sort) (at to : ℕ) (l : List ℕ) → SameRead Free (readLine s at l) (readLine s to l)
   unfolding readLine readPieces readAs
-  line-same s at to l = go (fieldsOf l)
+  line-same s at to l = by-cases (fieldsOf l)
     where
-      go : (fs : List (List ℕ)) → SameRead Free (readPieces s at fs) (readPieces s to fs)
-      go [] = same-bad
-      go (w ∷ fs) =
-          either-same (eqb (kindFor s w) none) same-bad
-          (either-same (eqb (length fs) (length (rowOf (kindFor s w) .rules)))
-          (ten-same (fields-same (rowOf (kindFor s w) .rules) _ _ fs (record { kind = refl; op = refl; spans = refl; parts = refl; name = inl refl }))) same-bad)
+      by-cases : (fs : List (List ℕ)) → SameRead Free (readPieces s at fs) (readPieces s to fs)
+      by-cases [] = same-bad
+      by-cases (w ∷ fs) =
+          either-same (eqb (kindFor s w) noKind) same-bad
+          (either-same (eqb (length fs) (length (recordOf (kindFor s w) .rules)))
+          (ten-same (fields-same (recordOf (kindFor s w) .rules) _ _ fs (record { kind = refl; op = refl; spans = refl; parts = refl; name = inl refl }))) same-bad)
 
   good-same : {r q : Read} {x : Line} → SameRead Free r q → r ≡ good x → (y : Line) × (q ≡ good y) × SameRecord Free x y
   good-same {x = w} (same-good {x = x} {y = y} h) e = (y, refl, let z : x ≡ w = cc in rw z at h)
@@ -101,7 +102,7 @@ module _ {Free : Type 0} where
 -- ------------------------------------------------------------ many lines, elsewhere
 
 -- the lines xs, read elsewhere
-pub record Reread (xs : List Line) (r : Loaded) : Type 0 where
+pub record Reread (xs : List Line) (r : LoadResult) : Type 0 where
   pub ys : List Line
   pub read : r ≡ lines ys
   pub same : Forall₂ SameLine xs ys
@@ -116,7 +117,7 @@ scan-joined (l ∷ L) K [] es i at j to xs zs e k = absurd (let z : _≡_ {A = �
 scan-joined (l ∷ L) K (d ∷ ds) es i at j to xs zs e k =
     let deep = ltb 64 (d .0) in
     let from : Line → List (ℕ × Sort) = λ x. due (suc (d .0)) (sorts (x .parts)) ++ ds in
-    let f : Line → Loaded = λ x. scan (suc i) (at + length l + 1) (from x) L in
+    let f : Line → LoadResult = λ x. scan (suc i) (at + length l + 1) (from x) L in
     let r = judged-lines deep (readLine (d .1) at l) i f xs e in
     let g = good-same {Free = ⊥} (line-same (d .1) at to l) (r .2) in
     let y = g .0 in
@@ -139,13 +140,13 @@ scan-moved L ds i at j to xs e =
 
 -- what an `int` line says
 record SaysInt (v : Number) (x : Line) : Type 0 where
-  kind : x .kind ≡ 20
+  kind : x .kind ≡ kinds.int
   op : x .op ≡ 0
   parts : x .parts ≡ []
   spans : (n : ℕ) × (v ≡ Is n) × (x .spans ≡ n ∷ [])
 
-int-says : (s : Sort) (at : ℕ) (sp t : List ℕ) (x : Line) → readPieces s at (bytes "int" ∷ sp ∷ t ∷ []) ≡ good x → SaysInt (numberOf 4294967295 sp) x
-unfolding readPieces readAs kindFor place same readFields readField orTen andThen onNumber when
+int-says : (s : Sort) (at : ℕ) (sp t : List ℕ) (x : Line) → readPieces s at (bytes "int" ∷ sp ∷ t ∷ []) ≡ good x → SaysInt (numberOf mostSpan sp) x
+unfolding readPieces readAs kindFor indexIn same readFields readField orTen andThen onNumber when
 int-says Contract at sp t x e = absurd (let z : _≡_ {A = ℕ} 0 1 = cc in omega arith)
 int-says Item at sp t x e = absurd (let z : _≡_ {A = ℕ} 0 1 = cc in omega arith)
 int-says Field at sp t x e = absurd (let z : _≡_ {A = ℕ} 0 1 = cc in omega arith)
@@ -154,15 +155,15 @@ int-says Ty at sp t x e = absurd (let z : _≡_ {A = ℕ} 0 1 = cc in omega arit
 int-says Arg at sp t x e = absurd (let z : _≡_ {A = ℕ} 0 1 = cc in omega arith)
 int-says Clause at sp t x e = absurd (let z : _≡_ {A = ℕ} 0 1 = cc in omega arith)
 int-says Stmt at sp t x e = absurd (let z : _≡_ {A = ℕ} 0 1 = cc in omega arith)
-int-says Expr at sp t x e = go (numberOf 4294967295 sp) (isText t) e
+int-says Expr at sp t x e = by-cases (numberOf mostSpan sp) (isText t) e
   where
     from : Line → Number → Bool → ℕ → Read
     from l v b a = orTen (andThen (onNumber v (withSpan l)) (λ l. andThen (when b (withName l a t)) (λ m. some m)))
 
-    go : (v : Number) (b : Bool) → from (begun 20 at) v b (at + 3 + 1 + length sp + 1) ≡ good x → SaysInt v x
-    go (Is n) true e = let q : withName (withSpan (begun 20 at) n) (at + 3 + 1 + length sp + 1) t ≡ x = cc in rw (← q) (record { kind = refl; op = refl; parts = refl; spans = (n, refl, refl) })
-    go (Is n) false e = absurd (let z : _≡_ {A = ℕ} 0 1 = cc in omega arith)
-    go Bad b e = absurd (let z : _≡_ {A = ℕ} 0 1 = cc in omega arith)
+    by-cases : (v : Number) (b : Bool) → from (begun kinds.int at) v b (at + 3 + 1 + length sp + 1) ≡ good x → SaysInt v x
+    by-cases (Is n) true e = let q : withName (withSpan (begun kinds.int at) n) (at + 3 + 1 + length sp + 1) t ≡ x = cc in rw (← q) (record { kind = refl; op = refl; parts = refl; spans = (n, refl, refl) })
+    by-cases (Is n) false e = absurd (let z : _≡_ {A = ℕ} 0 1 = cc in omega arith)
+    by-cases Bad b e = absurd (let z : _≡_ {A = ℕ} 0 1 = cc in omega arith)
 
 ints-but-text : {v : Number} {x y : Line} → SaysInt v x → SaysInt v y → SameButText x y
 ints-but-text h k =

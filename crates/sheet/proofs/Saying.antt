@@ -1,19 +1,26 @@
 -- Laws of what a loaded line says. Assumes nothing.
 use mathlib.Core.Path.{_≡_, sym, ap, _∙_}
+use mathlib.Core.Bool.{Bool, true, false, not}
 use mathlib.Core.List.{List, []}
-use Prim.Native.Nat.{ℕ, _+_, _-_, _≤_, _<_}
+use Prim.Native.Nat.{ℕ, _+_, _*_, _-_, _≤_, _<_}
 use native.Mathlib.Nat.{add-sub-cancel-left}
 use native.Mathlib.Omega.{arith}
-use lib.ListN.{length, take, drop, length-drop, drop-of-length-le}
+use lib.Dec.{eqb}
+use lib.ListN.{length, getD, take, drop, length-drop, drop-of-length-le, List·getD-eq-default}
 use lib.Seq.{take-nil, take-all}
-use borrow.Author.Tests.{lt-ltb, le-ltb}
+use borrow.Author.Tests.{lt-ltb, le-ltb, not-true, not-false}
 use Rattle.text.specs.Text.{either}
 use Rattle.text.specs.Field.{numberOf}
 use Rattle.text.specs.declared.field.Number.{Number}
 use Rattle.text.specs.declared.field.Number.the-variants.{Is, Bad}
 use Rattle.text.proofs.Pieces.{upto-between}
-use Rattle.sheet.specs.Scratch.{entry}
-use Rattle.sheet.specs.Say.{cut, pieceAt, numberAt, wordAt, spanAt, nspanAt}
+use Rattle.grammar.specs.Grammar.{records, noKind}
+use Rattle.grammar.specs.Table.{ruleTable, mostFields, spanRule}
+use Rattle.grammar.proofs.TableLaws.{rule-at}
+use Rattle.sheet.specs.Scratch.{cell, kindAt, lineCount, startCell, nameCell, lengthCell}
+use Rattle.sheet.specs.Field.{pieceAt}
+use Rattle.sheet.specs.Say.{cut, numberAt, wordAt, spanFirst, spanAt, nspanAt}
+use Rattle.sheet.specs.Line.{mostSpan}
 
 -- the n bytes of s from a on: none; all of them; as many as there are
 pub cut-past : (s : List ℕ) (a n : ℕ) → length s < a → [] ≡ cut s a n
@@ -34,27 +41,44 @@ module _ (s : List ℕ) (a end : ℕ) (e : end ≡ a + length (pieceAt s a)) whe
   unfolding cut
   cut-piece = upto-between (either 44 10) s a end e
 
-  pub number-is : (p : List ℕ) (r : Number) (v : ℕ) → p ≡ cut s a (end - a) → r ≡ numberOf 4294967295 p → r ≡ Is v → v ≡ numberAt s a
+  pub number-is : (p : List ℕ) (r : Number) (v : ℕ) → p ≡ cut s a (end - a) → r ≡ numberOf mostSpan p → r ≡ Is v → v ≡ numberAt s a
   unfolding numberAt
   number-is p r v c q i = rw (← cut-piece, ← c, ← q, i)
 
-  pub number-none : (p : List ℕ) (r : Number) → p ≡ cut s a (end - a) → r ≡ numberOf 4294967295 p → r ≡ Bad → 0 ≡ numberAt s a
+  pub number-none : (p : List ℕ) (r : Number) → p ≡ cut s a (end - a) → r ≡ numberOf mostSpan p → r ≡ Bad → 0 ≡ numberAt s a
   unfolding numberAt
   number-none p r c q i = rw (← cut-piece, ← c, ← q, i)
 
-module _ (s S : List ℕ) (i a end : ℕ) (p : a ≡ entry S i 1) (e : end ≡ a + length (pieceAt s a)) where
-  pub word-piece : (w : List ℕ) → w ≡ cut s a (end - a) → w ≡ wordAt s S i
+-- a line that isn't there has no word
+pub word-none : (s S : List ℕ) (i : ℕ) → lineCount S ≤ i → [] ≡ wordAt s S i
+unfolding wordAt
+word-none s S i h = rw (le-ltb i (lineCount S) h)
+
+-- whether a record has a span: no record has a kind from 34 on
+pub kind-none : (k : ℕ) → noKind ≤ k → false ≡ spanFirst k
+kind-none k h = rw (List·getD-eq-default records _ h)
+
+pub kind-first : (k n : ℕ) → k < noKind → n ≡ getD ruleTable (mostFields * k + 0) 0 → eqb n spanRule ≡ spanFirst k
+kind-first k n h e = ap (λ m. eqb m spanRule) (e ∙ rule-at k 0 h (omega arith))
+
+pub span-none : (s S : List ℕ) (i k : ℕ) (b : Bool) → k ≡ kindAt S i → b ≡ spanFirst k → not b ≡ true → 0 ≡ spanAt s S i
+unfolding spanAt
+span-none s S i k b c f t = rw (← c, ← f, not-true b t)
+
+module _ (s S : List ℕ) (i a end : ℕ) (p : a ≡ cell S i startCell) (e : end ≡ a + length (pieceAt s a)) where
+  pub word-piece : i < lineCount S → (w : List ℕ) → w ≡ cut s a (end - a) → w ≡ wordAt s S i
   unfolding wordAt
-  word-piece w q = q ∙ cut-piece s a end e ∙ ap (pieceAt s) p
+  word-piece h w q = rw (lt-ltb i (lineCount S) h) (q ∙ cut-piece s a end e ∙ ap (pieceAt s) p)
 
-  pub span-in : (r : ℕ) → end < length s → r ≡ numberAt s (end + 1) → r ≡ spanAt s S i
-  unfolding spanAt
-  span-in r h q = rw (← p, ← e, lt-ltb end (length s) h) q
+  module _ (k : ℕ) (b : Bool) (c : k ≡ kindAt S i) (f : b ≡ spanFirst k) (t : not b ≡ false) where
+    pub span-in : (r : ℕ) → end < length s → r ≡ numberAt s (end + 1) → r ≡ spanAt s S i
+    unfolding spanAt
+    span-in r h q = rw (← c, ← f, not-false b t, ← p, ← e, lt-ltb end (length s) h) q
 
-  pub span-over : length s ≤ end → 0 ≡ spanAt s S i
-  unfolding spanAt
-  span-over h = rw (← p, ← e, le-ltb end (length s) h)
+    pub span-over : length s ≤ end → 0 ≡ spanAt s S i
+    unfolding spanAt
+    span-over h = rw (← c, ← f, not-false b t, ← p, ← e, le-ltb end (length s) h)
 
-pub nspan-is : (s S : List ℕ) (i a n r : ℕ) → a ≡ entry S i 3 → n ≡ entry S i 4 → r ≡ numberAt s (a + n + 1) → r ≡ nspanAt s S i
+pub nspan-is : (s S : List ℕ) (i a n r : ℕ) → a ≡ cell S i nameCell → n ≡ cell S i lengthCell → r ≡ numberAt s (a + n + 1) → r ≡ nspanAt s S i
 unfolding nspanAt
 nspan-is s S i a n r p q h = rw (← p, ← q) h

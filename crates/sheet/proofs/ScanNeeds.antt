@@ -8,10 +8,10 @@ use lib.ListN.{length, take, drop, length-take, length-drop}
 use mir.Val.{Fits}
 use mir.Syntax.{w64}
 use Rattle.text.specs.Text.{either, upto, ended}
-use Rattle.sheet.specs.Line.{good, readPieces, readLine}
+use Rattle.sheet.specs.Line.{good, readPieces, readLine, mostLines}
 use Rattle.sheet.specs.Line as spec
 use Rattle.grammar.specs.Table.{sortOf}
-use Rattle.sheet.specs.Step.{told, toldRead}
+use Rattle.sheet.specs.Step.{codeLine, codeRead}
 use Rattle.sheet.specs.Scan.{sortDue, Deepest, Accepts, Accepted, Whole, Going, Scans, tooDeep}
 use Rattle.sheet.specs.declared.line.Line.{Line}
 use Rattle.sheet.specs.declared.line.LineRead.{LineRead}
@@ -26,16 +26,16 @@ Found s at f = f ≡ at + length (upto (either 10 10) (drop at s))
 
 -- what the code reads of it
 abbrev pub Got : List ℕ → ℕ → ℕ → ℕ → LineRead → Type 0
-Got s at σ f r = r ≡ toldRead (readPieces (sortOf σ) at (ended (either 44 10) [] (take (f + 1 - at) (drop at s))))
+Got s at σ f r = r ≡ codeRead (readPieces (sortOf σ) at (ended (either 44 10) [] (take (f + 1 - at) (drop at s))))
 
 module _ {s S T ds os : List ℕ} {n at i : ℕ} (g : Going s S T ds os n at i) (w : Whole s S) where
-  pub few-lines : i ≤ 1024
+  pub few-lines : i ≤ mostLines
   few-lines = omega (arith, g .lines, w .few)
 
   pub next-fits : Fits w64 (i + 1)
   next-fits = let f = few-lines in omega arith
 
-  pub next-line : at < length s → i + 1 ≤ 1024
+  pub next-line : at < length s → i + 1 ≤ mostLines
   next-line h = turn-line s S T ds os n at i w g h
 
   pub deepest : Deepest T ds os n
@@ -73,7 +73,7 @@ module _ {s S T ds os : List ℕ} {n at i : ℕ} (g : Going s S T ds os n at i) 
 
       -- the line is read
       module _ {l : Line} (b : r ≡ Good l) where
-        is : (x : spec.Line) × (readLine (sortOf σ) at (upto (either 10 10) (drop at s)) ≡ good x) × (l ≡ told x)
+        is : (x : spec.Line) × (readLine (sortOf σ) at (upto (either 10 10) (drop at s)) ≡ good x) × (l ≡ codeLine x)
         is = told-good _ l (sym (turn-read s S T ds os n at i w g h σ f r e q) ∙ b)
 
         pub accepts : Accepts T ds n i l

@@ -2,7 +2,7 @@
 use mathlib.Core.Path.{_≡_, refl, sym, ap, _∙_}
 use mathlib.Core.Bool.{Bool, true, false, not, _||_}
 use mathlib.Core.List.{List, [], _∷_, _++_, append-nil}
-use Prim.Native.Nat.{ℕ, suc, _+_, _/_, _-_, _≤_, _<_}
+use Prim.Native.Nat.{ℕ, suc, _+_, _-_, _≤_, _<_}
 use native.Mathlib.Omega.{arith}
 use native.Mathlib.Nat.{zero-add}
 use native.Mathlib.Numerals.{add-one}
@@ -12,12 +12,12 @@ use lib.Seq.{take-suc, getD-drop}
 use borrow.Author.Tests.{eqb-true, eqb-false, ne-eqb, le-ltb, lt-ltb, ltb-true, ltb-false}
 use Rattle.text.specs.Text.{either, upto, ended}
 use Rattle.text.proofs.Pieces.{upto-front, upto-most, upto-stop, piece-next}
-use Rattle.grammar.specs.Grammar.{Sort, Contract, Item, Field, Param, Ty, Arg, Clause, Stmt, Expr, rowOf}
-use Rattle.sheet.specs.Line.{Line, Read, good, bad, readPieces, readLine, fieldsOf}
-use Rattle.sheet.specs.Load.{Loaded, lines, refused, after, linesOf, times, sorts, due, judged, scan, unended}
+use Rattle.grammar.specs.Grammar.{Sort, Contract, Item, Field, Param, Ty, Arg, Clause, Stmt, Expr, recordOf, noKind}
+use Rattle.sheet.specs.Line.{Line, Read, good, bad, readPieces, readLine, fieldsOf, mostLines}
+use Rattle.sheet.specs.Load.{LoadResult, lines, refused, after, linesOf, copies, sorts, due, judged, scan, unended}
 use Rattle.grammar.specs.Table.{sortOf, sortNumber, sortNumbers, sortsIn, groupSorts, numbersIn, three}
-use Rattle.sheet.specs.Step.{told, toldRead}
-use Rattle.sheet.specs.Scratch.{entry, partsAt, putLine, written, Small}
+use Rattle.sheet.specs.Step.{codeLine, codeRead}
+use Rattle.sheet.specs.Scratch.{cell, partsAt, putLine, putLines, Small, lineCount, cellsPerLine}
 use Rattle.sheet.specs.Held.{Says}
 use Rattle.sheet.specs.Open.{Open, Top, Took, opened, leftAt, settled, spent, sortsAt, dueAfter, ownerAfter, depthAfter}
 use Rattle.sheet.specs.Scan.{sortDue, Whole, Going, Scans, linesFrom, scanAll, scanned, afterAll, tooDeep}
@@ -32,13 +32,13 @@ use Rattle.sheet.proofs.Holds.{line-says, line-below, length-line}
 use Rattle.sheet.proofs.Opening.{sorts-length, settled-most, opened-head, after-none, after-some, open-none, open-some}
 
 -- what the code's reading of a line tells of the line
-pub told-bad : (r : Read) (m : ℕ) → toldRead r ≡ BadLine m → r ≡ bad m
-unfolding toldRead
+pub told-bad : (r : Read) (m : ℕ) → codeRead r ≡ BadLine m → r ≡ bad m
+unfolding codeRead
 told-bad (good l) m e = absurd (let z : _≡_ {A = ℕ} 0 1 = cc in omega arith)
 told-bad (bad n) m e = cc
 
-pub told-good : (r : Read) (l : CodeLine) → toldRead r ≡ Good l → (x : Line) × (r ≡ good x) × (l ≡ told x)
-unfolding toldRead
+pub told-good : (r : Read) (l : CodeLine) → codeRead r ≡ Good l → (x : Line) × (r ≡ good x) × (l ≡ codeLine x)
+unfolding codeRead
 told-good (good x) l e = (x, refl, cc)
 told-good (bad n) l e = absurd (let z : _≡_ {A = ℕ} 0 1 = cc in omega arith)
 
@@ -59,7 +59,7 @@ unfolding afterAll
 after-refused [] n i = refl
 after-refused (l ∷ ls) n i = rw (after-refused ls n i)
 
-after-last : (ls : List Line) (x : Line) (r : Loaded) → afterAll ls (after x r) ≡ afterAll (ls ++ (x ∷ [])) r
+after-last : (ls : List Line) (x : Line) (r : LoadResult) → afterAll ls (after x r) ≡ afterAll (ls ++ (x ∷ [])) r
 unfolding afterAll
 after-last [] x r = refl
 after-last (l ∷ ls) x r = ap (after l) (after-last ls x r)
@@ -70,19 +70,19 @@ after-lines [] = refl
 after-lines (l ∷ ls) = rw (after-lines ls)
 
 -- a line more is written
-written-last : (ls : List Line) (x : Line) (i : ℕ) (S : List ℕ) → written i (ls ++ (x ∷ [])) S ≡ putLine (written i ls S) (i + length ls) (told x)
-unfolding written
-written-last [] x i S = ap (λ j. putLine S j (told x)) (let e : i ≡ i + 0 = omega arith in e)
+written-last : (ls : List Line) (x : Line) (i : ℕ) (S : List ℕ) → putLines i (ls ++ (x ∷ [])) S ≡ putLine (putLines i ls S) (i + length ls) (codeLine x)
+unfolding putLines
+written-last [] x i S = ap (λ j. putLine S j (codeLine x)) (let e : i ≡ i + 0 = omega arith in e)
 written-last (l ∷ ls) x i S =
-    written-last ls x (suc i) (putLine S i (told l)) ∙ ap (λ j. putLine (written (suc i) ls (putLine S i (told l))) j (told x)) (let e : suc i + length ls ≡ i + suc (length ls) = omega arith in e)
+    written-last ls x (suc i) (putLine S i (codeLine l)) ∙ ap (λ j. putLine (putLines (suc i) ls (putLine S i (codeLine l))) j (codeLine x)) (let e : suc i + length ls ≡ i + suc (length ls) = omega arith in e)
 
 -- only LF ends a line
 ten : (b : ℕ) → either 10 10 b ≡ true → b ≡ 10
-ten b e = go (eqb b 10) refl e
+ten b e = by-cases (eqb b 10) refl e
   where
-    go : (t : Bool) → eqb b 10 ≡ t → t || t ≡ true → b ≡ 10
-    go true q f = eqb-true b 10 q
-    go false q f = absurd (let z : _≡_ {A = ℕ} 0 1 = cc in omega arith)
+    by-cases : (t : Bool) → eqb b 10 ≡ t → t || t ≡ true → b ≡ 10
+    by-cases true q f = eqb-true b 10 q
+    by-cases false q f = absurd (let z : _≡_ {A = ℕ} 0 1 = cc in omega arith)
 
 -- the line at a position of a sheet that is ended: where it ends, and its bytes with the LF
 module _ (s : List ℕ) (at : ℕ) (u : unended s ≡ false) (h : at < length s) where
@@ -90,11 +90,11 @@ module _ (s : List ℕ) (at : ℕ) (u : unended s ≡ false) (h : at < length s)
   line = upto (either 10 10) (drop at s)
 
   last : getD s (length s - 1) 0 ≡ 10
-  last = go (eqb (getD s (length s - 1) 0) 10) refl u
+  last = by-cases (eqb (getD s (length s - 1) 0) 10) refl u
     where
-      go : (b : Bool) → eqb (getD s (length s - 1) 0) 10 ≡ b → not b ≡ false → getD s (length s - 1) 0 ≡ 10
-      go true e f = eqb-true _ _ e
-      go false e f = absurd (let z : _≡_ {A = ℕ} 0 1 = cc in omega arith)
+      by-cases : (b : Bool) → eqb (getD s (length s - 1) 0) 10 ≡ b → not b ≡ false → getD s (length s - 1) 0 ≡ 10
+      by-cases true e f = eqb-true _ _ e
+      by-cases false e f = absurd (let z : _≡_ {A = ℕ} 0 1 = cc in omega arith)
 
   pub line-ends : at + length line < length s
   line-ends =
@@ -123,26 +123,26 @@ sort-back Expr = refl
 
 -- the parts of at most three groups, one by one
 three-sorts : (gs : List (ℕ × Sort)) → length gs ≤ 3
-    → times (getD (numbersIn gs) 0 0) (sortOf (getD (three 8 (sortNumbers (sortsIn gs))) 0 0))
-    ++ (times (getD (numbersIn gs) 1 0) (sortOf (getD (three 8 (sortNumbers (sortsIn gs))) 1 0))
-    ++ times (getD (numbersIn gs) 2 0) (sortOf (getD (three 8 (sortNumbers (sortsIn gs))) 2 0)))
+    → copies (getD (numbersIn gs) 0 0) (sortOf (getD (three (sortNumber Expr) (sortNumbers (sortsIn gs))) 0 0))
+    ++ (copies (getD (numbersIn gs) 1 0) (sortOf (getD (three (sortNumber Expr) (sortNumbers (sortsIn gs))) 1 0))
+    ++ copies (getD (numbersIn gs) 2 0) (sortOf (getD (three (sortNumber Expr) (sortNumbers (sortsIn gs))) 2 0)))
     ≡ sorts gs
-unfolding sorts times
+unfolding sorts copies
 three-sorts [] h = refl
 three-sorts (a ∷ []) h = rw (sort-back (a .1))
 three-sorts (a ∷ b ∷ []) h = rw (sort-back (a .1), sort-back (b .1))
 three-sorts (a ∷ b ∷ c ∷ []) h = rw (sort-back (a .1), sort-back (b .1), sort-back (c .1), append-nil)
 three-sorts (a ∷ b ∷ c ∷ d ∷ gs) h = absurd (omega arith)
 
--- the entries of a line tell the sorts of its parts
-sorts-told : (T : List ℕ) (i : ℕ) (x : Line) → Says T i x → x .kind < 34 → sortsIn (x .parts) ≡ groupSorts (rowOf (x .kind)) → length (x .parts) ≤ 3
+-- the cells of a line tell the sorts of its parts
+sorts-told : (T : List ℕ) (i : ℕ) (x : Line) → Says T i x → x .kind < noKind → sortsIn (x .parts) ≡ groupSorts (recordOf (x .kind)) → length (x .parts) ≤ 3
     → sortsAt T i ≡ sorts (x .parts)
 unfolding sortsAt
 sorts-told T i x y k e h =
     rw (y .kind, y .first, y .second, y .third, sort-at (x .kind) 0 k (omega arith), sort-at (x .kind) 1 k (omega arith), sort-at (x .kind) 2 k (omega arith), ← e)
     (three-sorts (x .parts) h)
 
--- a refusal is the answer, whatever the entries then are
+-- a refusal is the answer, whatever the cells then hold
 pub scans-refused : (s S T : List ℕ) (r : Scanned) (m j : ℕ) → r ≡ Fault m j → scanAll s ≡ refused m j → length T ≡ length S → Scans s S T r
 unfolding scanned
 scans-refused s S T r m j e q z =
@@ -170,14 +170,14 @@ scan-deep : (s : List ℕ) (i at d : ℕ) (ss : List Sort) (ds : List (ℕ × So
     → scanned (scan i at (due d ss ++ ds) (linesFrom s at)) ≡ tooDeep (ltb at (length s)) i
 unfolding scan due judged scanned
 scan-deep s i at d [] ds t h u = absurd (omega arith)
-scan-deep s i at d (x ∷ ss) ds t h u = go (ltb at (length s)) refl
+scan-deep s i at d (x ∷ ss) ds t h u = by-cases (ltb at (length s)) refl
   where
-    go : (b : Bool) → ltb at (length s) ≡ b → scanned (scan i at ((d, x) ∷ (due d ss ++ ds)) (linesFrom s at)) ≡ tooDeep b i
-    go true e = rw (piece-next (either 10 10) s at (line-ends s at u (ltb-true _ _ e)), lt-ltb 64 d t)
-    go false e = rw (no-lines s at (ltb-false _ _ e))
+    by-cases : (b : Bool) → ltb at (length s) ≡ b → scanned (scan i at ((d, x) ∷ (due d ss ++ ds)) (linesFrom s at)) ≡ tooDeep b i
+    by-cases true e = rw (piece-next (either 10 10) s at (line-ends s at u (ltb-true _ _ e)), lt-ltb 64 d t)
+    by-cases false e = rw (no-lines s at (ltb-false _ _ e))
 
 -- lines that were read before do not change that
-deep-after : (ls : List Line) (x : Line) (r : Loaded) (b : Bool) (j : ℕ) → scanned r ≡ tooDeep b j → scanned (afterAll ls (after x r)) ≡ tooDeep b j
+deep-after : (ls : List Line) (x : Line) (r : LoadResult) (b : Bool) (j : ℕ) → scanned r ≡ tooDeep b j → scanned (afterAll ls (after x r)) ≡ tooDeep b j
 unfolding scanned
 deep-after ls x (lines xs) true j e = absurd (let z : _≡_ {A = ℕ} 0 1 = cc in omega arith)
 deep-after ls x (lines xs) false j e = absurd (let z : _≡_ {A = ℕ} 0 1 = cc in omega arith)
@@ -195,7 +195,7 @@ module _ (s S T ds os : List ℕ) (n at i : ℕ) (w : Whole s S) (g : Going s S 
   fewer : i < length (linesOf s)
   fewer = let e = ap length there in omega (arith, g .lines)
 
-  pub turn-line : i + 1 ≤ 1024
+  pub turn-line : i + 1 ≤ mostLines
   turn-line = omega (arith, fewer, w .few)
 
   -- nothing is due any more
@@ -204,8 +204,8 @@ module _ (s S T ds os : List ℕ) (n at i : ℕ) (w : Whole s S) (g : Going s S 
   turn-complete z = g .whole ∙ rw (z, there, add-one i) (after-refused (g .read) 6 (suc i))
 
   -- what the code reads of the line
-  pub turn-read : (σ f : ℕ) (r : LineRead) → f ≡ at + length here → r ≡ toldRead (readPieces (sortOf σ) at (ended (either 44 10) [] (take (f + 1 - at) (drop at s))))
-      → r ≡ toldRead (readLine (sortOf σ) at here)
+  pub turn-read : (σ f : ℕ) (r : LineRead) → f ≡ at + length here → r ≡ codeRead (readPieces (sortOf σ) at (ended (either 44 10) [] (take (f + 1 - at) (drop at s))))
+      → r ≡ codeRead (readLine (sortOf σ) at here)
   unfolding readLine fieldsOf
   turn-read σ f r e q = q ∙ rw (line-part s at (w .ended) h (f + 1) (ap (λ k. k + 1) e))
 
@@ -221,7 +221,7 @@ module _ (s S T ds os : List ℕ) (n at i : ℕ) (w : Whole s S) (g : Going s S 
         (after-refused (g .read) m (suc i))
 
     -- the line is read: x is what it says, and l what the code makes of it
-    module _ (l : CodeLine) (x : Line) (c : readLine (sortOf σ) at here ≡ good x) (t : l ≡ told x) where
+    module _ (l : CodeLine) (x : Line) (c : readLine (sortOf σ) at here ≡ good x) (t : l ≡ codeLine x) where
       sound : ReadAs (sortOf σ) at (here ++ (10 ∷ [])) x
       unfolding readLine fieldsOf
       sound = read-sound (sortOf σ) at (here ++ (10 ∷ [])) x c
@@ -231,7 +231,7 @@ module _ (s S T ds os : List ℕ) (n at i : ℕ) (w : Whole s S) (g : Going s S 
           rw t
           (sound-small (sortOf σ) at (here ++ (10 ∷ [])) x (rw (length-append here (10 ∷ [])) (omega (arith, line-ends s at (w .ended) h, w .small))) sound)
 
-      pub turn-room : i < length T / 8
+      pub turn-room : i < lineCount T
       turn-room = omega (arith, fewer, g .size, w .entries)
 
       abbrev parts : ℕ
@@ -251,10 +251,10 @@ module _ (s S T ds os : List ℕ) (n at i : ℕ) (w : Whole s S) (g : Going s S 
         all : parts ≡ partsAt U i
         all = rw (t, says .first, says .second, says .third)
 
-        same : (j k : ℕ) → j < i → k < 8 → entry T j k ≡ entry U j k
+        same : (j k : ℕ) → j < i → k < cellsPerLine → cell T j k ≡ cell U j k
         same j k p q = rw (u, t) (sym (line-below T i x j k p q))
 
-        abbrev rest : Loaded
+        abbrev rest : LoadResult
         rest = scan (suc (suc i)) (at + length here + 1) (due n (sortsAt U i) ++ opened T (spent ds n) os n) (linesFrom s (at + length here + 1))
 
         -- what is due after the line
@@ -330,7 +330,7 @@ module _ (s S T ds os : List ℕ) (n at i : ℕ) (w : Whole s S) (g : Going s S 
 
 -- Before the first line a contract is due.
 pub going-start : (s S ds os : List ℕ) → length ds ≡ 65 → length os ≡ 65 → getD ds 0 0 ≡ 1 → Going s S S ds os 1 0 0
-unfolding afterAll opened leftAt due times written
+unfolding afterAll opened leftAt due copies putLines
 going-start s S ds os c d e =
     record {
       read = [];
@@ -349,7 +349,7 @@ module _ (s S T ds os : List ℕ) (n at i : ℕ) (g : Going s S T ds os n at i) 
   unfolding opened scan scanned
   end-complete z =
       let e : scanAll s ≡ lines (g .read) = g .whole ∙ rw (z, no-lines s at h) (after-lines (g .read)) in
-      record { answer = rw e; left = λ ls f. g .entries ∙ ap (λ l. written 0 l S) (let q : g .read ≡ ls = cc in q); size = g .size }
+      record { answer = rw e; left = λ ls f. g .entries ∙ ap (λ l. putLines 0 l S) (let q : g .read ≡ ls = cc in q); size = g .size }
 
   pub end-missing : (n ≡ 0 → ⊥) → scanAll s ≡ refused 11 (i + 1)
   unfolding scan

@@ -9,7 +9,8 @@ use borrow.Author.Tests.{lt-ltb, le-ltb}
 use Rattle.text.specs.declared.field.Number.{Number}
 use Rattle.text.specs.declared.field.Number.the-variants.{Is, Bad}
 use Rattle.sheet.specs.Field.{valueThen, nameThen}
-use Rattle.sheet.specs.Step.{taken, onNumber, when, withName, withOp, plainStep}
+use Rattle.sheet.specs.Line.{when, onNumber}
+use Rattle.sheet.specs.Step.{taken, withName, withOp, plainStep}
 use Rattle.sheet.specs.declared.cursor.Cursor.{Cursor}
 use Rattle.sheet.specs.declared.cursor.NumberRead.{NumberRead}
 use Rattle.sheet.specs.declared.cursor.NumberRead.the-variants.{Value, BadValue}

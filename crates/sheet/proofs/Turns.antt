@@ -13,14 +13,16 @@ use Rattle.text.specs.Text.{either, ended}
 use Rattle.text.specs.declared.field.Number.{Number}
 use Rattle.text.specs.declared.field.Number.the-variants.{Is, Bad}
 use Rattle.text.proofs.Pieces.{piece-ends, piece-next}
-use Rattle.sheet.specs.Field.{Ends, fieldAt, nextAt}
-use Rattle.sheet.specs.Step.{taken, onNumber, when, plainStep, stepOf, andThen, stepAll, orTen}
+use Rattle.sheet.specs.Field.{Ends, pieceAt, nextAt}
+use Rattle.sheet.specs.Line.{when, onNumber, andThen}
+use Rattle.sheet.specs.Step.{taken, plainStep, stepOf, stepAll, orTen}
 use Rattle.sheet.specs.declared.cursor.Cursor.{Cursor}
 use Rattle.sheet.specs.declared.line.Line.{Line}
 use Rattle.sheet.specs.declared.line.FieldRead.{FieldRead}
 use Rattle.sheet.specs.declared.line.FieldRead.the-variants.{Taken, Wrong}
 use Rattle.sheet.specs.declared.line.LineRead.{LineRead}
 use Rattle.sheet.specs.declared.line.LineRead.the-variants.{Good, Bad as BadLine}
+use Rattle.grammar.specs.Table.{countRule, flagRule}
 
 -- the line, if there is one, starts at a
 abbrev Starts : ℕ → Option Line → Type 0
@@ -55,8 +57,8 @@ starts-plain (suc (suc (suc (suc (suc (suc (suc n))))))) a f l = tt
 starts-step : (n a : ℕ) (f : List ℕ) (l : Line) → Starts (l .at) (stepOf n a f l)
 unfolding stepOf
 starts-step n a f l =
-    starts-cond (l .at) (ltb n 7) _ _ (starts-plain n a f l)
-    (starts-cond (l .at) (ltb n 10) _ _ (starts-number _ _ _ (λ v. refl)) (starts-number _ _ _ (λ v. refl)))
+    starts-cond (l .at) (ltb n countRule) _ _ (starts-plain n a f l)
+    (starts-cond (l .at) (ltb n flagRule) _ _ (starts-number _ _ _ (λ v. refl)) (starts-number _ _ _ (λ v. refl)))
 
 -- what a field's reading tells of its step
 step-taken : (o : Option Line) (c : Cursor) (s : FieldRead) (m : Line) (d : Cursor) → s ≡ taken o c → s ≡ Taken m d → (o ≡ some m) × (d ≡ c)
@@ -87,13 +89,13 @@ module _ (ns y : List ℕ) (r : LineRead) (at : ℕ) (l : Line) (c : Cursor) (j 
     pub turn-ends : Ends y (c .at)
     turn-ends = piece-ends (either 44 10) y (c .at) (rw (t .left, length-drop j ns) (omega arith))
 
-    opened : pieces y c ≡ fieldAt y (c .at) ∷ pieces y (nextAt y (c .at))
+    opened : pieces y c ≡ pieceAt y (c .at) ∷ pieces y (nextAt y (c .at))
     opened = piece-next (either 44 10) y (c .at) turn-ends
 
     -- A reading s of the field by the rule n.
-    module _ (n : ℕ) (s : FieldRead) (is : n ≡ getD ns j 0) (e : s ≡ taken (stepOf n (l .at + c .at) (fieldAt y (c .at)) l) (nextAt y (c .at))) where
-      answered : r ≡ orTen (andThen (stepOf n (l .at + c .at) (fieldAt y (c .at)) l)
-          (stepAll (drop (suc j) ns) (at + c .at + length (fieldAt y (c .at)) + 1) (pieces y (nextAt y (c .at)))))
+    module _ (n : ℕ) (s : FieldRead) (is : n ≡ getD ns j 0) (e : s ≡ taken (stepOf n (l .at + c .at) (pieceAt y (c .at)) l) (nextAt y (c .at))) where
+      answered : r ≡ orTen (andThen (stepOf n (l .at + c .at) (pieceAt y (c .at)) l)
+          (stepAll (drop (suc j) ns) (at + c .at + length (pieceAt y (c .at)) + 1) (pieces y (nextAt y (c .at)))))
       unfolding stepAll
       answered = t .answer ∙ rw (drop-cons ns j 0 h, opened, is, t .start)
 
@@ -108,7 +110,7 @@ module _ (ns y : List ℕ) (r : LineRead) (at : ℕ) (l : Line) (c : Cursor) (j 
           record {
             answer =
                 answered
-                ∙ rw (q .0, q .1, add-one j, let p : at + c .at + length (fieldAt y (c .at)) + 1 ≡ at + (c .at + length (fieldAt y (c .at)) + 1) = omega arith in p);
+                ∙ rw (q .0, q .1, add-one j, let p : at + c .at + length (pieceAt y (c .at)) + 1 ≡ at + (c .at + length (pieceAt y (c .at)) + 1) = omega arith in p);
             left = rw (q .1) (omega (arith, t .left, ap length opened, length-drop j ns, length-drop (j + 1) ns));
-            start = rw (q .0) at (starts-step n (l .at + c .at) (fieldAt y (c .at)) l) ∙ t .start;
+            start = rw (q .0) at (starts-step n (l .at + c .at) (pieceAt y (c .at)) l) ∙ t .start;
           }

@@ -3,7 +3,7 @@ use mathlib.Core.Path.{_≡_, refl, ap}
 use mathlib.Core.List.{List, Forall₂, Forall₂·nil as nil₂, Forall₂·cons as cons₂}
 use Prim.Native.Nat.{ℕ, zero, suc}
 use Rattle.sheet.specs.Line.{Line}
-use Rattle.sheet.specs.Tree.{Node, node, Nodes, nil, more, total, takeNodes, dropNodes, grow, build}
+use Rattle.sheet.specs.Tree.{Node, node, Nodes, nil, more, total, takeNodes, dropNodes, grow, trees}
 use Rattle.sheet.specs.Same.{SameLine}
 
 -- L of the lines' numbers, R of what the lines say
@@ -45,8 +45,8 @@ module _ {L : ℕ → ℕ → Type 0} {R : Line → Line → Type 0} where
 
   -- the trees of lines that are so, the first of which are i and j
   pub trees-twins : {ls ks : List Line} → ((i j : ℕ) → L i j → L (suc i) (suc j)) → ((l k : Line) → R l k → l .parts ≡ k .parts)
-      → (i j : ℕ) → L i j → Forall₂ R ls ks → Twins L R (build i ls) (build j ks)
-  unfolding build
+      → (i j : ℕ) → L i j → Forall₂ R ls ks → Twins L R (trees i ls) (trees j ks)
+  unfolding trees
   trees-twins next parts i j n nil₂ = no-twin
   trees-twins next parts i j n (cons₂ h r) = grown i j _ _ (parts _ _ h) n h (trees-twins next parts (suc i) (suc j) (next i j n) r)
 
@@ -60,5 +60,5 @@ MovedTwin = Twin (λ i j. Unit) SameLine
 abbrev pub MovedTwins : Nodes → Nodes → Type 0
 MovedTwins = Twins (λ i j. Unit) SameLine
 
-pub moved : {ls ks : List Line} (i j : ℕ) → Forall₂ SameLine ls ks → MovedTwins (build i ls) (build j ks)
+pub moved : {ls ks : List Line} (i j : ℕ) → Forall₂ SameLine ls ks → MovedTwins (trees i ls) (trees j ks)
 moved i j h = trees-twins (λ i j n. tt) (λ l k q. q .parts) i j tt h

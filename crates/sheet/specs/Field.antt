@@ -13,23 +13,23 @@ use Rattle.sheet.specs.declared.cursor.NumberRead.the-variants.{Value, B
 use Rattle.sheet.specs.declared.cursor.NameRead.{NameRead}
 use Rattle.sheet.specs.declared.cursor.NameRead.the-variants.{Name, BadName}
 
-abbrev pub fieldAt : List ℕ → ℕ → List ℕ
-fieldAt y c = upto (either 44 10) (drop c y)
+abbrev pub pieceAt : List ℕ → ℕ → List ℕ
+pieceAt y c = upto (either 44 10) (drop c y)
 
-abbrev pub endAt : List ℕ → ℕ → ℕ
-endAt y c = c + length (fieldAt y c)
+abbrev pub pieceEnd : List ℕ → ℕ → ℕ
+pieceEnd y c = c + length (pieceAt y c)
 
 -- a comma or LF ends the field at c
 abbrev pub Ends : List ℕ → ℕ → Type 0
-Ends y c = endAt y c < length y
+Ends y c = pieceEnd y c < length y
 
 abbrev pub nextAt : List ℕ → ℕ → Cursor
-nextAt y c = record { at = endAt y c + 1 }
+nextAt y c = record { at = pieceEnd y c + 1 }
 
 -- a NAME, or else a TEXT
-abbrev pub isWritten : Bool → List ℕ → Bool
-isWritten true f = isName f
-isWritten false f = isText f
+abbrev pub isNameOrText : Bool → List ℕ → Bool
+isNameOrText true f = isName f
+isNameOrText false f = isText f
 
 unfoldable pub valueThen : Number → Cursor → NumberRead
 valueThen (Is v) c = Value v c

@@ -8,21 +8,21 @@ use Rattle.grammar.specs.Grammar as grammar
 use Rattle.sheet.specs.Line as line
 use Rattle.sheet.specs.Tree.{Node, node, Nodes, nil, more, total}
 use Rattle.sheet.specs.Load.{sorts}
-use Rattle.grammar.specs.Table.{numbersIn, sortsIn, groupSorts}
-use Rattle.sheet.specs.Step.{told}
-use Rattle.sheet.specs.Scratch.{entry, kindAt, opAt, startAt, endAt, nameAt, Small}
+use Rattle.grammar.specs.Table.{numbersIn, sortsIn, groupSorts, mostGroups}
+use Rattle.sheet.specs.Step.{codeLine}
+use Rattle.sheet.specs.Scratch.{cell, kindAt, opAt, startAt, endAt, nameAt, Small, nameCell, lengthCell, firstCount, secondCount, thirdCount, kindRange}
 use Rattle.sheet.specs.Say.{spanAt, nspanAt}
 
--- line i's entries say the line l
+-- line i's cells say the line l
 pub record Says (S : List ℕ) (i : ℕ) (l : line.Line) : Type 0 where
   pub kind : kindAt S i ≡ l .kind
   pub op : opAt S i ≡ l .op
   pub at : startAt S i ≡ l .at
-  pub start : entry S i 3 ≡ l .start
-  pub len : entry S i 4 ≡ length (l .name)
-  pub first : entry S i 5 ≡ getD (numbersIn (l .parts)) 0 0
-  pub second : entry S i 6 ≡ getD (numbersIn (l .parts)) 1 0
-  pub third : entry S i 7 ≡ getD (numbersIn (l .parts)) 2 0
+  pub start : cell S i nameCell ≡ l .start
+  pub len : cell S i lengthCell ≡ length (l .name)
+  pub first : firstCount S i ≡ getD (numbersIn (l .parts)) 0 0
+  pub second : secondCount S i ≡ getD (numbersIn (l .parts)) 1 0
+  pub third : thirdCount S i ≡ getD (numbersIn (l .parts)) 2 0
 
 mutual
   -- a tree at line i, in the first n lines: the line says its record, and its parts stand behind it, up to the line after them
@@ -39,11 +39,11 @@ pub data Due : ℕ → List line.Line → Type 0 where
   done : Due zero []
   next : {k : ℕ} {l : line.Line} {ls : List line.Line} → Due (total (l .parts) + k) ls → Due (suc k) (l ∷ ls)
 
--- a line that the entries can say
+-- a line that cells can say
 pub record Sound (l : line.Line) : Type 0 where
-  pub small : Small (told l)
-  pub kind : l .kind < 64
-  pub groups : length (l .parts) ≤ 3
+  pub small : Small (codeLine l)
+  pub kind : l .kind < kindRange
+  pub groups : length (l .parts) ≤ mostGroups
 
 -- P of each line, the first of which is line i
 pub data Each (P : ℕ → line.Line → Type 0) : ℕ → List line.Line → Type 0 where
@@ -74,13 +74,13 @@ spanless (grammar.flag s ∷ rs) = spanless rs
 -- what line i says in the sheet s itself: its name, its span where it has one, and a dot's second span
 pub record Spells (s S : List ℕ) (i : ℕ) (l : line.Line) : Type 0 where
   pub name : nameAt s S i ≡ l .name
-  pub span : (rs : List grammar.Rule) → grammar.rowOf (l .kind) .rules ≡ grammar.span ∷ rs → spanAt s S i ≡ getD (l .spans) 0 0
-  pub nspan : grammar.rowOf (l .kind) .rules ≡ grammar.span ∷ grammar.name ∷ grammar.span ∷ [] → nspanAt s S i ≡ getD (l .spans) 1 0
-  pub bare : spanless (grammar.rowOf (l .kind) .rules) ≡ true → getD (l .spans) 0 0 ≡ 0
+  pub span : (rs : List grammar.Rule) → grammar.recordOf (l .kind) .rules ≡ grammar.span ∷ rs → spanAt s S i ≡ getD (l .spans) 0 0
+  pub nspan : grammar.recordOf (l .kind) .rules ≡ grammar.span ∷ grammar.name ∷ grammar.span ∷ [] → nspanAt s S i ≡ getD (l .spans) 1 0
+  pub bare : spanless (grammar.recordOf (l .kind) .rules) ≡ true → getD (l .spans) 0 0 ≡ 0
 
 -- a kind of the records that may stand where a sort is due
 abbrev pub Among : grammar.Sort → ℕ → Type 0
-Among s k = (grammar.first s ≤ k) × (k < grammar.first s + length (grammar.rows s))
+Among s k = (grammar.firstKind s ≤ k) × (k < grammar.firstKind s + length (grammar.recordsFor s))
 
 -- a FLAG tells no part or one
 abbrev pub Flagged : List grammar.Rule → List (ℕ × grammar.Sort) → Type 0
@@ -98,8 +98,8 @@ Flagged (grammar.flag s ∷ rs) (g ∷ gs) = (g .0 ≤ 1) × Flagged rs gs
 
 -- the parts of a line: those that its record always has, and those that its fields tell
 pub record Parted (l : line.Line) : Type 0 where
-  pub sorts : sortsIn (l .parts) ≡ groupSorts (grammar.rowOf (l .kind))
-  pub always : (gs : List (ℕ × grammar.Sort)) × (l .parts ≡ grammar.rowOf (l .kind) .always ++ gs) × Flagged (grammar.rowOf (l .kind) .rules) gs
+  pub sorts : sortsIn (l .parts) ≡ groupSorts (grammar.recordOf (l .kind))
+  pub always : (gs : List (ℕ × grammar.Sort)) × (l .parts ≡ grammar.recordOf (l .kind) .always ++ gs) × Flagged (grammar.recordOf (l .kind) .rules) gs
 
 mutual
   -- a tree where a sort is due: its record may stand there, and its parts are of the sorts that the record tells
@@ -110,7 +110,7 @@ mutual
     none-due : FormedAll [] nil
     one-due : {s : grammar.Sort} {ss : List grammar.Sort} {t : Node} {ns : Nodes} → Formed s t → FormedAll ss ns → FormedAll (s ∷ ss) (more t ns)
 
--- the entries S of the n lines of the sheet s hold its tree t
+-- the cells S of the n lines of the sheet s hold its tree t
 pub record Holding (s S : List ℕ) (n : ℕ) (t : Node) : Type 0 where
   pub formed : Formed grammar.Contract t
   pub held : Held S n 0 t

@@ -6,23 +6,23 @@ use mathlib.Core.Bool.{cond, _||_}
 use mathlib.Core.List.{List, [], _++_}
 use lib.Dec.{eqb, ltb}
 use lib.ListN.{length, getD, set, drop}
-use Rattle.grammar.specs.Grammar.{Sort, Contract}
-use Rattle.sheet.specs.Load.{times, due}
-use Rattle.grammar.specs.Table.{sortOf, sortTable}
-use Rattle.sheet.specs.Scratch.{entry, kindAt, partsAt}
+use Rattle.grammar.specs.Grammar.{Sort, Contract, noKind}
+use Rattle.sheet.specs.Load.{copies, due}
+use Rattle.grammar.specs.Table.{mostGroups, sortOf, sortTable}
+use Rattle.sheet.specs.Scratch.{kindAt, partsAt, firstCount, secondCount, thirdCount}
 
 -- the number of the sort of the parts in group g of line i
 abbrev pub groupSort : List ℕ → ℕ → ℕ → ℕ
-groupSort S i g = getD sortTable (3 * kindAt S i + g) 0
+groupSort S i g = getD sortTable (mostGroups * kindAt S i + g) 0
 
 -- the sorts of the parts of line i, one by one
 unfoldable pub sortsAt : List ℕ → ℕ → List Sort
 sortsAt S i =
-    times (entry S i 5) (sortOf (groupSort S i 0)) ++ (times (entry S i 6) (sortOf (groupSort S i 1)) ++ times (entry S i 7) (sortOf (groupSort S i 2)))
+    copies (firstCount S i) (sortOf (groupSort S i 0)) ++ (copies (secondCount S i) (sortOf (groupSort S i 1)) ++ copies (thirdCount S i) (sortOf (groupSort S i 2)))
 
 -- the group of part k of line i
 unfoldable pub groupAt : List ℕ → ℕ → ℕ → ℕ
-groupAt S i k = cond (ltb k (entry S i 5)) 0 (cond (ltb k (entry S i 5 + entry S i 6)) 1 2)
+groupAt S i k = cond (ltb k (firstCount S i)) 0 (cond (ltb k (firstCount S i + secondCount S i)) 1 2)
 
 -- the number of the sort of the next part of line i, where n parts are still due
 unfoldable pub nextSort : List ℕ → ℕ → ℕ → ℕ
@@ -30,7 +30,7 @@ nextSort S i n = groupSort S i (groupAt S i (partsAt S i - n))
 
 -- the sorts still due at depth d: a contract, or the last parts of a line
 unfoldable pub leftAt : List ℕ → List ℕ → List ℕ → ℕ → List Sort
-leftAt S ds os zero = times (getD ds 0 0) Contract
+leftAt S ds os zero = copies (getD ds 0 0) Contract
 leftAt S ds os (suc d) = drop (partsAt S (getD os (suc d) 0) - getD ds (suc d) 0) (sortsAt S (getD os (suc d) 0))
 
 -- all that is still due at the first n depths, the deepest first
@@ -49,7 +49,7 @@ spent ds n = set ds (n - 1) (getD ds (n - 1) 0 - 1)
 
 -- what `next_sort` asks
 pub record Next (S : List ℕ) (i n : ℕ) : Type 0 where
-  pub kind : kindAt S i < 34
+  pub kind : kindAt S i < noKind
   pub some : n ≤ partsAt S i
   pub small : partsAt S i < 65536
 

@@ -5,6 +5,7 @@ use mathlib.Core.Logic.{_⊎_}
 use mathlib.Core.List.{List, [], _∷_}
 use Rattle.text.specs.Text.{bytes}
 use Rattle.sheet.specs.Line.{Line, fieldsOf}
+use Rattle.grammar.specs.Kinds as kinds
 
 -- Wherever they stand. Where texts are free, those of two `int` records may differ.
 pub record SameRecord (Free : Type 0) (l k : Line) : Type 0 where
@@ -12,7 +13,7 @@ pub record SameRecord (Free : Type 0) (l k : Line) : Type 0 where
   pub op : l .op ≡ k .op
   pub spans : l .spans ≡ k .spans
   pub parts : l .parts ≡ k .parts
-  pub name : (l .name ≡ k .name) ⊎ (Free × (l .kind ≡ 20))
+  pub name : (l .name ≡ k .name) ⊎ (Free × (l .kind ≡ kinds.int))
 
 -- the same record, its text too
 abbrev pub SameLine : Line → Line → Type 0

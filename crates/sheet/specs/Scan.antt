@@ -1,5 +1,5 @@
 -- What the scan of a sheet's lines asks and promises.
-use Prim.Native.Nat.{ℕ, suc, _+_, _*_, _/_, _-_, _≤_, _<_}
+use Prim.Native.Nat.{ℕ, suc, _+_, _*_, _-_, _≤_, _<_}
 use mathlib.Core.Path.{_≡_}
 use mathlib.Core.Bool.{Bool, false, cond}
 use mathlib.Core.List.{List, [], _∷_}
@@ -7,9 +7,9 @@ use lib.Dec.{leb}
 use lib.ListN.{length, getD, drop}
 use Rattle.text.specs.Text.{ended}
 use Rattle.grammar.specs.Grammar.{Contract}
-use Rattle.sheet.specs.Line.{Line}
-use Rattle.sheet.specs.Load.{Loaded, lines, refused, after, linesOf, scan, unended}
-use Rattle.sheet.specs.Scratch.{putLine, written, Small}
+use Rattle.sheet.specs.Line.{Line, mostBytes, mostLines}
+use Rattle.sheet.specs.Load.{LoadResult, lines, refused, after, linesOf, scan, unended}
+use Rattle.sheet.specs.Scratch.{putLine, putLines, Small, lineCount, cellsPerLine}
 use Rattle.sheet.specs.Open.{Open, Next, Top, Took, opened, nextSort}
 use Rattle.sheet.specs.declared.line.Line.{Line as CodeLine}
 use Rattle.sheet.specs.declared.scan.Scanned.{Scanned}
@@ -24,33 +24,33 @@ pub record Deepest (S ds os : List ℕ) (n : ℕ) : Type 0 where
   pub depth : n ≤ 65
   pub next : 1 < n → Next S (getD os (n - 1) 0) (getD ds (n - 1) 0)
 
--- a sheet that passed refusals 1 to 3, and the entries of its lines
+-- a sheet that passed refusals 1 to 3, and the cells of its lines
 pub record Whole (s S : List ℕ) : Type 0 where
-  pub small : length s ≤ 16384
+  pub small : length s ≤ mostBytes
   pub ended : unended s ≡ false
-  pub few : length (linesOf s) ≤ 1024
-  pub entries : length S ≡ 8 * length (linesOf s)
+  pub few : length (linesOf s) ≤ mostLines
+  pub entries : length S ≡ cellsPerLine * length (linesOf s)
 
 -- the lines from a position on
 abbrev pub linesFrom : List ℕ → ℕ → List (List ℕ)
 linesFrom s at = linesOf (drop at s)
 
 -- what the sheet's lines are read as
-abbrev pub scanAll : List ℕ → Loaded
+abbrev pub scanAll : List ℕ → LoadResult
 scanAll s = scan 1 0 ((0, Contract) ∷ []) (linesOf s)
 
-unfoldable pub scanned : Loaded → Scanned
+unfoldable pub scanned : LoadResult → Scanned
 scanned (lines ls) = Read
 scanned (refused n i) = Fault n i
 
--- The scan of the sheet s left the entries T, where S were: those of its lines, if all are read.
+-- The scan of the sheet s left the cells T, where S were: those of its lines, if all are read.
 pub record Scans (s S T : List ℕ) (r : Scanned) : Type 0 where
   pub answer : r ≡ scanned (scanAll s)
-  pub left : (ls : List Line) → scanAll s ≡ lines ls → T ≡ written 0 ls S
+  pub left : (ls : List Line) → scanAll s ≡ lines ls → T ≡ putLines 0 ls S
   pub size : length T ≡ length S
 
 -- lines that were read, before the others
-unfoldable pub afterAll : List Line → Loaded → Loaded
+unfoldable pub afterAll : List Line → LoadResult → LoadResult
 afterAll [] r = r
 afterAll (l ∷ ls) r = after l (afterAll ls r)
 
@@ -58,7 +58,7 @@ afterAll (l ∷ ls) r = after l (afterAll ls r)
 pub record Going (s S T ds os : List ℕ) (n at i : ℕ) : Type 0 where
   pub read : List Line
   pub whole : scanAll s ≡ afterAll read (scan (suc i) at (opened T ds os n) (linesFrom s at))
-  pub entries : T ≡ written 0 read S
+  pub entries : T ≡ putLines 0 read S
   pub count : length read ≡ i
   pub size : length T ≡ length S
   pub lines : i + length (linesFrom s at) ≡ length (linesOf s)
@@ -71,7 +71,7 @@ tooDeep there i = cond there (Fault 7 i) (Fault 11 i)
 
 -- what `accept` asks, and what it leaves
 pub record Accepts (T ds : List ℕ) (n i : ℕ) (l : CodeLine) : Type 0 where
-  pub room : i < length T / 8
+  pub room : i < lineCount T
   pub small : Small l
   pub top : Top ds n i (l .first + l .second + l .third)
 

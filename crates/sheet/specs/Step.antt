@@ -7,15 +7,13 @@ use lib.Dec.{eqb, ltb}
 use lib.ListN.{length, getD, drop}
 use mathlib.Core.Path.{_≡_}
 use Rattle.text.specs.Text.{either, ended}
-use Rattle.text.specs.Word.{place}
+use Rattle.text.specs.Word.{indexIn}
 use Rattle.text.specs.Field.{numberOf}
-use Rattle.text.specs.declared.field.Number.{Number}
-use Rattle.text.specs.declared.field.Number.the-variants.{Is, Bad}
-use Rattle.grammar.specs.Grammar.{assignOps, unOps, binOps, rowOf}
-use Rattle.sheet.specs.Line.{Read, good, bad}
+use Rattle.grammar.specs.Grammar.{assignOps, unOps, binOps, recordOf, noKind}
+use Rattle.sheet.specs.Line.{when, onNumber, andThen, Read, good, bad, mostCount, mostSpan, mostFlag}
 use Rattle.sheet.specs.Line as line
-use Rattle.grammar.specs.Table.{numbersIn}
-use Rattle.sheet.specs.Field.{isWritten}
+use Rattle.grammar.specs.Table.{numbersIn, countRule, flagRule}
+use Rattle.sheet.specs.Field.{isNameOrText}
 use Rattle.sheet.specs.declared.cursor.Cursor.{Cursor}
 use Rattle.sheet.specs.declared.line.Line.{Line}
 use Rattle.sheet.specs.declared.line.FieldRead.{FieldRead}
@@ -23,26 +21,18 @@ use Rattle.sheet.specs.declared.line.FieldRead.the-variants.{Taken, Wron
 use Rattle.sheet.specs.declared.line.LineRead.{LineRead}
 use Rattle.sheet.specs.declared.line.LineRead.the-variants.{Good, Bad as BadLine}
 
-abbrev pub told : line.Line → Line
-told l =
+abbrev pub codeLine : line.Line → Line
+codeLine l =
     let ns = numbersIn (l .parts) in
     record { kind = l .kind; op = l .op; at = l .at; start = l .start; len = length (l .name); first = getD ns 0 0; second = getD ns 1 0; third = getD ns 2 0 }
 
-unfoldable pub toldRead : Read → LineRead
-toldRead (good l) = Good (told l)
-toldRead (bad n) = BadLine n
+unfoldable pub codeRead : Read → LineRead
+codeRead (good l) = Good (codeLine l)
+codeRead (bad n) = BadLine n
 
 unfoldable pub taken : Option Line → Cursor → FieldRead
 taken (some l) c = Taken l c
 taken none c = Wrong
-
-unfoldable pub onNumber : Number → (ℕ → Line) → Option Line
-onNumber (Is v) f = some (f v)
-onNumber Bad f = none
-
-unfoldable pub when : Bool → Line → Option Line
-when true l = some l
-when false l = none
 
 abbrev pub withName : Line → ℕ → ℕ → Line
 withName l a n = record { kind = l .kind; op = l .op; at = l .at; start = a; len = n; first = l .first; second = l .second; third = l .third }
@@ -65,13 +55,13 @@ withParts l g n =
     }
 
 abbrev pub spanStep : List ℕ → Line → Option Line
-spanStep f l = onNumber (numberOf 4294967295 f) (λ v. l)
+spanStep f l = onNumber (numberOf mostSpan f) (λ v. l)
 
 abbrev pub nameStep : Bool → ℕ → List ℕ → Line → Option Line
-nameStep name a f l = when (isWritten name f) (withName l a (length f))
+nameStep name a f l = when (isNameOrText name f) (withName l a (length f))
 
 abbrev pub opStep : List (List ℕ) → ℕ → List ℕ → Line → Option Line
-opStep ws n f l = when (ltb (place f ws) n) (withOp l (place f ws))
+opStep ws n f l = when (ltb (indexIn f ws) n) (withOp l (indexIn f ws))
 
 abbrev pub partsStep : ℕ → ℕ → List ℕ → Line → Option Line
 partsStep most g f l = onNumber (numberOf most f) (withParts l g)
@@ -91,11 +81,7 @@ plainStep n a f l =
     n none
 
 unfoldable pub stepOf : ℕ → ℕ → List ℕ → Line → Option Line
-stepOf n a f l = cond (ltb n 7) (plainStep n a f l) (cond (ltb n 10) (partsStep 1024 (n - 7) f l) (partsStep 1 (n - 10) f l))
-
-unfoldable pub andThen : Option Line → (Line → Option Line) → Option Line
-andThen (some l) f = f l
-andThen none f = none
+stepOf n a f l = cond (ltb n countRule) (plainStep n a f l) (cond (ltb n flagRule) (partsStep mostCount (n - countRule) f l) (partsStep mostFlag (n - flagRule) f l))
 
 unfoldable pub stepAll : List ℕ → ℕ → List (List ℕ) → Line → Option Line
 stepAll [] a fs l = some l
@@ -108,6 +94,6 @@ orTen none = BadLine 10
 
 -- what `read_fields` asks: the line has as many fields left as its record has in all
 pub record Fields (l : Line) (y : List ℕ) (c : Cursor) : Type 0 where
-  pub known : l .kind < 34
-  pub fields : length (ended (either 44 10) [] (drop (c .at) y)) ≡ length (rowOf (l .kind) .rules)
+  pub known : l .kind < noKind
+  pub fields : length (ended (either 44 10) [] (drop (c .at) y)) ≡ length (recordOf (l .kind) .rules)
   pub within : l .at + length y ≤ 65535

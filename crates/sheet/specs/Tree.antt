@@ -33,9 +33,9 @@ unfoldable pub grow : ℕ → Line → Nodes → Nodes
 grow i l ns = more (node i l (takeNodes (total (l .parts)) ns)) (dropNodes (total (l .parts)) ns)
 
 -- the trees of the lines from line i on
-unfoldable pub build : ℕ → List Line → Nodes
-build i [] = nil
-build i (l ∷ ls) = grow i l (build (suc i) ls)
+unfoldable pub trees : ℕ → List Line → Nodes
+trees i [] = nil
+trees i (l ∷ ls) = grow i l (trees (suc i) ls)
 
 -- trees before others
 unfoldable pub before : Nodes → Nodes → Nodes

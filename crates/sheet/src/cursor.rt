@@ -1,17 +1,17 @@
 // A reading place in a line, taken with its LF; each method gives the field read and the place after it.
-use grammar::place_bin;
+use grammar::index_bin;
 use text::Number;
 use text::find;
+use text::index_in;
 use text::is_name;
 use text::is_text;
 use text::number_of;
-use text::place_in;
 ghost use mathlib.Core.Path.{_≡_};
 ghost use lib.ListN.{length};
 ghost use Rattle.text.specs.Field.{numberOf};
-ghost use Rattle.text.specs.Word.{place, split};
+ghost use Rattle.text.specs.Word.{indexIn, split};
 ghost use Rattle.grammar.specs.Grammar.{binOps};
-ghost use Rattle.sheet.specs.Field.{Ends, fieldAt, isWritten, nameThen, nextAt, valueThen};
+ghost use Rattle.sheet.specs.Field.{Ends, pieceAt, isNameOrText, nameThen, nextAt, valueThen};
 
 pub struct Cursor {
     pub at: usize,
@@ -31,14 +31,14 @@ pub enum NameRead {
     BadName,
 }
 
-pub struct PlaceRead {
-    pub place: usize,
+pub struct IndexRead {
+    pub index: usize,
     pub next: Cursor,
 }
 
 // Whether part is a NAME, or else a TEXT.
-fn is_written(name: bool, part: &[u8]) -> bool
-    ensures { λ r. ⌜ r ≡ isWritten name (now (part .entry)) ⌝ }
+fn is_name_or_text(name: bool, part: &[u8]) -> bool
+    ensures { λ r. ⌜ r ≡ isNameOrText name (now (part .entry)) ⌝ }
 {
     if name { is_name(part) } else { is_text(part) }
 }
@@ -47,7 +47,7 @@ impl Cursor {
     // A decimal from 0 to most.
     pub fn number(self, y: &[u8], most: u32) -> NumberRead
         requires { ⌜ Ends (now y) (self .at) ⌝ }
-        ensures { λ r. ⌜ r ≡ valueThen (numberOf most (fieldAt (now (y .entry)) (self .at))) (nextAt (now (y .entry)) (self .at)) ⌝ }
+        ensures { λ r. ⌜ r ≡ valueThen (numberOf most (pieceAt (now (y .entry)) (self .at))) (nextAt (now (y .entry)) (self .at)) ⌝ }
     {
         let at = self.at;
         let end = find(y, at, b',', b'\n');
@@ -58,13 +58,13 @@ impl Cursor {
     }
 
     // A NAME, or else a TEXT.
-    pub fn written(self, y: &[u8], name: bool) -> NameRead
+    pub fn name_or_text(self, y: &[u8], name: bool) -> NameRead
         requires { ⌜ Ends (now y) (self .at) ⌝ }
-        ensures { λ r. ⌜ r ≡ nameThen (isWritten name (fieldAt (now (y .entry)) (self .at))) (self .at) (length (fieldAt (now (y .entry)) (self .at))) (nextAt (now (y .entry)) (self .at)) ⌝ }
+        ensures { λ r. ⌜ r ≡ nameThen (isNameOrText name (pieceAt (now (y .entry)) (self .at))) (self .at) (length (pieceAt (now (y .entry)) (self .at))) (nextAt (now (y .entry)) (self .at)) ⌝ }
     {
         let at = self.at;
         let end = find(y, at, b',', b'\n');
-        if is_written(name, &y[at..end]) {
+        if is_name_or_text(name, &y[at..end]) {
             NameRead::Name {
                 start: at,
                 len: end - at,
@@ -76,27 +76,27 @@ impl Cursor {
     }
 
     // The place of the field among the words of a table.
-    pub fn place(self, y: &[u8], table: &[u8]) -> PlaceRead
+    pub fn index(self, y: &[u8], table: &[u8]) -> IndexRead
         requires { ⌜ Ends (now y) (self .at) ⌝ }
-        ensures { λ r. ⌜ (r .place ≡ place (fieldAt (now (y .entry)) (self .at)) (split (now (table .entry)))) × (r .next ≡ nextAt (now (y .entry)) (self .at)) ⌝ }
+        ensures { λ r. ⌜ (r .index ≡ indexIn (pieceAt (now (y .entry)) (self .at)) (split (now (table .entry)))) × (r .next ≡ nextAt (now (y .entry)) (self .at)) ⌝ }
     {
         let at = self.at;
         let end = find(y, at, b',', b'\n');
-        PlaceRead {
-            place: place_in(&y[at..end], table),
+        IndexRead {
+            index: index_in(&y[at..end], table),
             next: Cursor { at: end + 1 },
         }
     }
 
     // The place of the field among the operators of `bin`.
-    pub fn place_bin(self, y: &[u8]) -> PlaceRead
+    pub fn index_bin(self, y: &[u8]) -> IndexRead
         requires { ⌜ Ends (now y) (self .at) ⌝ }
-        ensures { λ r. ⌜ (r .place ≡ place (fieldAt (now (y .entry)) (self .at)) binOps) × (r .next ≡ nextAt (now (y .entry)) (self .at)) ⌝ }
+        ensures { λ r. ⌜ (r .index ≡ indexIn (pieceAt (now (y .entry)) (self .at)) binOps) × (r .next ≡ nextAt (now (y .entry)) (self .at)) ⌝ }
     {
         let at = self.at;
         let end = find(y, at, b',', b'\n');
-        PlaceRead {
-            place: place_bin(&y[at..end]),
+        IndexRead {
+            index: index_bin(&y[at..end]),
             next: Cursor { at: end + 1 },
         }
     }

@@ -1,5 +1,6 @@
 // The sheet reader: from the bytes of a sheet to loaded lines, or a refusal from 1 to 11.
 mod cursor;
+pub mod limits;
 mod line;
 mod lines;
 mod loader;
@@ -7,16 +8,26 @@ mod open;
 mod scan;
 mod scratch;
 
+pub use lines::body_count;
+pub use lines::call_arg_count;
+pub use lines::clause_count;
+pub use lines::default_count;
+pub use lines::emit_arg_count;
 pub use lines::end;
-pub use lines::first;
+pub use lines::field_count;
+pub use lines::from_count;
+pub use lines::genesis_count;
+pub use lines::item_count;
 pub use lines::kind;
 pub use lines::name;
 pub use lines::nspan;
 pub use lines::op;
-pub use lines::second;
+pub use lines::param_count;
 pub use lines::span;
-pub use lines::third;
+pub use lines::target_count;
+pub use lines::type_arg_count;
 pub use lines::word;
 pub use loader::Answer;
-pub use loader::clear;
 pub use loader::load;
+pub use scratch::CELLS_PER_LINE;
+pub use scratch::line_count;

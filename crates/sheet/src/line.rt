@@ -1,11 +1,14 @@
 // What a line says: the record's kind, its fields, and how many parts it has.
 use crate::cursor::Cursor;
+use crate::cursor::IndexRead;
 use crate::cursor::NameRead;
 use crate::cursor::NumberRead;
-use crate::cursor::PlaceRead;
+use crate::limits;
 use grammar::always;
+use grammar::field_rules;
 use grammar::fields;
 use grammar::kind_for;
+use grammar::kinds;
 use grammar::rule;
 use text::count;
 use text::find;
@@ -15,10 +18,10 @@ ghost use Prim.Native.Nat.{_+_, _<_, _≤_};
 ghost use lib.Dec.{ltb};
 ghost use lib.ListN.{drop, length};
 ghost use Rattle.text.specs.Text.{either, ended};
-ghost use Rattle.sheet.specs.Field.{Ends, fieldAt, nextAt};
-ghost use Rattle.sheet.specs.Line.{readPieces};
+ghost use Rattle.sheet.specs.Field.{Ends, pieceAt, nextAt};
+ghost use Rattle.sheet.specs.Line.{readPieces, when};
 ghost use Rattle.sheet.specs.Scratch.{Small};
-ghost use Rattle.sheet.specs.Step.{Fields, nameStep, orTen, partsStep, plainStep, spanStep, stepAll, stepOf, taken, toldRead, when, withOp, withParts};
+ghost use Rattle.sheet.specs.Step.{Fields, nameStep, orTen, partsStep, plainStep, spanStep, stepAll, stepOf, taken, codeRead, withOp, withParts};
 ghost use Rattle.grammar.specs.Table.{numbersOf, sortOf};
 
 // A line without its spans: where it and its name start in the sheet, and how many parts of each of its record's sorts it has.
@@ -54,9 +57,9 @@ impl Line {
 
     fn with_span(self, y: &[u8], c: Cursor) -> FieldRead
         requires { ⌜ Ends (now y) (c .at) ⌝ }
-        ensures { λ r. ⌜ r ≡ taken (spanStep (fieldAt (now (y .entry)) (c .at)) self) (nextAt (now (y .entry)) (c .at)) ⌝ }
+        ensures { λ r. ⌜ r ≡ taken (spanStep (pieceAt (now (y .entry)) (c .at)) self) (nextAt (now (y .entry)) (c .at)) ⌝ }
     {
-        match c.number(y, 4294967295) {
+        match c.number(y, limits::MOST_SPAN) {
             NumberRead::Value(_, next) => FieldRead::Taken(self, next),
             NumberRead::BadValue => FieldRead::Wrong,
         }
@@ -64,10 +67,10 @@ impl Line {
 
     fn with_name(self, y: &[u8], c: Cursor, name: bool) -> FieldRead
         requires { ⌜ Ends (now y) (c .at) × (self .at + length (now y) ≤ 65535) ⌝ }
-        ensures { λ r. ⌜ r ≡ taken (nameStep name (self .at + c .at) (fieldAt (now (y .entry)) (c .at)) self) (nextAt (now (y .entry)) (c .at)) ⌝ }
+        ensures { λ r. ⌜ r ≡ taken (nameStep name (self .at + c .at) (pieceAt (now (y .entry)) (c .at)) self) (nextAt (now (y .entry)) (c .at)) ⌝ }
     {
         let mut l = self;
-        match c.written(y, name) {
+        match c.name_or_text(y, name) {
             NameRead::Name { start, len, next } => {
                 l.start = l.at + start;
                 l.len = len;
@@ -78,10 +81,10 @@ impl Line {
     }
 
     // The operator found at a place of a table of n.
-    fn with_place(self, found: PlaceRead, n: usize) -> FieldRead
-        ensures { λ r. ⌜ r ≡ taken (when (ltb (found .place) n) (withOp self (found .place))) (found .next) ⌝ }
+    fn with_index(self, found: IndexRead, n: usize) -> FieldRead
+        ensures { λ r. ⌜ r ≡ taken (when (ltb (found .index) n) (withOp self (found .index))) (found .next) ⌝ }
     {
-        let op = found.place;
+        let op = found.index;
         let next = found.next;
         if n <= op {
             return FieldRead::Wrong;
@@ -113,7 +116,7 @@ impl Line {
     // A COUNT or FLAG, for group g.
     fn with_number(self, y: &[u8], c: Cursor, most: u32, g: usize) -> FieldRead
         requires { ⌜ Ends (now y) (c .at) ⌝ }
-        ensures { λ r. ⌜ r ≡ taken (partsStep most g (fieldAt (now (y .entry)) (c .at)) self) (nextAt (now (y .entry)) (c .at)) ⌝ }
+        ensures { λ r. ⌜ r ≡ taken (partsStep most g (pieceAt (now (y .entry)) (c .at)) self) (nextAt (now (y .entry)) (c .at)) ⌝ }
     {
         match c.number(y, most) {
             NumberRead::Value(n, next) => FieldRead::Taken(self.with_parts(g, n as usize), next),
@@ -121,18 +124,18 @@ impl Line {
         }
     }
 
-    // A field whose rule, below 7, tells no parts.
+    // A field whose rule tells no parts.
     fn with_plain(self, rule: u8, y: &[u8], c: Cursor) -> FieldRead
         requires { ⌜ Ends (now y) (c .at) × (self .at + length (now y) ≤ 65535) ⌝ }
-        ensures { λ r. ⌜ r ≡ taken (plainStep rule (self .at + c .at) (fieldAt (now (y .entry)) (c .at)) self) (nextAt (now (y .entry)) (c .at)) ⌝ }
+        ensures { λ r. ⌜ r ≡ taken (plainStep rule (self .at + c .at) (pieceAt (now (y .entry)) (c .at)) self) (nextAt (now (y .entry)) (c .at)) ⌝ }
     {
         match rule {
-            1 => self.with_span(y, c),
-            2 => self.with_name(y, c, true),
-            3 => self.with_name(y, c, false),
-            4 => self.with_place(c.place(y, b"set add sub "), 3),
-            5 => self.with_place(c.place(y, b"not neg "), 2),
-            6 => self.with_place(c.place_bin(y), 14),
+            field_rules::SPAN => self.with_span(y, c),
+            field_rules::NAME => self.with_name(y, c, true),
+            field_rules::TEXT => self.with_name(y, c, false),
+            field_rules::ASSIGN_OP => self.with_index(c.index(y, b"set add sub "), 3),
+            field_rules::UN_OP => self.with_index(c.index(y, b"not neg "), 2),
+            field_rules::BIN_OP => self.with_index(c.index_bin(y), 14),
             _ => FieldRead::Wrong,
         }
     }
@@ -140,15 +143,20 @@ impl Line {
     // The field at the cursor, read by its rule.
     fn with_field(self, rule: u8, y: &[u8], c: Cursor) -> FieldRead
         requires { ⌜ Ends (now y) (c .at) × (self .at + length (now y) ≤ 65535) ⌝ }
-        ensures { λ r. ⌜ r ≡ taken (stepOf rule (self .at + c .at) (fieldAt (now (y .entry)) (c .at)) self) (nextAt (now (y .entry)) (c .at)) ⌝ }
+        ensures { λ r. ⌜ r ≡ taken (stepOf rule (self .at + c .at) (pieceAt (now (y .entry)) (c .at)) self) (nextAt (now (y .entry)) (c .at)) ⌝ }
     {
-        if rule < 7 {
+        if rule < field_rules::COUNT {
             return self.with_plain(rule, y, c);
         }
-        if rule < 10 {
-            return self.with_number(y, c, 1024, (rule - 7) as usize);
+        if rule < field_rules::FLAG {
+            return self.with_number(
+                y,
+                c,
+                limits::MOST_COUNT,
+                (rule - field_rules::COUNT) as usize,
+            );
         }
-        self.with_number(y, c, 1, (rule - 10) as usize)
+        self.with_number(y, c, limits::MOST_FLAG, (rule - field_rules::FLAG) as usize)
     }
 }
 
@@ -180,14 +188,14 @@ fn read_fields(line: Line, y: &[u8], cursor: Cursor) -> LineRead
 // The line y, taken with its LF, which starts at a position of the sheet where a record of a sort is due.
 pub fn read_line(sort: u8, y: &[u8], at: usize) -> LineRead
     requires { ⌜ at + length (now y) ≤ 65535 ⌝ }
-    ensures { λ r. ⌜ r ≡ toldRead (readPieces (sortOf sort) at (ended (either 44 10) [] (now (y .entry)))) ⌝ }
+    ensures { λ r. ⌜ r ≡ codeRead (readPieces (sortOf sort) at (ended (either 44 10) [] (now (y .entry)))) ⌝ }
 {
     let end = find(y, 0, b',', b'\n');
     if y.len() <= end {
         return LineRead::Bad(8);
     }
     let kind = kind_for(sort, &y[..end]);
-    if kind == 34 {
+    if kind == kinds::NONE {
         return LineRead::Bad(8);
     }
     if count(y, b',', b'\n') != fields(kind) + 1 {

@@ -1,32 +1,26 @@
 // From the bytes of a sheet to loaded lines, or a refusal from 1 to 11.
+use crate::limits;
 use crate::scan::Scanned;
 use crate::scan::scan;
+use crate::scratch::CELLS_PER_LINE;
 use crate::scratch::close;
 use text::count;
+use text::fill_u16;
 ghost use mathlib.Core.Path.{_≡_};
 ghost use mathlib.Core.List.{[], _∷_};
 ghost use Prim.Native.Nat.{_*_};
 ghost use lib.Dec.{ltb};
 ghost use lib.ListN.{length};
-ghost use Rattle.sheet.specs.Load.{firstTrue, times};
+ghost use Rattle.sheet.specs.Load.{firstTrue};
 ghost use Rattle.sheet.specs.Load.{load as loadOf, unended as unendedOf};
 ghost use Rattle.sheet.specs.Promise.{answer, laid, scratchAfter};
 ghost use Rattle.sheet.specs.Scan.{scanAll, Whole};
+ghost use Rattle.sheet.specs.Scratch.{cellsPerLine};
+ghost use Rattle.sheet.specs.Line.{mostBytes, mostLines};
 
 pub enum Answer {
     Lines(usize),
     Refused { number: u32, line: usize },
-}
-
-// Zeros in all entries.
-pub fn clear(lines: &mut [u16])
-    ensures { λ r. ⌜ now (lines .exit) ≡ times (length (now (lines .entry))) 0 ⌝ }
-{
-    let mut i = 0;
-    while i < lines.len() {
-        lines[i] = 0;
-        i += 1;
-    }
 }
 
 // The lines of a sheet that passed refusals 1 to 3.
@@ -38,10 +32,10 @@ fn load_lines(sheet: &[u8], lines: &mut [u16]) -> Answer
     match scan(sheet, lines) {
         Scanned::Read => {
             close(lines);
-            Answer::Lines(lines.len() / 8)
+            Answer::Lines(lines.len() / CELLS_PER_LINE)
         }
         Scanned::Fault { number, line } => {
-            clear(lines);
+            fill_u16(lines, 0);
             Answer::Refused { number, line }
         }
     }
@@ -59,9 +53,9 @@ fn unended(sheet: &[u8]) -> bool
 
 // The first of refusals 1 and 2 that holds, or 0.
 fn misshapen(sheet: &[u8]) -> u32
-    ensures { λ r. ⌜ r ≡ firstTrue 1 (ltb 16384 (length (now (sheet .entry))) ∷ unendedOf (now (sheet .entry)) ∷ []) ⌝ }
+    ensures { λ r. ⌜ r ≡ firstTrue 1 (ltb mostBytes (length (now (sheet .entry))) ∷ unendedOf (now (sheet .entry)) ∷ []) ⌝ }
 {
-    if 16384 < sheet.len() {
+    if limits::MOST_BYTES < sheet.len() {
         return 1;
     }
     if unended(sheet) {
@@ -72,15 +66,15 @@ fn misshapen(sheet: &[u8]) -> u32
 
 // The first of refusals 3 to 5 that holds for n lines, or 0; types and scratch are the lengths of what is lent.
 fn too_many(n: usize, types: usize, scratch: usize) -> u32
-    ensures { λ r. ⌜ r ≡ firstTrue 3 (ltb 1024 n ∷ ltb types n ∷ ltb scratch (8 * n) ∷ []) ⌝ }
+    ensures { λ r. ⌜ r ≡ firstTrue 3 (ltb mostLines n ∷ ltb types n ∷ ltb scratch (cellsPerLine * n) ∷ []) ⌝ }
 {
-    if 1024 < n {
+    if limits::MOST_LINES < n {
         return 3;
     }
     if types < n {
         return 4;
     }
-    if scratch < 8 * n {
+    if scratch < CELLS_PER_LINE * n {
         return 5;
     }
     0
@@ -103,6 +97,6 @@ pub fn load(sheet: &[u8], scratch: &mut [u16], types: usize) -> Answer
     if number != 0 {
         return Answer::Refused { number, line: 0 };
     }
-    let all = 8 * n;
+    let all = CELLS_PER_LINE * n;
     load_lines(sheet, &mut scratch[..all])
 }

@@ -1,5 +1,6 @@
 // The records still due at each depth while lines are read.
-use crate::scratch::entry;
+use crate::scratch;
+use crate::scratch::cell;
 use grammar::part_sort;
 ghost use mathlib.Core.Path.{_≡_};
 ghost use Prim.Native.Nat.{_+_, _-_, _<_, _≤_};
@@ -10,10 +11,10 @@ pub fn next_sort(lines: &[u16], i: usize, n: usize) -> u8
     requires { ⌜ Next (now lines) i n ⌝ }
     ensures { λ r. ⌜ r ≡ nextSort (now (lines .entry)) i n ⌝ }
 {
-    let kind = entry(lines, i, 0) % 64;
-    let first = entry(lines, i, 5);
-    let second = entry(lines, i, 6);
-    let k = first + second + entry(lines, i, 7) - n;
+    let kind = cell(lines, i, scratch::KIND) % scratch::KIND_RANGE;
+    let first = cell(lines, i, scratch::FIRST);
+    let second = cell(lines, i, scratch::SECOND);
+    let k = first + second + cell(lines, i, scratch::THIRD) - n;
     if k < first {
         return part_sort(kind, 0);
     }

@@ -5,20 +5,17 @@ use crate::line::read_line;
 use crate::open::next_sort;
 use crate::open::take;
 use crate::scratch::put_line;
+use grammar::sorts;
 use text::find;
+use text::wide_u16;
 ghost use mathlib.Core.Path.{_≡_};
 ghost use Prim.Native.Nat.{_+_, _≤_};
 ghost use Rattle.sheet.specs.Scan.{Accepted, Accepts, Deepest, Scans, sortDue, tooDeep, Whole};
+ghost use Rattle.sheet.specs.Line.{mostLines};
 
 pub enum Scanned {
     Read,
     Fault { number: u32, line: usize },
-}
-
-fn wide(x: u16) -> usize
-    ensures { λ r. ⌜ r ≡ x ⌝ }
-{
-    x as usize
 }
 
 // The number of the sort of the record that is due at the deepest of n depths.
@@ -27,16 +24,16 @@ fn sort_due(lines: &[u16], due: &[u16; 65], owner: &[u16; 65], n: u64) -> u8
     ensures { λ r. ⌜ r ≡ sortDue (now (lines .entry)) (now (due .entry)) (now (owner .entry)) n ⌝ }
 {
     if n <= 1 {
-        return 0;
+        return sorts::CONTRACT;
     }
     let top = (n - 1) as usize;
-    let i = wide(owner[top]);
-    let left = wide(due[top]);
+    let i = wide_u16(owner[top]);
+    let left = wide_u16(due[top]);
     next_sort(lines, i, left)
 }
 
 fn fault(number: u32, i: usize) -> Scanned
-    requires { ⌜ i ≤ 1024 ⌝ }
+    requires { ⌜ i ≤ mostLines ⌝ }
     ensures { λ r. ⌜ r ≡ Scanned.Fault number (i + 1) ⌝ }
 {
     Scanned::Fault {
@@ -47,7 +44,7 @@ fn fault(number: u32, i: usize) -> Scanned
 
 // A record at depth 65 is due at line i: where there is such a line it is too deep, else the record is missing.
 fn too_deep(there: bool, i: usize) -> Scanned
-    requires { ⌜ i ≤ 1024 ⌝ }
+    requires { ⌜ i ≤ mostLines ⌝ }
     ensures { λ r. ⌜ r ≡ tooDeep there (i + 1) ⌝ }
 {
     if there { fault(7, i) } else { fault(11, i) }
@@ -69,7 +66,7 @@ fn accept(
     take(due, owner, n, i, l.parts())
 }
 
-// Reads the lines of a sheet into their entries.
+// Reads the lines of a sheet into their cells.
 pub fn scan(sheet: &[u8], lines: &mut [u16]) -> Scanned
     requires { ⌜ Whole (now sheet) (now lines) ⌝ }
     ensures { λ r. ⌜ Scans (now (sheet .entry)) (now (lines .entry)) (now (lines .exit)) r ⌝ }

@@ -1,5 +1,7 @@
 // Reads a sheet from standard input and writes one line: `accepted`, or the refusal's number, its place and, from 12 on, its
 // message, parted by commas.
+use sheet::CELLS_PER_LINE;
+use sheet::limits;
 use verdict::Answer;
 ghost use Prim.Native.Nat.{_≤_};
 ghost use lib.ListN.{length};
@@ -28,12 +30,15 @@ fn write_answer(answer: Answer, message: &[u8])
     io::write_all(1, b"\n");
 }
 
+// No message is longer: the promise of `verdict`.
+const LONGEST: usize = 16384;
+
 fn main() {
     // A byte more than a sheet may have, so that a longer one is refused as too long.
-    let mut sheet = [0u8; 16385];
-    let mut scratch = [0u16; 8192];
-    let mut types = [0u8; 1024];
-    let mut message = [0u8; 16384];
+    let mut sheet = [0u8; limits::MOST_BYTES + 1];
+    let mut scratch = [0u16; CELLS_PER_LINE * limits::MOST_LINES];
+    let mut types = [0u8; limits::MOST_LINES];
+    let mut message = [0u8; LONGEST];
     let got = io::read_full(0, &mut sheet);
     let answer = verdict::verdict(&sheet[..got], &mut scratch, &mut types, &mut message);
     write_answer(answer, &message);

@@ -9,14 +9,14 @@ use native.Mathlib.Numerals.{add-one}
 use native.Mathlib.Omega.{arith}
 use lib.Dec.{eqb, ltb}
 use Rattle.text.specs.Text.{bytes, ended}
-use Rattle.text.specs.Word.{place, split}
+use Rattle.text.specs.Word.{indexIn, split}
 use Rattle.grammar.specs.Grammar as grammar
 use Rattle.sheet.specs.Scratch.{kindAt, opAt, endAt, nameAt}
 use Rattle.rules.specs.Text.{Name, isOne}
 use Rattle.rules.specs.Ast.{Set, id, leaf, Field, span, leafOf, assign, do', typeName}
 use Rattle.rules.specs.Asking.{Ty, Boolean, Unknown, code, _>>=_, _>>_, ifSome}
-use Rattle.rules.specs.Kept.{Table, Kept, kept}
-use Rattle.rules.specs.Declared.{eqTy, isTy}
+use Rattle.rules.specs.Kept.{Table, Kept, kept, tyFrom}
+use Rattle.rules.specs.Types.{eqTy, isTy}
 use Rattle.rules.specs.Typing as typing
 use Rattle.rules.specs.Typing.{identLeaf, identOf, callOf, typings, checkKeyedCall, asked, askOf, tyOf, tyOfIdent}
 use Rattle.rules.specs.Statements.{checkAssign, checkKeyedUse, checkStmtTypes, expectPredicate}
@@ -27,22 +27,21 @@ use Rattle.rules.proofs.Exprs.{is-call-at}
 use Rattle.rules.proofs.Parts.{stop, _also_, pick}
 use Rattle.rules.proofs.Records.{named, guard-at, let-at, emit-at, assign-at, do-at, field-at}
 use Rattle.rules.proofs.Standing.{row-first, row-rest}
-use Rattle.declared.specs.Codes.{tyFrom}
-use Rattle.declared.specs.Lines.{Typed as Typed'}
-use Rattle.declared.specs.Refusal.{refusalOf, doneOf}
-use Rattle.declared.specs.declared.model.Found.{Found}
-use Rattle.declared.specs.declared.refusal.Refusal.{Refusal}
-use Rattle.declared.specs.declared.refusal.Refusal.the-variants.{Predicate, Default}
-use Rattle.declared.specs.declared.refusal.Done.{Done}
-use Rattle.declared.specs.declared.refusal.Done.the-variants.{Fine, Refused}
-use Rattle.declared.proofs.Answers.{fits, misfits, refuses}
-use Rattle.declared.proofs.Types.{type-name}
+use Rattle.lookups.specs.Lines.{TypeAt}
+use Rattle.refusals.specs.Refusal.{refusalOf, doneOf}
+use Rattle.lookups.specs.declared.model.Found.{Found}
+use Rattle.refusals.specs.declared.refusal.Refusal.{Refusal}
+use Rattle.refusals.specs.declared.refusal.Refusal.the-variants.{Predicate, Default}
+use Rattle.refusals.specs.declared.refusal.Done.{Done}
+use Rattle.refusals.specs.declared.refusal.Done.the-variants.{Fine, Refused}
+use Rattle.refusals.proofs.Answers.{fits, misfits, refuses}
+use Rattle.lookups.proofs.Types.{type-name}
 use Rattle.env.specs.Calls.{KeyedOf}
 use Rattle.env.specs.Force.{envOf, ExprIn}
 use Rattle.env.specs.declared.env.Env.{Env}
 use Rattle.env.specs.declared.judge.Typed.{Typed}
 use Rattle.env.specs.declared.judge.Typed.the-variants.{Is, Refused as No}
-use Rattle.declared.proofs.Tables.{one-place}
+use Rattle.lookups.proofs.Tables.{one-place}
 use Rattle.typing.specs.Asks.{calleeAt, argsAt, Asks, AsksAt, AsksCall, Types, Does}
 use Rattle.typing.proofs.Calls.{parts, call-callee, call-args}
 use Rattle.typing.proofs.Doing.{typed-then, not-typed}
@@ -52,6 +51,8 @@ use Rattle.statements.specs.Assigned.{opOf, bareAt, TargetAt, JudgesAssi
 use Rattle.statements.specs.Checked.{noDefaults, StmtIn, StmtOf, DefaultIn, ValueIn, givenTo, Gives}
 use Rattle.statements.proofs.Judged.{target-at}
 use borrow.Author.Tests.{ne-eqb}
+use Rattle.grammar.specs.Kinds as kinds
+use Rattle.rules.specs.Codes as codes
 
 -- ------------------------------------------------------------ expect_predicate
 
@@ -61,15 +62,15 @@ module _ (s : List ℕ) (env : Env) (T : Table) (i : ℕ) (a : Typed) (U : Table
   no-condition r e = not-typed s _ _ T a U k r e
 
   module _ (c : ℕ) (e : a ≡ Is c) where
-    boolean : isTy (tyFrom c) (Boolean ∷ Unknown ∷ []) ≡ (eqb c 2 || eqb c 10)
+    boolean : isTy (tyFrom c) (Boolean ∷ Unknown ∷ []) ≡ (eqb c codes.boolean || eqb c codes.unknown)
     unfolding isTy eqTy code
     boolean = rw (← gave-code s _ T a U k c e, or-false) refl
 
-    pub condition : (eqb c 2 || eqb c 10) ≡ true → Does s (expectPredicate (envOf s T env) (exprAt s i)) T Fine U
+    pub condition : (eqb c codes.boolean || eqb c codes.unknown) ≡ true → Does s (expectPredicate (envOf s T env) (exprAt s i)) T Fine U
     unfolding expectPredicate doneOf
     condition q = typed-then s _ _ T a U k c Fine e (fits _ 21 _ _ (boolean ∙ q))
 
-    pub not-condition : (eqb c 2 || eqb c 10) ≡ false → Does s (expectPredicate (envOf s T env) (exprAt s i)) T (Refused (Predicate i)) U
+    pub not-condition : (eqb c codes.boolean || eqb c codes.unknown) ≡ false → Does s (expectPredicate (envOf s T env) (exprAt s i)) T (Refused (Predicate i)) U
     unfolding expectPredicate doneOf refusalOf
     not-condition q = typed-then s _ _ T a U k c (Refused (Predicate i)) e (misfits _ 21 _ _ (boolean ∙ q))
 
@@ -86,7 +87,7 @@ module _ (s S : List ℕ) (env : Env) (T : Table) (op target value c : ℕ) (a :
 
 -- ------------------------------------------------------------ check_assign
 
-module _ (s S : List ℕ) (env : Env) (T : Table) (i : ℕ) (h : StmtOf 18 s S env T i) where
+module _ (s S : List ℕ) (env : Env) (T : Table) (i : ℕ) (h : StmtOf kinds.assign s S env T i) where
   its-parts : (stmtAt s i ≡ assign (placeAt s i) (opOf (opAt S i)) (exprAt s (suc i)) (exprAt s (endAt S (suc i)))) × Row S grammar.Expr 2 (suc i)
   its-parts = let t = assign-at (h .stmt .ready .force .loaded) (h .stmt .here) (h .kind) in (t .0, t .1)
 
@@ -119,15 +120,15 @@ module _ (s S : List ℕ) (env : Env) (T : Table) (i : ℕ) (h : StmtOf 18 s S e
 -- ------------------------------------------------------------ check_keyed_use
 
 module _ (s S : List ℕ) (env : Env) (T : Table) (i : ℕ) (h : Asks s S env T i) (n : ℕ) (e : n ≡ kindAt S i) where
-  no-call : n ≢ 31 → callOf (exprAt s i) ≡ none
-  no-call q = is-call-at (h .ready .force .loaded) (h .here) ∙ rw (← e, ne-eqb n 31 q) refl
+  no-call : n ≢ kinds.call → callOf (exprAt s i) ≡ none
+  no-call q = is-call-at (h .ready .force .loaded) (h .here) ∙ rw (← e, ne-eqb n kinds.call q) refl
 
-  pub use-none : n ≢ 31 → Does s (checkKeyedUse (envOf s T env) (exprAt s i)) T Fine T
+  pub use-none : n ≢ kinds.call → Does s (checkKeyedUse (envOf s T env) (exprAt s i)) T Fine T
   unfolding checkKeyedUse ifSome doneOf kept
   use-none q = record { gives = rw (no-call q) refl }
 
-  module _ (q : n ≡ 31) where
-    use-call : AsksAt 31 s S env T i
+  module _ (q : n ≡ kinds.call) where
+    use-call : AsksAt kinds.call s S env T i
     use-call = record { asks = h; kind = sym e ∙ q }
 
     pub use-callee : ExprIn s S env (i + 1)
@@ -144,7 +145,7 @@ module _ (s S : List ℕ) (env : Env) (T : Table) (i : ℕ) (h : Asks s S env T 
 
 -- ------------------------------------------------------------ check_do
 
-module _ (s S : List ℕ) (env : Env) (T : Table) (i : ℕ) (h : StmtOf 19 s S env T i) where
+module _ (s S : List ℕ) (env : Env) (T : Table) (i : ℕ) (h : StmtOf kinds.do' s S env T i) where
   its-part : (stmtAt s i ≡ do' (exprAt s (suc i))) × Row S grammar.Expr 1 (suc i)
   its-part = let t = do-at (h .stmt .ready .force .loaded) (h .stmt .here) (h .kind) in (t .0, t .1)
 
@@ -176,11 +177,11 @@ module _ (s S : List ℕ) (env : Env) (T : Table) (i : ℕ) (h : StmtOf 19 s S e
 
 module _ (s S : List ℕ) (env : Env) (T : Table) (i : ℕ) (h : StmtIn s S env T i) (n : ℕ) (e : n ≡ kindAt S i) where
   -- other statements ask nothing here
-  pub stmt-other : n ≢ 18 → n ≢ 19 → Does s (checkStmtTypes (envOf s T env) (stmtAt s i)) T Fine T
+  pub stmt-other : n ≢ kinds.assign → n ≢ kinds.do' → Does s (checkStmtTypes (envOf s T env) (stmtAt s i)) T Fine T
   unfolding checkStmtTypes doneOf kept
   stmt-other a b =
       let d = h .ready .force .loaded in
-      let q = pick {P = λ k. kindAt S i ≡ k → k ≢ 18 → k ≢ 19 → Does s (checkStmtTypes (envOf s T env) (stmtAt s i)) T Fine T} {i = 15} {n = 5} n
+      let q = pick {P = λ k. kindAt S i ≡ k → k ≢ kinds.assign → k ≢ kinds.do' → Does s (checkStmtTypes (envOf s T env) (stmtAt s i)) T Fine T} {i = kinds.guard} {n = 5} n
       ((λ f x y. record { gives = rw (guard-at d (h .here) f .0) refl })
       also (λ f x y. record { gives = rw (let-at d (h .here) f .0) refl })
       also (λ f x y. record { gives = rw (emit-at d (h .here) f .0) refl })
@@ -191,7 +192,7 @@ module _ (s S : List ℕ) (env : Env) (T : Table) (i : ℕ) (h : StmtIn s S env 
 
 -- ------------------------------------------------------------ check_default
 
-pub takes-none : (x : Name) (p : ℕ) → p ≡ place x (split (bytes "Map Registry GuardianSet Q_Asset ")) → ltb p 4 ≡ isOne x noDefaults
+pub takes-none : (x : Name) (p : ℕ) → p ≡ indexIn x (split (bytes "Map Registry GuardianSet Q_Asset ")) → ltb p 4 ≡ isOne x noDefaults
 unfolding split ended
 takes-none x p e = sym (one-place x noDefaults ∙ rw e refl)
 
@@ -228,7 +229,7 @@ module _ (s S : List ℕ) (env : Env) (T : Table) (field : ℕ) (h : DefaultIn s
     module _ (y : Name) (b : Bool) (n : y ≡ nameAt s S (field + 1)) (o : b ≡ isOne y noDefaults) where
       test : isOne (typeName (f .ty)) noDefaults ≡ b
       test =
-          let t : Typed' s S (suc field) = record { loaded = h .ready .force .loaded; here = field-is .3 } in
+          let t : TypeAt s S (suc field) = record { loaded = h .ready .force .loaded; here = field-is .3 } in
           let q : typeName (f .ty) ≡ y = rw (field-is .2, n, add-one field) (sym (type-name s S (suc field) t)) in
           rw q (sym o)
 

@@ -15,7 +15,7 @@ use Rattle.sheet.specs.Tree.{node}
 use Rattle.rules.specs.Ast.{Expr, span, spanOf, exprOf}
 use Rattle.rules.specs.Asking.{Ty, Address, Asset, TName, code, Res, ok, refused, Rule, _>>_, expect, ifSome}
 use Rattle.rules.specs.Kept.{Table}
-use Rattle.rules.specs.Declared.{parseU128, intOf, eqTy}
+use Rattle.rules.specs.Types.{parseU128, intOf, eqTy}
 use Rattle.rules.specs.Typing as typing
 use Rattle.rules.specs.Typing.{identOf, isSome}
 use Rattle.rules.specs.Statements.{narrowField, isSet, isAddressField, nameIntoAddress, isChecked, isWrapping, wrappingIntoNarrow, literalIntoNarrow, literalText, slotFits, slotText, assetSlotText, judgeAssign}
@@ -24,30 +24,32 @@ use Rattle.rules.proofs.Exprs.{int-at, ident-at}
 use Rattle.rules.proofs.Parts.{stop, _also_, pick}
 use Rattle.rules.proofs.Records.{named}
 use Rattle.rules.proofs.Standing.{stands}
-use Rattle.declared.specs.Answers.{Answers}
-use Rattle.declared.specs.Refusal.{numberIn, refusalOf, doneOf}
-use Rattle.declared.specs.declared.refusal.Refusal.the-variants.{AssetSlot, NameIntoAddress, WrappingIntoNarrow, LiteralIntoNarrow, Slot}
-use Rattle.declared.specs.declared.refusal.Done.the-variants.{Fine, Refused}
-use Rattle.declared.proofs.Answers.{gives, then-fine, then-refused, fits, misfits, passes, refuses}
-use Rattle.declared.proofs.Codes.{from-code}
-use Rattle.declared.proofs.Literals.{literal-at}
+use Rattle.refusals.specs.Answers.{Answers}
+use Rattle.refusals.specs.Refusal.{numberIn, refusalOf, doneOf}
+use Rattle.refusals.specs.declared.refusal.Refusal.the-variants.{AssetSlot, NameIntoAddress, WrappingIntoNarrow, LiteralIntoNarrow, SlotMismatch}
+use Rattle.refusals.specs.declared.refusal.Done.the-variants.{Fine, Refused}
+use Rattle.refusals.proofs.Answers.{gives, then-fine, then-refused, fits, misfits, passes, refuses}
+use Rattle.lookups.proofs.Codes.{from-code}
+use Rattle.lookups.proofs.Literals.{literal-at}
 use Rattle.env.specs.Force.{envOf}
 use Rattle.env.specs.declared.env.Env.{Env}
 use Rattle.narrow.specs.Narrow.{exceedsOf, mostOf}
 use Rattle.narrow.proofs.Narrow as narrow
 use Rattle.narrow.proofs.Narrow.{field-some, field-slot, told-some, told-none}
 use Rattle.statements.specs.Assigned.{opOf, bareAt, TargetAt, AssignAt, becomesAddress, narrowAt, wrapsNarrow, aboveNarrow, FitsSlot, JudgesAssign}
+use Rattle.grammar.specs.Kinds as kinds
+use Rattle.rules.specs.Codes as codes
 
 -- ------------------------------------------------------------ an expression's line
 
 module _ {s S : List ℕ} (d : Loaded s S) {i : ℕ} (h : Here S grammar.Expr i) where
   -- whether it is `wrapping`, and its span
-  told : (isWrapping (exprAt s i) ≡ eqb (kindAt S i) 33) × (span (exprAt s i) ≡ placeAt s i)
+  told : (isWrapping (exprAt s i) ≡ eqb (kindAt S i) kinds.wrapping) × (span (exprAt s i) ≡ placeAt s i)
   unfolding exprAt exprOf isWrapping isChecked placeAt nodeSpan span
   told =
       let t = stands d i (h .within) in
       rw (t .here)
-      (pick {P = λ k. t .line .kind ≡ k → (isWrapping (exprOf (node i (t .line) (t .parts))) ≡ eqb k 33) × (span (exprOf (node i (t .line) (t .parts))) ≡ spanOf (t .line))} {i = 20} {n = 14} (kindAt S i)
+      (pick {P = λ k. t .line .kind ≡ k → (isWrapping (exprOf (node i (t .line) (t .parts))) ≡ eqb k kinds.wrapping) × (span (exprOf (node i (t .line) (t .parts))) ≡ spanOf (t .line))} {i = kinds.int} {n = 14} (kindAt S i)
       ((λ e. rw e (refl, refl))
       also (λ e. rw e (refl, refl))
       also (λ e. rw e (refl, refl))
@@ -70,7 +72,7 @@ module _ {s S : List ℕ} (d : Loaded s S) {i : ℕ} (h : Here S grammar.Expr i)
   target-at =
       record {
         place = told .1;
-        ident = ident-at d h ∙ rw (named d (h .within), ne-eqb (kindAt S i) 6 (λ e. omega (arith, h .kind .0)), or-false (eqb (kindAt S i) 21)) refl;
+        ident = ident-at d h ∙ rw (named d (h .within), ne-eqb (kindAt S i) kinds.field (λ e. omega (arith, h .kind .0)), or-false (eqb (kindAt S i) kinds.id)) refl;
       }
 
 -- ------------------------------------------------------------ rules of a bare name
@@ -78,11 +80,11 @@ module _ {s S : List ℕ} (d : Loaded s S) {i : ℕ} (h : Here S grammar.Expr i)
 module _ (o : Option Name) (b : Bool) (x : Name) (f : Name → Rule Unit) (q : o ≡ cond b (some x) none) where
   if-fine : (b ≡ true → Answers (f x) (ok tt)) → Answers (ifSome o f) (ok tt)
   unfolding ifSome
-  if-fine h = go b q h
+  if-fine h = by-cases b q h
     where
-      go : (b : Bool) → o ≡ cond b (some x) none → (b ≡ true → Answers (f x) (ok tt)) → Answers (ifSome o f) (ok tt)
-      go true e k = rw e (k refl)
-      go false e k = rw e (gives tt)
+      by-cases : (b : Bool) → o ≡ cond b (some x) none → (b ≡ true → Answers (f x) (ok tt)) → Answers (ifSome o f) (ok tt)
+      by-cases true e k = rw e (k refl)
+      by-cases false e k = rw e (gives tt)
 
   if-named : (r : Res Unit) → b ≡ true → Answers (f x) r → Answers (ifSome o f) r
   unfolding ifSome
@@ -95,20 +97,20 @@ module _ (y : Name) (m at : ℕ) (x : Name) where
 
   below : exceedsOf y m ≡ false → Answers ofLiteral (ok tt)
   unfolding exceedsOf ifSome
-  below = go (parseU128 y)
+  below = by-cases (parseU128 y)
     where
-      go : (o : Option ℕ) → elim o as (λ _. Bool) [ none ↦ false | some n ↦ not (leb n m) ] ≡ false → Answers (ifSome o λ literal. expect (leb literal m) 27 at (literalText x literal m)) (ok tt)
-      go none e = gives tt
-      go (some n) e = fits (leb n m) 27 at _ (not-false (leb n m) e)
+      by-cases : (o : Option ℕ) → elim o as (λ _. Bool) [ none ↦ false | some n ↦ not (leb n m) ] ≡ false → Answers (ifSome o λ literal. expect (leb literal m) 27 at (literalText x literal m)) (ok tt)
+      by-cases none e = gives tt
+      by-cases (some n) e = fits (leb n m) 27 at _ (not-false (leb n m) e)
 
   above : exceedsOf y m ≡ true → Answers ofLiteral (refused (record { number = 27; place = at; text = literalText x (elim (parseU128 y) [ some n ↦ n | none ↦ 0 ]) m }))
   unfolding exceedsOf ifSome
-  above = go (parseU128 y)
+  above = by-cases (parseU128 y)
     where
-      go : (o : Option ℕ) → elim o as (λ _. Bool) [ none ↦ false | some n ↦ not (leb n m) ] ≡ true
+      by-cases : (o : Option ℕ) → elim o as (λ _. Bool) [ none ↦ false | some n ↦ not (leb n m) ] ≡ true
           → Answers (ifSome o λ literal. expect (leb literal m) 27 at (literalText x literal m)) (refused (record { number = 27; place = at; text = literalText x (elim o [ some n ↦ n | none ↦ 0 ]) m }))
-      go none e = absurd (true≢false (sym e))
-      go (some n) e = misfits (leb n m) 27 at _ (not-true (leb n m) e)
+      by-cases none e = absurd (true≢false (sym e))
+      by-cases (some n) e = misfits (leb n m) 27 at _ (not-true (leb n m) e)
 
 -- ... for a slot that may be narrow
 module _ (o : Option ℕ) (g : narrow.Slot o) (m : ℕ) (q : m ≡ mostOf o) (y : Name) (at : ℕ) (x : Name) where
@@ -117,11 +119,11 @@ module _ (o : Option ℕ) (g : narrow.Slot o) (m : ℕ) (q : m ≡ mostOf o) (y 
 
   slot-below : (not (eqb m 0) && exceedsOf y m) ≡ false → Answers ofSlot (ok tt)
   unfolding ifSome
-  slot-below f = go (eqb m 0) refl
+  slot-below f = by-cases (eqb m 0) refl
     where
-      go : (b : Bool) → eqb m 0 ≡ b → Answers ofSlot (ok tt)
-      go true z = rw (told-none g m q (eqb-true m 0 z)) (gives tt)
-      go false z = rw (told-some g m q (eqb-false m 0 z)) (below y m at x (rw z at f))
+      by-cases : (b : Bool) → eqb m 0 ≡ b → Answers ofSlot (ok tt)
+      by-cases true z = rw (told-none g m q (eqb-true m 0 z)) (gives tt)
+      by-cases false z = rw (told-some g m q (eqb-false m 0 z)) (below y m at x (rw z at f))
 
   slot-above : (not (eqb m 0) && exceedsOf y m) ≡ true
       → Answers ofSlot (refused (record { number = 27; place = at; text = literalText x (elim (parseU128 y) [ some n ↦ n | none ↦ 0 ]) m }))
@@ -144,9 +146,9 @@ module _ (s S : List ℕ) (env : Env) (op target value c d : ℕ) (h : AssignAt 
   name-is = named (h .loaded) (h .within)
 
   -- 24
-  past-asset : (q : Rule Unit) (r : Res Unit) → c ≢ 4 → Answers q r → Answers (expect (not (eqTy t Asset)) 24 (span e) assetSlotText >> q) r
+  past-asset : (q : Rule Unit) (r : Res Unit) → c ≢ codes.asset → Answers q r → Answers (expect (not (eqTy t Asset)) 24 (span e) assetSlotText >> q) r
   unfolding eqTy code
-  past-asset q r n a = passes (not (eqTy t Asset)) 24 (span e) assetSlotText q r (rw (← k, ne-eqb c 4 n) refl) a
+  past-asset q r n a = passes (not (eqTy t Asset)) 24 (span e) assetSlotText q r (rw (← k, ne-eqb c codes.asset n) refl) a
 
   -- 25
   abbrev nameRule : Rule Unit
@@ -167,7 +169,7 @@ module _ (s S : List ℕ) (env : Env) (op target value c d : ℕ) (h : AssignAt 
       let b = and-eq-true-iff (bareAt S target) _ .0 f .0 in
       if-named (identOf e) (bareAt S target) (namedAt s target) _ (p .ident) _ b (misfits _ 25 _ _ (rw (address-test b, b, and-eq-true-iff (bareAt S target) _ .0 f .1) refl))
 
-  past-name : (q : Rule Unit) (r : Res Unit) → c ≢ 4 → becomesAddress s S op target c d ≡ false → Answers q r
+  past-name : (q : Rule Unit) (r : Res Unit) → c ≢ codes.asset → becomesAddress s S op target c d ≡ false → Answers q r
       → Answers (expect (not (eqTy t Asset)) 24 (span e) assetSlotText >> (nameRule >> q)) r
   past-name q r n f a = past-asset _ r n (then-fine nameRule q tt r (name-fine f) a)
 
@@ -180,11 +182,11 @@ module _ (s S : List ℕ) (env : Env) (op target value c d : ℕ) (h : AssignAt 
     -- what isn't a bare name has none
     is-bare : (z : Bool) → (not (eqb m 0) && z) ≡ true → bareAt S target ≡ true
     unfolding narrowAt mostOf
-    is-bare z f = go (bareAt S target) refl
+    is-bare z f = by-cases (bareAt S target) refl
       where
-        go : (b : Bool) → bareAt S target ≡ b → bareAt S target ≡ true
-        go true y = y
-        go false y = absurd (true≢false (sym f ∙ rw (q, y) refl))
+        by-cases : (b : Bool) → bareAt S target ≡ b → bareAt S target ≡ true
+        by-cases true y = y
+        by-cases false y = absurd (true≢false (sym f ∙ rw (q, y) refl))
 
     abbrev wrapRule : Rule Unit
     wrapRule = ifSome (identOf e) λ x. wrappingIntoNarrow Γ x given
@@ -207,34 +209,34 @@ module _ (s S : List ℕ) (env : Env) (op target value c d : ℕ) (h : AssignAt 
     literalRule = ifSome (identOf e) λ x. literalIntoNarrow Γ x given
 
     -- the literal, if any
-    text-is : intOf given ≡ cond (eqb (kindAt S value) 20) (some (nameAt s S value)) none
+    text-is : intOf given ≡ cond (eqb (kindAt S value) kinds.int) (some (nameAt s S value)) none
     text-is = int-at (h .loaded) (h .here)
 
     literal-fine : aboveNarrow s S value m ≡ false → Answers literalRule (ok tt)
     unfolding literalIntoNarrow envOf aboveNarrow
     literal-fine f =
         if-fine (identOf e) (bareAt S target) (namedAt s target) _ (p .ident)
-        (λ b. if-fine (intOf given) (eqb (kindAt S value) 20) (nameAt s S value) _ text-is
+        (λ b. if-fine (intOf given) (eqb (kindAt S value) kinds.int) (nameAt s S value) _ text-is
         (λ y. slot-below _ (field-slot (modelIn s) (namedAt s target)) m (narrow-is b) (nameAt s S value) _ _ (rw y at f)))
 
     literal-no : aboveNarrow s S value m ≡ true → Answers literalRule (refused (refusalOf s (LiteralIntoNarrow target value m)))
     unfolding literalIntoNarrow envOf aboveNarrow refusalOf numberIn
     literal-no f =
         let b = is-bare _ f in
-        let y = and-eq-true-iff (eqb (kindAt S value) 20) _ .0 (and-eq-true-iff (not (eqb m 0)) _ .0 f .1) .0 in
+        let y = and-eq-true-iff (eqb (kindAt S value) kinds.int) _ .0 (and-eq-true-iff (not (eqb m 0)) _ .0 f .1) .0 in
         if-named (identOf e) (bareAt S target) (namedAt s target) _ (p .ident) _ b
-        (if-named (intOf given) (eqb (kindAt S value) 20) (nameAt s S value) _ text-is _ y
+        (if-named (intOf given) (eqb (kindAt S value) kinds.int) (nameAt s S value) _ text-is _ y
         (rw (literal-at (h .loaded) value, y) (slot-above _ (field-slot (modelIn s) (namedAt s target)) m (narrow-is b) (nameAt s S value) _ _ (rw y at f))))
 
 -- ------------------------------------------------------------ return by return
 
 module _ (s S : List ℕ) (env : Env) (op target value c d : ℕ) (h : AssignAt s S target value) where
-  pub asset-wrong : c ≡ 4 → JudgesAssign s S env op target value c d (Refused (AssetSlot target))
+  pub asset-wrong : c ≡ codes.asset → JudgesAssign s S env op target value c d (Refused (AssetSlot target))
   unfolding judgeAssign doneOf refusalOf eqTy code
   asset-wrong q =
       record { judged = λ T e p t u k l. rw (← p .place) (refuses (not (eqTy t Asset)) 24 (span e) assetSlotText _ (rw (← k, q) refl)) }
 
-  module _ (n : c ≢ 4) (a : Bool) (x : a ≡ becomesAddress s S op target c d) where
+  module _ (n : c ≢ codes.asset) (a : Bool) (x : a ≡ becomesAddress s S op target c d) where
     pub address-wrong : a ≡ true → JudgesAssign s S env op target value c d (Refused (NameIntoAddress target value))
     unfolding judgeAssign doneOf
     address-wrong f =
@@ -279,7 +281,7 @@ module _ (s S : List ℕ) (env : Env) (op target value c d : ℕ) (h : AssignAt 
           unfolding doneOf
           slot-fine f = record { judged = λ T e p t u k l. all-past T e p t u k l _ (fits _ 28 _ _ (sym (w .fits T t u k l) ∙ f)) }
 
-          pub slot-wrong : g ≡ false → JudgesAssign s S env op target value c d (Refused (Slot value c d))
+          pub slot-wrong : g ≡ false → JudgesAssign s S env op target value c d (Refused (SlotMismatch value c d))
           unfolding doneOf refusalOf
           slot-wrong f =
               record {

@@ -1,22 +1,22 @@
 -- What the checks of statements, conditions and defaults ask and promise.
-use Prim.Native.Nat.{ℕ, _/_, _<_}
+use Prim.Native.Nat.{ℕ, _<_}
 use Prim.Native.String.{String}
 use mathlib.Core.List.{List, [], _∷_}
 use mathlib.Core.Path.{_≡_}
-use lib.ListN.{length}
 use Rattle.grammar.specs.Grammar as grammar
-use Rattle.sheet.specs.Scratch.{entry, kindAt}
+use Rattle.sheet.specs.Scratch.{kindAt, lineCount, defaultCount}
 use Rattle.rules.specs.Ast.{AssignOp, Expr}
 use Rattle.rules.specs.Asking.{Ty, code, Rule, _>>=_}
 use Rattle.rules.specs.Kept.{Table}
 use Rattle.rules.specs.Typing.{Env, tyOf}
 use Rattle.rules.specs.Statements.{judgeAssign}
 use Rattle.rules.specs.Standing.{exprAt, Here}
-use Rattle.declared.specs.declared.refusal.Done.{Done}
+use Rattle.refusals.specs.declared.refusal.Done.{Done}
 use Rattle.env.specs.Force.{envOf, Ready}
 use Rattle.env.specs.declared.env.Env.{Env as CodeEnv}
 use Rattle.typing.specs.Asks.{Does}
 use Rattle.statements.specs.Assigned.{opOf, TargetAt}
+use Rattle.grammar.specs.Kinds as kinds
 
 -- the types of fields that take no default
 abbrev pub noDefaults : List String
@@ -37,14 +37,14 @@ pub record StmtOf (k : ℕ) (s S : List ℕ) (env : CodeEnv) (T : Table) (i : �
 -- a field that has a default stands at line field
 pub record DefaultIn (s S : List ℕ) (env : CodeEnv) (T : Table) (field : ℕ) : Type 0 where
   pub ready : Ready s S env T
-  pub within : field < length S / 8
-  pub kind : kindAt S field ≡ 6
-  pub some : entry S field 6 ≡ 1
+  pub within : field < lineCount S
+  pub kind : kindAt S field ≡ kinds.field
+  pub some : defaultCount S field ≡ 1
 
 -- the value at line value is assigned to what line target tells
 pub record ValueIn (s S : List ℕ) (env : CodeEnv) (T : Table) (target value : ℕ) : Type 0 where
   pub ready : Ready s S env T
-  pub within : target < length S / 8
+  pub within : target < lineCount S
   pub here : Here S grammar.Expr value
 
 -- ------------------------------------------------------------ what is promised

@@ -1,14 +1,17 @@
 // The judging of an assignment, when its target's and its value's types are known. A target is an expression or, where
 // its default is assigned, a field.
-use declared::Done;
-use declared::Found;
-use declared::Refusal;
-use declared::compatible;
-use declared::field_named;
-use declared::numeric;
 use env::Env;
+use grammar::kinds;
+use grammar::ops;
+use lookups::Found;
+use lookups::compatible;
+use lookups::field_named;
+use lookups::numeric;
 use narrow::exceeds;
 use narrow::narrow_field;
+use refusals::Done;
+use refusals::Refusal;
+use rules::codes;
 use sheet::kind;
 use sheet::name;
 use text::is_word;
@@ -16,7 +19,7 @@ ghost use mathlib.Core.List.{[]};
 ghost use mathlib.Core.Path.{_≡_};
 ghost use Rattle.rules.specs.Standing.{exprAt, Loaded, modelIn};
 ghost use Rattle.rules.specs.Statements.{fromDeployParams, isAddressField, isSet};
-ghost use Rattle.declared.specs.Lines.{ExprAt};
+ghost use Rattle.lookups.specs.Lines.{ExprAt};
 ghost use Rattle.env.specs.Force.{envOf};
 ghost use Rattle.narrow.specs.Narrow.{mostOf};
 ghost use Rattle.statements.specs.Assigned.{aboveNarrow, AssignAt, bareAt, becomesAddress, FitsSlot, JudgesAssign, narrowAt, opOf, wrapsNarrow};
@@ -25,7 +28,7 @@ ghost use Rattle.statements.specs.Assigned.{aboveNarrow, AssignAt, bareA
 fn is_set(op: usize) -> bool
     ensures { λ r. ⌜ r ≡ isSet (opOf op) ⌝ }
 {
-    (op != 1) & (op != 2)
+    (op != ops::ASSIGN_ADD) & (op != ops::ASSIGN_SUB)
 }
 
 // Whether the target is a bare name.
@@ -33,7 +36,7 @@ fn bare(lines: &[u16], target: usize) -> bool
     ensures { λ r. ⌜ r ≡ bareAt (now (lines .entry)) target ⌝ }
 {
     let k = kind(lines, target);
-    (k == 21) | (k == 6)
+    (k == kinds::ID) | (k == kinds::FIELD)
 }
 
 // Whether the state field x is a Q_Address.
@@ -62,7 +65,7 @@ fn becomes_address(
     if !bare(lines, target) {
         return false;
     }
-    if is_set(op) & (given == 6) & (slot == 3) {
+    if is_set(op) & (given == codes::NAME) & (slot == codes::ADDRESS) {
         return is_address_field(sheet, lines, name(sheet, lines, target));
     }
     false
@@ -83,7 +86,7 @@ fn narrow_at(sheet: &[u8], lines: &[u16], target: usize) -> u64
 fn wraps_narrow(lines: &[u16], value: usize, max: u64) -> bool
     ensures { λ r. ⌜ r ≡ wrapsNarrow (now (lines .entry)) value max ⌝ }
 {
-    (max != 0) & (kind(lines, value) == 33)
+    (max != 0) & (kind(lines, value) == kinds::WRAPPING)
 }
 
 // Whether a literal above its largest number reaches a narrow slot.
@@ -93,7 +96,7 @@ fn above_narrow(sheet: &[u8], lines: &[u16], value: usize, max: u64) -> bool
     if max == 0 {
         return false;
     }
-    if kind(lines, value) != 20 {
+    if kind(lines, value) != kinds::INT {
         return false;
     }
     exceeds(name(sheet, lines, value), max)
@@ -107,10 +110,10 @@ fn from_deploy_params(sheet: &[u8], lines: &[u16], env: Env, value: usize) -> bo
     if !env.genesis {
         return false;
     }
-    if kind(lines, value) != 30 {
+    if kind(lines, value) != kinds::DOT {
         return false;
     }
-    if kind(lines, value + 1) != 21 {
+    if kind(lines, value + 1) != kinds::ID {
         return false;
     }
     is_word(name(sheet, lines, value + 1), b"deploy_params")
@@ -135,7 +138,7 @@ fn slot_fits(
     if compatible(slot, given) {
         return true;
     }
-    if (slot == 9) & (given == 10) {
+    if (slot == codes::COLLECTION) & (given == codes::UNKNOWN) {
         return from_deploy_params(sheet, lines, env, value);
     }
     false
@@ -155,7 +158,7 @@ pub fn judge_assign(
     requires { ⌜ AssignAt (now sheet) (now lines) target value ⌝ }
     ensures { λ r. ⌜ JudgesAssign (now (sheet .entry)) (now (lines .entry)) env op target value slot given r ⌝ }
 {
-    if slot == 4 {
+    if slot == codes::ASSET {
         return Done::Refused(Refusal::AssetSlot(target));
     }
     if becomes_address(sheet, lines, op, target, slot, given) {
@@ -171,6 +174,6 @@ pub fn judge_assign(
     if slot_fits(sheet, lines, env, op, value, slot, given) {
         Done::Fine
     } else {
-        Done::Refused(Refusal::Slot { value, slot, given })
+        Done::Refused(Refusal::SlotMismatch { value, slot, given })
     }
 }

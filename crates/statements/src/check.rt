@@ -1,16 +1,19 @@
 // `check_stmt_types`, `expect_predicate`, and the default of a field.
 use crate::assign::judge_assign;
-use declared::Done;
-use declared::Refusal;
 use env::Env;
 use env::Typed;
 use env::keyed_of;
 use env::ty_of_ident;
+use grammar::kinds;
+use grammar::ops;
+use refusals::Done;
+use refusals::Refusal;
+use rules::codes;
 use sheet::end;
 use sheet::kind;
 use sheet::name;
 use sheet::op;
-use text::place_in;
+use text::index_in;
 use typing::check_keyed_call;
 use typing::ty_of;
 ghost use mathlib.Core.Path.{_≡_};
@@ -23,6 +26,7 @@ ghost use Rattle.rules.specs.Text.{isOne};
 ghost use Rattle.env.specs.Force.{envOf};
 ghost use Rattle.typing.specs.Asks.{Asks, Does};
 ghost use Rattle.statements.specs.Checked.{DefaultIn, Gives, noDefaults, StmtIn, StmtOf, ValueIn};
+ghost use Rattle.grammar.specs.Kinds as kinds;
 
 // The condition at line i is a boolean.
 pub fn expect_predicate(sheet: &[u8], lines: &[u16], env: Env, table: &mut [u8], i: usize) -> Done
@@ -31,7 +35,7 @@ pub fn expect_predicate(sheet: &[u8], lines: &[u16], env: Env, table: &mut [u8],
 {
     match ty_of(sheet, lines, env, table, i) {
         Typed::Is(ty) => {
-            if (ty == 2) | (ty == 10) {
+            if (ty == codes::BOOLEAN) | (ty == codes::UNKNOWN) {
                 Done::Fine
             } else {
                 Done::Refused(Refusal::Predicate(i))
@@ -63,7 +67,7 @@ fn check_value(
 
 // The target is typed before the value.
 fn check_assign(sheet: &[u8], lines: &[u16], env: Env, table: &mut [u8], i: usize) -> Done
-    requires { ⌜ StmtOf 18 (now sheet) (now lines) env (now table) i ⌝ }
+    requires { ⌜ StmtOf kinds.assign (now sheet) (now lines) env (now table) i ⌝ }
     ensures { λ r. ⌜ Does (now (sheet .entry)) (checkStmtTypes (envOf (now (sheet .entry)) (now (table .entry)) env) (stmtAt (now (sheet .entry)) i)) (now (table .entry)) r (now (table .exit)) ⌝ }
 {
     match ty_of(sheet, lines, env, table, i + 1) {
@@ -80,7 +84,7 @@ fn check_keyed_use(sheet: &[u8], lines: &[u16], env: Env, table: &mut [u8], i: u
     requires { ⌜ Asks (now sheet) (now lines) env (now table) i ⌝ }
     ensures { λ r. ⌜ Does (now (sheet .entry)) (checkKeyedUse (envOf (now (sheet .entry)) (now (table .entry)) env) (exprAt (now (sheet .entry)) i)) (now (table .entry)) r (now (table .exit)) ⌝ }
 {
-    if kind(lines, i) != 31 {
+    if kind(lines, i) != kinds::CALL {
         return Done::Fine;
     }
     let keyed = keyed_of(sheet, lines, env, i + 1);
@@ -88,7 +92,7 @@ fn check_keyed_use(sheet: &[u8], lines: &[u16], env: Env, table: &mut [u8], i: u
 }
 
 fn check_do(sheet: &[u8], lines: &[u16], env: Env, table: &mut [u8], i: usize) -> Done
-    requires { ⌜ StmtOf 19 (now sheet) (now lines) env (now table) i ⌝ }
+    requires { ⌜ StmtOf kinds.do' (now sheet) (now lines) env (now table) i ⌝ }
     ensures { λ r. ⌜ Does (now (sheet .entry)) (checkStmtTypes (envOf (now (sheet .entry)) (now (table .entry)) env) (stmtAt (now (sheet .entry)) i)) (now (table .entry)) r (now (table .exit)) ⌝ }
 {
     match ty_of(sheet, lines, env, table, i + 1) {
@@ -103,10 +107,10 @@ pub fn check_stmt_types(sheet: &[u8], lines: &[u16], env: Env, table: &mut [u8],
     ensures { λ r. ⌜ Does (now (sheet .entry)) (checkStmtTypes (envOf (now (sheet .entry)) (now (table .entry)) env) (stmtAt (now (sheet .entry)) i)) (now (table .entry)) r (now (table .exit)) ⌝ }
 {
     let k = kind(lines, i);
-    if k == 18 {
+    if k == kinds::ASSIGN {
         return check_assign(sheet, lines, env, table, i);
     }
-    if k == 19 {
+    if k == kinds::DO {
         return check_do(sheet, lines, env, table, i);
     }
     Done::Fine
@@ -116,7 +120,7 @@ pub fn check_stmt_types(sheet: &[u8], lines: &[u16], env: Env, table: &mut [u8],
 fn no_default(ty: &[u8]) -> bool
     ensures { λ r. ⌜ r ≡ isOne (now (ty .entry)) noDefaults ⌝ }
 {
-    place_in(ty, b"Map Registry GuardianSet Q_Asset ") < 4
+    index_in(ty, b"Map Registry GuardianSet Q_Asset ") < 4
 }
 
 // The default of the field at line field is assigned to the last field of its name.
@@ -129,5 +133,14 @@ pub fn check_default(sheet: &[u8], lines: &[u16], env: Env, table: &mut [u8], fi
         return Done::Refused(Refusal::Default { field, value });
     }
     let slot = ty_of_ident(sheet, lines, env, table, name(sheet, lines, field));
-    check_value(sheet, lines, env, table, 0, field, value, slot)
+    check_value(
+        sheet,
+        lines,
+        env,
+        table,
+        ops::ASSIGN_SET,
+        field,
+        value,
+        slot,
+    )
 }

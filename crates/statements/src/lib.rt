@@ -1,4 +1,4 @@
-// Types of statements, conditions and defaults: of module 5 `check_stmt_types` and `expect_predicate`.
+// Types of statements, conditions and defaults.
 mod assign;
 mod check;
 

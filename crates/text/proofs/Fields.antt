@@ -62,10 +62,10 @@ module _ (f : List ℕ) (i v most : ℕ) (r : Number) (e : r ≡ judge most (all
 -- a number that is read is at most the largest
 pub number-most : (most v : ℕ) (f : List ℕ) → numberOf most f ≡ Is v → v ≤ most
 unfolding numberOf
-number-most most v f e = go (isDecimal f && leb (valueFrom 0 f) most) refl e
+number-most most v f e = by-cases (isDecimal f && leb (valueFrom 0 f) most) refl e
   where
-    go : (t : Bool) → (isDecimal f && leb (valueFrom 0 f) most) ≡ t → cond t (Is (valueFrom 0 f)) Bad ≡ Is v → v ≤ most
-    go true q w =
+    by-cases : (t : Bool) → (isDecimal f && leb (valueFrom 0 f) most) ≡ t → cond t (Is (valueFrom 0 f)) Bad ≡ Is v → v ≤ most
+    by-cases true q w =
         let n : valueFrom 0 f ≡ v = cc in
         rw n at (leb-true (valueFrom 0 f) most (and-eq-true-iff (isDecimal f) (leb (valueFrom 0 f) most) .0 q .1))
-    go false q w = absurd (let z : _≡_ {A = ℕ} 0 1 = cc in omega arith)
+    by-cases false q w = absurd (let z : _≡_ {A = ℕ} 0 1 = cc in omega arith)

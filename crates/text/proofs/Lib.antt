@@ -2,3 +2,4 @@ pub mod Pieces
 pub mod Words
 pub mod Fields
 pub mod Tests
+pub mod Filling

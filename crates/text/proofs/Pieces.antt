@@ -15,11 +15,11 @@ module _ (p : ℕ → Bool) where
   pub upto-front : (l : List ℕ) → take (length (upto p l)) l ≡ upto p l
   unfolding upto
   upto-front [] = refl
-  upto-front (b ∷ bs) = go (p b) (upto-front bs)
+  upto-front (b ∷ bs) = by-cases (p b) (upto-front bs)
     where
-      go : (t : Bool) → take (length (upto p bs)) bs ≡ upto p bs → take (length (cond t [] (b ∷ upto p bs))) (b ∷ bs) ≡ cond t [] (b ∷ upto p bs)
-      go true h = refl
-      go false h = ap (λ l. b ∷ l) h
+      by-cases : (t : Bool) → take (length (upto p bs)) bs ≡ upto p bs → take (length (cond t [] (b ∷ upto p bs))) (b ∷ bs) ≡ cond t [] (b ∷ upto p bs)
+      by-cases true h = refl
+      by-cases false h = ap (λ l. b ∷ l) h
 
   -- the pieces of b ∷ bs, where t says whether b ends one
   abbrev ended-at : List ℕ → ℕ → List ℕ → Bool → List (List ℕ)
@@ -30,37 +30,37 @@ module _ (p : ℕ → Bool) where
       → ended p w l ≡ (w ++ upto p l) ∷ ended p [] (drop (suc (length (upto p l))) l)
   unfolding upto ended
   ended-next w [] h = absurd (omega arith)
-  ended-next w (b ∷ bs) h = go (p b) h (ended-next (w ++ (b ∷ [])) bs)
+  ended-next w (b ∷ bs) h = by-cases (p b) h (ended-next (w ++ (b ∷ [])) bs)
     where
-      go : (t : Bool) → length (cond t [] (b ∷ upto p bs)) < suc (length bs)
+      by-cases : (t : Bool) → length (cond t [] (b ∷ upto p bs)) < suc (length bs)
           → (length (upto p bs) < length bs
           → ended p (w ++ (b ∷ [])) bs ≡ ((w ++ (b ∷ [])) ++ upto p bs) ∷ ended p [] (drop (suc (length (upto p bs))) bs))
           → ended-at w b bs t
           ≡ (w ++ cond t [] (b ∷ upto p bs)) ∷ ended p [] (drop (suc (length (cond t [] (b ∷ upto p bs)))) (b ∷ bs))
-      go true q f = rw (append-nil w)
-      go false q f = f (omega arith) ∙ rw (append-assoc w (b ∷ []) (upto p bs))
+      by-cases true q f = rw (append-nil w)
+      by-cases false q f = f (omega arith) ∙ rw (append-assoc w (b ∷ []) (upto p bs))
 
   -- where no byte ends it there is no piece
   pub ended-none : (w l : List ℕ) → length l ≤ length (upto p l) → ended p w l ≡ []
   unfolding upto ended
   ended-none w [] h = refl
-  ended-none w (b ∷ bs) h = go (p b) h (ended-none (w ++ (b ∷ [])) bs)
+  ended-none w (b ∷ bs) h = by-cases (p b) h (ended-none (w ++ (b ∷ [])) bs)
     where
-      go : (t : Bool) → suc (length bs) ≤ length (cond t [] (b ∷ upto p bs)) → (length bs ≤ length (upto p bs) → ended p (w ++ (b ∷ [])) bs ≡ [])
+      by-cases : (t : Bool) → suc (length bs) ≤ length (cond t [] (b ∷ upto p bs)) → (length bs ≤ length (upto p bs) → ended p (w ++ (b ∷ [])) bs ≡ [])
           → ended-at w b bs t ≡ []
-      go true q f = absurd (omega arith)
-      go false q f = f (omega arith)
+      by-cases true q f = absurd (omega arith)
+      by-cases false q f = f (omega arith)
 
   -- how many pieces there are does not depend on the start of the first
   ended-any : (w l : List ℕ) → length (ended p w l) ≡ length (ended p [] l)
   unfolding ended
   ended-any w [] = refl
-  ended-any w (b ∷ bs) = go (p b) (ended-any (w ++ (b ∷ [])) bs) (ended-any (b ∷ []) bs)
+  ended-any w (b ∷ bs) = by-cases (p b) (ended-any (w ++ (b ∷ [])) bs) (ended-any (b ∷ []) bs)
     where
-      go : (t : Bool) → length (ended p (w ++ (b ∷ [])) bs) ≡ length (ended p [] bs) → length (ended p (b ∷ []) bs) ≡ length (ended p [] bs)
+      by-cases : (t : Bool) → length (ended p (w ++ (b ∷ [])) bs) ≡ length (ended p [] bs) → length (ended p (b ∷ []) bs) ≡ length (ended p [] bs)
           → length (ended-at w b bs t) ≡ length (ended-at [] b bs t)
-      go true h k = refl
-      go false h k = h ∙ sym k
+      by-cases true h k = refl
+      by-cases false h k = h ∙ sym k
 
 -- a, behind the start w of a piece, stops where a piece ends
 abbrev pub AllEnded : (ℕ → Bool) → List ℕ → List ℕ → Type 0
@@ -73,34 +73,34 @@ pub ended-append : (p : ℕ → Bool) (w a b : List ℕ) → AllEnded p w a → 
 unfolding ended
 ended-append p [] [] b h = refl
 ended-append p (x ∷ w) [] b h = absurd h
-ended-append p w (c ∷ a) b h = go (p c) h (λ v q. ended-append p v a b q)
+ended-append p w (c ∷ a) b h = by-cases (p c) h (λ v q. ended-append p v a b q)
   where
-    go : (t : Bool) → AllEnded p (elim t [ true ↦ [] | false ↦ w ++ (c ∷ []) ]) a → ((v : List ℕ) → AllEnded p v a → ended p v (a ++ b) ≡ ended p v a ++ ended p [] b)
+    by-cases : (t : Bool) → AllEnded p (elim t [ true ↦ [] | false ↦ w ++ (c ∷ []) ]) a → ((v : List ℕ) → AllEnded p v a → ended p v (a ++ b) ≡ ended p v a ++ ended p [] b)
         → ended-at p w c (a ++ b) t ≡ ended-at p w c a t ++ ended p [] b
-    go true q k = ap (λ l. w ∷ l) (k [] q)
-    go false q k = k (w ++ (c ∷ [])) q
+    by-cases true q k = ap (λ l. w ∷ l) (k [] q)
+    by-cases false q k = k (w ++ (c ∷ [])) q
 
 -- a piece ends where a byte passes the test, or before
 pub upto-most : (p : ℕ → Bool) (l : List ℕ) (k : ℕ) → k < length l → p (getD l k 0) ≡ true → length (upto p l) ≤ k
 unfolding upto
 upto-most p [] k h e = absurd (omega arith)
 upto-most p (b ∷ bs) zero h e = rw e (omega arith)
-upto-most p (b ∷ bs) (suc k) h e = go (p b) (upto-most p bs k (omega arith) e)
+upto-most p (b ∷ bs) (suc k) h e = by-cases (p b) (upto-most p bs k (omega arith) e)
   where
-    go : (t : Bool) → length (upto p bs) ≤ k → length (cond t [] (b ∷ upto p bs)) ≤ suc k
-    go true h = omega arith
-    go false h = omega arith
+    by-cases : (t : Bool) → length (upto p bs) ≤ k → length (cond t [] (b ∷ upto p bs)) ≤ suc k
+    by-cases true h = omega arith
+    by-cases false h = omega arith
 
 -- the byte that ends it passes the test
 pub upto-stop : (p : ℕ → Bool) (l : List ℕ) → length (upto p l) < length l → p (getD l (length (upto p l)) 0) ≡ true
 unfolding upto
 upto-stop p [] h = absurd (omega arith)
-upto-stop p (b ∷ bs) h = go (p b) refl h (upto-stop p bs)
+upto-stop p (b ∷ bs) h = by-cases (p b) refl h (upto-stop p bs)
   where
-    go : (t : Bool) → p b ≡ t → length (cond t [] (b ∷ upto p bs)) < suc (length bs) → (length (upto p bs) < length bs → p (getD bs (length (upto p bs)) 0) ≡ true)
+    by-cases : (t : Bool) → p b ≡ t → length (cond t [] (b ∷ upto p bs)) < suc (length bs) → (length (upto p bs) < length bs → p (getD bs (length (upto p bs)) 0) ≡ true)
         → p (getD (b ∷ bs) (length (cond t [] (b ∷ upto p bs))) 0) ≡ true
-    go true e h f = e
-    go false e h f = f (omega arith)
+    by-cases true e h f = e
+    by-cases false e h f = f (omega arith)
 
 -- the part of s up to the end of the piece at `at` is that piece
 pub upto-between : (p : ℕ → Bool) (s : List ℕ) (at end : ℕ) → end ≡ at + length (upto p (drop at s)) → take (end - at) (drop at s) ≡ upto p (drop at s)
@@ -150,11 +150,11 @@ one-most false r e = omega arith
 module _ (p : ℕ → Bool) (s : List ℕ) (i k n : ℕ) (e : n ≡ k + length (ended p [] (drop i s))) where
   pub count-step : (r : ℕ) → r ≡ one (p (getD s i 0)) → i < length s → n ≡ k + r + length (ended p [] (drop (i + 1) s))
   unfolding ended one
-  count-step r o h = rw o (go (p (getD s i 0)) refl)
+  count-step r o h = rw o (by-cases (p (getD s i 0)) refl)
     where
-      go : (t : Bool) → p (getD s i 0) ≡ t → n ≡ k + one t + length (ended p [] (drop (i + 1) s))
-      go true t = e ∙ rw (add-one i, drop-cons s i 0 h, ended, t) (omega arith)
-      go false t =
+      by-cases : (t : Bool) → p (getD s i 0) ≡ t → n ≡ k + one t + length (ended p [] (drop (i + 1) s))
+      by-cases true t = e ∙ rw (add-one i, drop-cons s i 0 h, ended, t) (omega arith)
+      by-cases false t =
           e ∙ rw (add-one i, drop-cons s i 0 h, ended, t, add-zero k) (ap (λ m. k + m) (ended-any p (getD s i 0 ∷ []) (drop (suc i) s)))
 
   pub count-all : (j r : ℕ) → Counted p s i j r → n ≡ k + r + length (ended p [] (drop j s))

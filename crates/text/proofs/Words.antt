@@ -11,7 +11,7 @@ use lib.Seq.{drop-cons}
 use borrow.Author.Tests.{eq-eqb, ne-eqb, eqb-true}
 use lib.Dec.{eqb}
 use Rattle.text.specs.Text.{same, either, upto, ended}
-use Rattle.text.specs.Word.{split, place}
+use Rattle.text.specs.Word.{split, indexIn}
 use Rattle.text.proofs.Pieces.{upto-between, ended-none, piece-next}
 
 -- lists of two lengths are not the same
@@ -37,11 +37,11 @@ unfolding same
 same-is [] [] e = refl
 same-is [] (y ∷ ys) e = absurd (true≢false (sym e))
 same-is (x ∷ xs) [] e = absurd (true≢false (sym e))
-same-is (x ∷ xs) (y ∷ ys) e = go (eqb x y) refl e (same-is xs ys)
+same-is (x ∷ xs) (y ∷ ys) e = by-cases (eqb x y) refl e (same-is xs ys)
   where
-    go : (t : Bool) → eqb x y ≡ t → cond t (same xs ys) false ≡ true → (same xs ys ≡ true → xs ≡ ys) → x ∷ xs ≡ y ∷ ys
-    go true q f h = rw (eqb-true x y q) (ap (λ zs. y ∷ zs) (h f))
-    go false q f h = absurd (true≢false (sym f))
+    by-cases : (t : Bool) → eqb x y ≡ t → cond t (same xs ys) false ≡ true → (same xs ys ≡ true → xs ≡ ys) → x ∷ xs ≡ y ∷ ys
+    by-cases true q f h = rw (eqb-true x y q) (ap (λ zs. y ∷ zs) (h f))
+    by-cases false q f h = absurd (true≢false (sym f))
 
 -- A turn of the comparison: r is the answer, and i the place of the turn.
 module _ (a b : List ℕ) (i : ℕ) (r : Bool) (e : r ≡ same (drop i a) (drop i b)) where
@@ -58,7 +58,7 @@ module _ (a b : List ℕ) (i : ℕ) (r : Bool) (e : r ≡ same (drop i a) (drop 
   same-end ha hb = sym (e ∙ rw (drop-of-length-le a ha, drop-of-length-le b hb))
 
 -- A turn of the search in a table: n is the place, k the words passed, start where the next one starts, and end where it ends.
-module _ (p t : List ℕ) (k start end n : ℕ) (e : n ≡ k + place p (split (drop start t)))
+module _ (p t : List ℕ) (k start end n : ℕ) (e : n ≡ k + indexIn p (split (drop start t)))
     (f : end ≡ start + length (upto (either 32 32) (drop start t))) where
   abbrev part : List ℕ
   part = take (end - start) (drop start t)
@@ -71,18 +71,18 @@ module _ (p t : List ℕ) (k start end n : ℕ) (e : n ≡ k + place p (split (d
   next h = rw (word, f) (piece-next (either 32 32) t start (omega arith))
 
   pub place-hit : end < length t → same p part ≡ true → k ≡ n
-  unfolding place
+  unfolding indexIn
   place-hit h hit = sym (e ∙ rw (next h, hit) (add-zero k))
 
-  pub place-miss : end < length t → same p part ≡ false → n ≡ k + 1 + place p (split (drop (end + 1) t))
-  unfolding place
+  pub place-miss : end < length t → same p part ≡ false → n ≡ k + 1 + indexIn p (split (drop (end + 1) t))
+  unfolding indexIn
   place-miss h miss = e ∙ rw (next h, miss) (omega arith)
 
   -- what no space ends is no word
   pub place-rest : length t ≤ end → k ≡ n
-  unfolding place split
+  unfolding indexIn split
   place-rest h = sym (e ∙ rw (ended-none (either 32 32) [] (drop start t) (rw (length-drop start t) (omega arith))) (add-zero k))
 
-pub place-end : (p t : List ℕ) (k start n : ℕ) → n ≡ k + place p (split (drop start t)) → length t ≤ start → k ≡ n
-unfolding place split ended
+pub place-end : (p t : List ℕ) (k start n : ℕ) → n ≡ k + indexIn p (split (drop start t)) → length t ≤ start → k ≡ n
+unfolding indexIn split ended
 place-end p t k start n e h = sym (e ∙ rw (drop-of-length-le t h) (add-zero k))

@@ -1,4 +1,4 @@
--- The rules of a field, from document 01, 'The sheet'.
+-- The rules of a field: NAME, TEXT and decimals.
 use Prim.Native.Nat.{ℕ, _+_, _-_, _*_}
 use mathlib.Core.List.{List, [], _∷_}
 use mathlib.Core.Bool.{Bool, true, false, cond, not, _&&_, _||_}

@@ -1,5 +1,5 @@
 -- Texts as lists of bytes, and their pieces.
-use Prim.Native.Nat.{ℕ, _+_, _-_, _≤_, _<_}
+use Prim.Native.Nat.{ℕ, zero, suc, _+_, _-_, _≤_, _<_}
 use Prim.Native.Char.{code}
 use Prim.Native.String.{String, [] as []ˢ, _∷_ as _∷ˢ_}
 use mathlib.Core.List.{List, [], _∷_, _++_}
@@ -19,6 +19,11 @@ same [] [] = true
 same [] (y ∷ ys) = false
 same (x ∷ xs) [] = false
 same (x ∷ xs) (y ∷ ys) = cond (eqb x y) (same xs ys) false
+
+-- x, n times
+unfoldable pub copies : {A : Type 0} → ℕ → A → List A
+copies zero x = []
+copies (suc n) x = x ∷ copies n x
 
 -- whether every byte of a text passes the test
 unfoldable pub all : (ℕ → Bool) → List ℕ → Bool

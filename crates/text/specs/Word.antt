@@ -9,6 +9,6 @@ unfoldable pub split : List ℕ → List (List ℕ)
 split t = ended (either 32 32) [] t
 
 -- the place of p among ws: the number of words before the first that is p
-unfoldable pub place : List ℕ → List (List ℕ) → ℕ
-place p [] = 0
-place p (w ∷ ws) = cond (same p w) 0 (1 + place p ws)
+unfoldable pub indexIn : List ℕ → List (List ℕ) → ℕ
+indexIn p [] = 0
+indexIn p (w ∷ ws) = cond (same p w) 0 (1 + indexIn p ws)

@@ -1,4 +1,5 @@
 // Where the pieces of a text end.
+use crate::element::wide;
 ghost use mathlib.Core.List.{[]};
 ghost use mathlib.Core.Path.{_≡_};
 ghost use Prim.Native.Nat.{_+_, _<_};
@@ -12,7 +13,7 @@ fn either(a: u8, b: u8, x: u8) -> bool
     (x == a) | (x == b)
 }
 
-// Where the first a or b from a position on stands; the length where there is none.
+// Where the first a or b from a position on stands. Where there is none: the length, or the position itself if it is beyond that.
 pub fn find(s: &[u8], from: usize, a: u8, b: u8) -> usize
     ensures { λ r. ⌜ r ≡ from + length (upto (eitherOf a b) (drop from (now (s .entry)))) ⌝ }
 {
@@ -31,12 +32,6 @@ fn ends(a: u8, b: u8, x: u8) -> u8
     ensures { λ r. ⌜ r ≡ one (eitherOf a b x) ⌝ }
 {
     if either(a, b, x) { 1 } else { 0 }
-}
-
-fn wide(x: u8) -> usize
-    ensures { λ r. ⌜ r ≡ x ⌝ }
-{
-    x as usize
 }
 
 // The end of a part from a position on, of 255 bytes or of all that are left.

@@ -2,7 +2,7 @@
 use crate::piece::find;
 ghost use mathlib.Core.Path.{_≡_};
 ghost use Rattle.text.specs.Text.{same};
-ghost use Rattle.text.specs.Word.{place, split};
+ghost use Rattle.text.specs.Word.{indexIn, split};
 
 // Whether part and word hold the same bytes.
 pub fn is_word(part: &[u8], word: &[u8]) -> bool
@@ -22,8 +22,8 @@ pub fn is_word(part: &[u8], word: &[u8]) -> bool
 }
 
 // The place of part among the words of a table, each of which is ended by a space; the number of words where it is none.
-pub fn place_in(part: &[u8], table: &[u8]) -> usize
-    ensures { λ r. ⌜ r ≡ place (now (part .entry)) (split (now (table .entry))) ⌝ }
+pub fn index_in(part: &[u8], table: &[u8]) -> usize
+    ensures { λ r. ⌜ r ≡ indexIn (now (part .entry)) (split (now (table .entry))) ⌝ }
 {
     let mut k = 0;
     let mut start = 0;

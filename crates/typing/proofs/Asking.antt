@@ -12,16 +12,15 @@ use lib.ListN.{length, getD, set}
 use Rattle.sheet.specs.Scratch.{kindAt, nameAt}
 use Rattle.rules.specs.Ast.{Wrap, line}
 use Rattle.rules.specs.Asking.{Ty, code, ok, Rule}
-use Rattle.rules.specs.Kept.{Table, kept, retyped}
+use Rattle.rules.specs.Kept.{Table, kept, retyped, tyFrom}
 use Rattle.rules.specs.Typing.{stale, asked, typing, askOf, tyOf, tyOfDot}
 use Rattle.rules.specs.Standing.{exprAt}
 use Rattle.rules.proofs.AnyTable.{from-table, again, first-time}
 use Rattle.rules.proofs.Binding.{kept-length}
 use Rattle.rules.proofs.Exprs.{line-at, dot-at, Wrapped, wrap-at}
 use Rattle.rules.proofs.Standing.{row-first}
-use Rattle.declared.specs.Codes.{tyFrom}
-use Rattle.declared.specs.declared.refusal.Refusal.{Refusal}
-use Rattle.declared.proofs.Codes.{code-of, code-is, from-code, told, untold}
+use Rattle.refusals.specs.declared.refusal.Refusal.{Refusal}
+use Rattle.lookups.proofs.Codes.{code-of, code-is, from-code, code-from, untold}
 use Rattle.env.specs.Answers.{typedOf}
 use Rattle.env.specs.Force.{envOf, ExprIn}
 use Rattle.env.specs.declared.env.Env.{Env}
@@ -29,6 +28,8 @@ use Rattle.env.specs.declared.judge.Typed.{Typed}
 use Rattle.env.specs.declared.judge.Typed.the-variants.{Is, Refused}
 use Rattle.typing.specs.Asks.{answerMark, Asks, AsksAgain, AsksAt, AsksLeaf, Types, TypesLeaf}
 use Rattle.typing.proofs.Onward.{mark-code}
+use Rattle.grammar.specs.Kinds as kinds
+use Rattle.rules.specs.Codes as codes
 
 -- a typing leaves as many marks as there were
 pub types-length : (s : List ℕ) (p : Rule Ty) (T : Table) (a : Typed) (U : Table) → Types s p T a U → length U ≡ length T
@@ -44,16 +45,16 @@ module _ (s S : List ℕ) (env : Env) (T : Table) (i : ℕ) (h : Asks s S env T 
   pub of-room : i < length T
   of-room = omega (arith, h .here .within, h .ready .room)
 
-  module _ (known : ℕ) (b : Bool) (e : known ≡ getD T i 0) (t : b ≡ (leb 1 known && leb known 10)) where
+  module _ (known : ℕ) (b : Bool) (e : known ≡ getD T i 0) (t : b ≡ (leb codes.int known && leb known codes.unknown)) where
     -- answered from the table
     pub of-known : (q : Bool) → b ≡ true → q ≡ stale (envOf s [] env) (exprAt s i) → q ≡ false → Types s (tyOf (envOf s T env) (exprAt s i)) T (Is known) T
     unfolding envOf typedOf stale
     of-known q y x z =
-        let c = told known (sym t ∙ y) in
+        let c = code-from known (sym t ∙ y) in
         record { gives = from-table (envOf s T env) (exprAt s i) T _ (sym x ∙ z) (rw (asks-line, ← e) (code-of known c .0)); valid = c }
 
     pub of-again : (q : Bool) → b ≡ true → q ≡ stale (envOf s [] env) (exprAt s i) → q ≡ true → AsksAgain s S env T i
-    of-again q y x z = record { asks = h; marked = rw e at (told known (sym t ∙ y)); stale = sym x ∙ z }
+    of-again q y x z = record { asks = h; marked = rw e at (code-from known (sym t ∙ y)); stale = sym x ∙ z }
 
     -- typed for the first time
     pub of-fresh : (a : Typed) (U : Table) (v : ℕ) → b ≡ false → Types s (typing (envOf s T env) (exprAt s i)) T a U → v ≡ answerMark a
@@ -92,27 +93,27 @@ module _ (s S : List ℕ) (env : Env) (T : Table) (i : ℕ) (h : AsksAgain s S e
     unfolding retyped typedOf
     again-ok c e = record { gives = retype ∙ rw e refl; valid = rw e at (k .valid) }
 
-    pub again-no : (r : Refusal) → a ≡ Refused r → Types s (tyOf (envOf s T env) (exprAt s i)) T (Refused r) (set U i 11)
+    pub again-no : (r : Refusal) → a ≡ Refused r → Types s (tyOf (envOf s T env) (exprAt s i)) T (Refused r) (set U i codes.refused)
     unfolding retyped typedOf
     again-no r e = record { gives = retype ∙ rw e refl; valid = tt }
 
 -- ------------------------------------------------------------ by the line's kind
 
 module _ (s S : List ℕ) (env : Env) (T : Table) (i : ℕ) (h : Asks s S env T i) (k : ℕ) (e : k ≡ kindAt S i) where
-  pub kind-leaf : k < 28 → AsksLeaf s S env T i
+  pub kind-leaf : k < kinds.un → AsksLeaf s S env T i
   kind-leaf l = record { asks = h; kind = omega arith }
 
   pub kind-is : (m : ℕ) → k ≡ m → AsksAt m s S env T i
   kind-is m q = record { asks = h; kind = sym e ∙ q }
 
-  pub typed-dot : (x : List ℕ) (c : ℕ) → k ≡ 30 → x ≡ nameAt s S i → c ≡ code (tyOfDot x) → Types s (typing (envOf s T env) (exprAt s i)) T (Is c) T
+  pub typed-dot : (x : List ℕ) (c : ℕ) → k ≡ kinds.dot → x ≡ nameAt s S i → c ≡ code (tyOfDot x) → Types s (typing (envOf s T env) (exprAt s i)) T (Is c) T
   unfolding typing typedOf kept
   typed-dot x c q n f =
       let d = dot-at (h .ready .force .loaded) (h .here) (sym e ∙ q) in
       record { gives = rw (d .0, ← n, from-code c (tyOfDot x) f) refl; valid = rw f (code-is (tyOfDot x)) }
 
   -- `checked` and `wrapping`
-  module _ (a : k ≢ 28) (b : k ≢ 29) (c : k ≢ 30) (f : k ≢ 31) (g : 28 ≤ k) where
+  module _ (a : k ≢ kinds.un) (b : k ≢ kinds.bin) (c : k ≢ kinds.dot) (f : k ≢ kinds.call) (g : kinds.un ≤ k) where
     wraps : (w : Wrap) × Wrapped (h .ready .force .loaded) (h .here) w
     wraps = wrap-at (h .ready .force .loaded) (h .here) (omega arith)
 

@@ -2,32 +2,32 @@
 use mathlib.Core.Logic.{_≢_}
 use mathlib.Core.Path.{_≡_, refl, sym, ap, _∙_}
 use mathlib.Core.List.{List, []}
-use Prim.Native.Nat.{ℕ, suc, _+_, _*_, _-_, _/_, _<_}
+use Prim.Native.Nat.{ℕ, suc, _+_, _*_, _-_, _<_}
 use native.Mathlib.Numerals.{add-one}
 use native.Mathlib.Omega.{arith}
 use borrow.Author.Needs.{needs}
 use lib.ListN.{length}
 use Rattle.grammar.specs.Grammar as grammar
-use Rattle.sheet.specs.Scratch.{entry, endAt}
+use Rattle.sheet.specs.Scratch.{endAt, lineCount, callArgCount}
 use Rattle.sheet.specs.Say.{spanAt}
 use Rattle.sheet.specs.Tree.{takeNodes}
 use Rattle.rules.specs.Ast.{call, more, exprsOf}
 use Rattle.rules.specs.Asking.{Ty, code, ok, refused, Rule, ret, _>>_}
-use Rattle.rules.specs.Kept.{Table, kept}
-use Rattle.rules.specs.Typing.{asked, askOf, tyOf, typing, typings, typeCall, askEach, checkKeyedCall, expectAssetReceiver, expectKeyedOp, isPool, fieldOf, keyedField, tyOfCall}
+use Rattle.rules.specs.Kept.{Table, kept, tyFrom}
+use Rattle.rules.specs.Typing.{asked, askOf, tyOf, typing, typings, typeCall, askEach, checkKeyedCall, expectAssetReceiver, expectKeyedOp, isPool, stateFieldOf, keyedField, tyOfCall}
 use Rattle.rules.specs.Standing.{exprAt, exprsAt, Row}
 use Rattle.rules.proofs.Binding.{kept-length, then-ok, then-refused}
 use Rattle.rules.proofs.Exprs.{call-at}
-use Rattle.rules.proofs.Standing.{exprs-next, row-first, row-rest}
-use Rattle.declared.specs.Codes.{tyFrom}
-use Rattle.declared.specs.Found.{foundField}
-use Rattle.declared.specs.Refusal.{refusalOf, doneOf}
-use Rattle.declared.specs.declared.model.Found.{Found}
-use Rattle.declared.specs.declared.refusal.Refusal.{Refusal}
-use Rattle.declared.specs.declared.refusal.Done.{Done}
-use Rattle.declared.specs.declared.refusal.Done.the-variants.{Fine, Refused}
-use Rattle.declared.proofs.Codes.{code-is, from-code}
-use Rattle.declared.specs.Answers.{Answers}
+use Rattle.rules.proofs.Rows.{row-some, exprs-some}
+use Rattle.rules.proofs.Standing.{row-first, row-rest}
+use Rattle.lookups.specs.Found.{foundField}
+use Rattle.refusals.specs.Refusal.{refusalOf, doneOf}
+use Rattle.lookups.specs.declared.model.Found.{Found}
+use Rattle.refusals.specs.declared.refusal.Refusal.{Refusal}
+use Rattle.refusals.specs.declared.refusal.Done.{Done}
+use Rattle.refusals.specs.declared.refusal.Done.the-variants.{Fine, Refused}
+use Rattle.lookups.proofs.Codes.{code-is, from-code}
+use Rattle.refusals.specs.Answers.{Answers}
 use Rattle.env.specs.Answers.{typedOf}
 use Rattle.env.specs.Calls.{keyedOf, KeyedOf, Callee, opRule, callTy}
 use Rattle.env.proofs.Methods.{uses-op, uses-type}
@@ -39,6 +39,7 @@ use Rattle.typing.specs.Asks.{calleeAt, argsAt, typeKeyed, typeArgs, Ask
 use Rattle.typing.proofs.Asking.{types-length}
 use Rattle.typing.proofs.Onward.{Onward, onward, no-value-next, off-type, off-each}
 use Rattle.typing.proofs.Operators.{gave}
+use Rattle.grammar.specs.Kinds as kinds
 
 pub does-length : (s : List ℕ) (p : Rule Unit) (T : Table) (d : Done) (U : Table) → Does s p T d U → length U ≡ length T
 does-length s p T d U k = sym (ap (λ o. length (o .table)) (k .gives)) ∙ kept-length p T
@@ -58,13 +59,13 @@ unfolding kept
 gives-type t T = refl
 
 -- the parts of a call
-pub parts : (s S : List ℕ) (env : Env) (T : Table) (i : ℕ) → AsksAt 31 s S env T i
-    → (exprAt s i ≡ call i (spanAt s S i) (exprAt s (suc i)) (exprsAt s (entry S i 6) (endAt S (suc i)))) × Row S grammar.Expr (suc (entry S i 6)) (suc i)
+pub parts : (s S : List ℕ) (env : Env) (T : Table) (i : ℕ) → AsksAt kinds.call s S env T i
+    → (exprAt s i ≡ call i (spanAt s S i) (exprAt s (suc i)) (exprsAt s (callArgCount S i) (endAt S (suc i)))) × Row S grammar.Expr (suc (callArgCount S i)) (suc i)
 parts s S env T i h = call-at (h .asks .ready .force .loaded) (h .asks .here) (h .kind)
 
 -- ------------------------------------------------------------ type_call
 
-module _ (s S : List ℕ) (env : Env) (T : Table) (i : ℕ) (h : AsksAt 31 s S env T i) where
+module _ (s S : List ℕ) (env : Env) (T : Table) (i : ℕ) (h : AsksAt kinds.call s S env T i) where
   pub call-callee : ExprIn s S env (i + 1)
   call-callee = record { force = h .asks .ready .force; here = rw (add-one i) (row-first (parts s S env T i h .1)) }
 
@@ -77,7 +78,7 @@ module _ (s S : List ℕ) (env : Env) (T : Table) (i : ℕ) (h : AsksAt 31 s S e
 
     module _ (d : Done) (a : Answers (expectAssetReceiver (envOf s [] env) (exprAt s (i + 1))) (doneOf s d)) where
       receiver : kept (expectAssetReceiver (envOf s T env) (exprAt s (i + 1))) T ≡ record { res = doneOf s d; table = T }
-      unfolding expectAssetReceiver isPool fieldOf envOf
+      unfolding expectAssetReceiver isPool stateFieldOf envOf
       receiver = a .answers T
 
       pub call-no-receiver : (r : Refusal) → d ≡ Refused r → Types s (typing (envOf s T env) (exprAt s i)) T (No r) T
@@ -87,7 +88,7 @@ module _ (s S : List ℕ) (env : Env) (T : Table) (i : ℕ) (h : AsksAt 31 s S e
 
       module _ (e : d ≡ Fine) (o : Done) (j : Answers (opRule (foundField s keyed) (exprAt s (i + 1))) (doneOf s o)) where
         operation : kept (expectKeyedOp (envOf s T env) (exprAt s (i + 1))) T ≡ record { res = doneOf s o; table = T }
-        unfolding keyedOf keyedField fieldOf envOf
+        unfolding keyedOf keyedField stateFieldOf envOf
         operation = rw (← uses-op (envOf s T env) (exprAt s (i + 1)) (foundField s keyed) (q .found)) (j .answers T)
 
         pub call-no-op : (r : Refusal) → o ≡ Refused r → Types s (typing (envOf s T env) (exprAt s i)) T (No r) T
@@ -119,7 +120,7 @@ on-call s S env T U i keyed h o =
     record { call = record { asks = record { ready = o .ready; here = h .call .asks .here }; kind = h .call .kind }; uses = h .uses }
 
 module _ (s S : List ℕ) (env : Env) (T : Table) (i : ℕ) (keyed : Found) (h : AsksCall s S env T i keyed) where
-  p : Row S grammar.Expr (suc (entry S i 6)) (suc i)
+  p : Row S grammar.Expr (suc (callArgCount S i)) (suc i)
   p = parts s S env T i (h .call) .1
 
   pub keyed-callee : Callee s S (i + 1) keyed
@@ -130,10 +131,10 @@ module _ (s S : List ℕ) (env : Env) (T : Table) (i : ℕ) (keyed : Found) (h :
       }
 
   module _ (at : ℕ) (e : at ≡ endAt S (i + 1)) where
-    pub args-falls : (τ : ℕ) → 10 * (length S / 8 - i) + 3 ≡ τ → 10 * (length S / 8 - at) + 8 < τ
+    pub args-falls : (τ : ℕ) → 10 * (lineCount S - i) + 3 ≡ τ → 10 * (lineCount S - at) + 8 < τ
     args-falls τ q = omega (arith, e ∙ ap (endAt S) (add-one i), row-first p .after, h .call .asks .here .within, q)
 
-    module _ (m : ℕ) (c : m ≡ entry S i 6) where
+    module _ (m : ℕ) (c : m ≡ callArgCount S i) where
       pub args-all : AsksAll s S env T m at
       args-all =
           record {
@@ -170,7 +171,7 @@ module _ (s S : List ℕ) (env : Env) (T : Table) (i : ℕ) (keyed : Found) (h :
     keyed-no r f = record { gives = then-refused _ _ T U (refusalOf s r) (stopped s _ T d U (k .gives) r f); valid = tt }
 
     call-code : (c : ℕ) → c ≡ code (callTy (foundField s keyed) (exprAt s (i + 1))) → c ≡ code (tyOfCall (envOf s T env) (calleeAt s i))
-    unfolding calleeAt keyedOf keyedField fieldOf envOf
+    unfolding calleeAt keyedOf keyedField stateFieldOf envOf
     call-code c t =
         let g : foundField s keyed ≡ keyedOf (envOf s T env) (exprAt s (i + 1)) = rw (add-one i) (h .uses .found) in
         rw (← add-one i, ← uses-type (envOf s T env) _ _ g) t
@@ -195,12 +196,10 @@ module _ (s S : List ℕ) (env : Env) (T : Table) (left at : ℕ) (h : AsksAll s
 
   module _ (n : left ≢ 0) where
     row : Row S grammar.Expr (suc (left - 1)) at
-    row = rw (let y : suc (left - 1) ≡ left = omega arith in y) (h .row)
+    row = row-some (omega arith) (h .row)
 
     list : exprsAt s left at ≡ more (exprAt s at) (exprsAt s (left - 1) (endAt S at))
-    list =
-        ap (λ y. exprsAt s y at) (let y : left ≡ suc (left - 1) = omega arith in y)
-        ∙ exprs-next (h .ready .force .loaded) (left - 1) at (row-first row .within)
+    list = exprs-some (h .ready .force .loaded) (omega arith) (h .row)
 
     pub each-first : Asks s S env T at
     each-first = record { ready = h .ready; here = row-first row }
@@ -217,7 +216,7 @@ module _ (s S : List ℕ) (env : Env) (T : Table) (left at : ℕ) (h : AsksAll s
         pub each-rest : AsksAll s S env U (left - 1) m
         each-rest = record { ready = on-first .ready; row = rw q (row-rest row); no-value = rw q (no-value-next (h .ready .force .loaded) (row-first row)) }
 
-        pub each-falls : (τ : ℕ) → 10 * (length S / 8 - at) + 8 ≡ τ → 10 * (length S / 8 - m) + 8 < τ
+        pub each-falls : (τ : ℕ) → 10 * (lineCount S - at) + 8 ≡ τ → 10 * (lineCount S - m) + 8 < τ
         each-falls τ f = omega (arith, q, row-first row .after, row-first row .within, f)
 
         pub each-ok : (d : Done) (W : Table) → Does s (askEach (typings (envOf s U env) (exprsAt s (left - 1) m))) U d W

@@ -1,4 +1,4 @@
--- A sheet where document 01's exception for `let`s holds. Assumes nothing.
+-- A sheet where the exception for `let`s (`stale`) holds. Assumes nothing.
 use mathlib.Core.Path.{_≡_, refl, sym, ap, _∙_}
 use mathlib.Core.List.{List, [], _∷_, _++_}
 use mathlib.Core.Bool.{false}
@@ -7,18 +7,17 @@ use native.Mathlib.Omega.{arith}
 use lib.ListN.{take}
 use Rattle.text.specs.Text.{bytes}
 use Rattle.grammar.specs.Grammar as grammar
-use Rattle.sheet.specs.Load.{times, load}
+use Rattle.sheet.specs.Load.{copies, load}
 use Rattle.sheet.specs.Promise.{laid, scratchFrom, scratchAfter}
-use Rattle.sheet.specs.Scratch.{entry, put, putLine, written, kindAt, skip, closed}
+use Rattle.sheet.specs.Scratch.{cell, put, putLine, putLines, kindAt, skip, closed}
 use Rattle.sheet.specs.Tree.{before}
 use Rattle.rules.specs.Computed.{computed}
 use Rattle.rules.specs.Asking.{Int, ok}
-use Rattle.rules.specs.Kept.{Table, kept}
+use Rattle.rules.specs.Kept.{Table, kept, tyFrom}
 use Rattle.rules.specs.Typing.{tyOf}
-use Rattle.rules.specs.Standing.{readLines, linesIn, modelIn, without, treesFrom, nodeAt, nodesAt, exprAt, Loaded, Here, stop, next}
+use Rattle.rules.specs.Standing.{readLines, linesIn, modelIn, dropLines, treesFrom, nodeAt, nodesAt, exprAt, Loaded, Here, stop, next}
 use Rattle.rules.proofs.Standing.{by-load}
-use Rattle.declared.specs.Codes.{tyFrom}
-use Rattle.declared.specs.Found.{nodeKind, ofKind}
+use Rattle.lookups.specs.Found.{nodeKind, ofKind}
 use Rattle.env.specs.Answers.{typedOf}
 use Rattle.env.specs.Force.{localOf, namedEnd, lets, endsIn, paramsIn, envOf}
 use Rattle.env.specs.declared.env.Env.{Env}
@@ -31,7 +30,7 @@ guarded = bytes "contract,1" ++ (10 ∷ bytes "entry,0,0,2") ++ (10 ∷ bytes "g
 
 -- the sheet's lines, as the reader leaves them in a scratch of zeros
 abbrev guarded-lines : List ℕ
-guarded-lines = take 48 (scratchAfter guarded 6 (times 48 0))
+guarded-lines = take 48 (scratchAfter guarded 6 (copies 48 0))
 
 abbrev both-bound : Env
 both-bound = record { params = 0; count = 0; body = 2; bound = 2; next = 6; genesis = false }
@@ -41,9 +40,9 @@ guarded-table = 0 ∷ 0 ∷ 0 ∷ 10 ∷ 0 ∷ 1 ∷ []
 
 -- `ty_of` may be asked of the `id` ..
 pub guarded-asks : Asks guarded guarded-lines both-bound guarded-table 3
-unfolding computed readLines scratchAfter scratchFrom laid closed written put putLine entry kindAt skip
+unfolding computed readLines scratchAfter scratchFrom laid closed putLines put putLine cell kindAt skip
 guarded-asks =
-    let d : Loaded guarded guarded-lines = by-load guarded 6 (times 48 0) (readLines (load guarded 6 48)) refl in
+    let d : Loaded guarded guarded-lines = by-load guarded 6 (copies 48 0) (readLines (load guarded 6 48)) refl in
     let one : Here guarded-lines grammar.Stmt 2 = record { within = omega arith; kind = (omega arith, omega arith); after = omega arith } in
     let other : Here guarded-lines grammar.Stmt 4 = record { within = omega arith; kind = (omega arith, omega arith); after = omega arith } in
     record {
@@ -52,7 +51,7 @@ guarded-asks =
     }
 
 again-int : kept (tyOf (envOf guarded guarded-table both-bound) (exprAt guarded 3)) guarded-table ≡ record { res = ok Int; table = guarded-table }
-unfolding computed envOf localOf namedEnd lets endsIn paramsIn ofKind nodeKind readLines linesIn modelIn without before treesFrom nodeAt nodesAt exprAt tyFrom
+unfolding computed envOf localOf namedEnd lets endsIn paramsIn ofKind nodeKind readLines linesIn modelIn dropLines before treesFrom nodeAt nodesAt exprAt tyFrom
 again-int = refl
 
 -- .. and answers Int: it is typed again, and keeps its 10

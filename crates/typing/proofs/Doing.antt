@@ -3,14 +3,13 @@ use mathlib.Core.Path.{_≡_, refl, _∙_}
 use mathlib.Core.List.{List}
 use Prim.Native.Nat.{ℕ}
 use Rattle.rules.specs.Asking.{Ty, Rule, ret, _>>=_}
-use Rattle.rules.specs.Kept.{Table, kept}
+use Rattle.rules.specs.Kept.{Table, kept, tyFrom}
 use Rattle.rules.proofs.Binding.{then-ok, then-refused}
-use Rattle.declared.specs.Answers.{Answers}
-use Rattle.declared.specs.Codes.{tyFrom}
-use Rattle.declared.specs.Refusal.{refusalOf, doneOf}
-use Rattle.declared.specs.declared.refusal.Refusal.{Refusal}
-use Rattle.declared.specs.declared.refusal.Done.{Done}
-use Rattle.declared.specs.declared.refusal.Done.the-variants.{Fine, Refused}
+use Rattle.refusals.specs.Answers.{Answers}
+use Rattle.refusals.specs.Refusal.{refusalOf, doneOf}
+use Rattle.refusals.specs.declared.refusal.Refusal.{Refusal}
+use Rattle.refusals.specs.declared.refusal.Done.{Done}
+use Rattle.refusals.specs.declared.refusal.Done.the-variants.{Fine, Refused}
 use Rattle.env.specs.Answers.{typedOf}
 use Rattle.env.specs.declared.judge.Typed.{Typed}
 use Rattle.env.specs.declared.judge.Typed.the-variants.{Is, Refused as No}

@@ -4,7 +4,7 @@ use mathlib.Core.Path.{_≡_, refl, sym, ap, _∙_}
 use mathlib.Core.List.{List, [], _∷_}
 use mathlib.Core.Bool.{Bool, true, false, cond, not, _||_}
 use mathlib.Core.Option.{Option, none, some}
-use Prim.Native.Nat.{ℕ, zero, suc, _+_, _*_, _-_, _/_, _<_, _≤_}
+use Prim.Native.Nat.{ℕ, zero, suc, _+_, _*_, _-_, _<_, _≤_}
 use native.Mathlib.Numerals.{add-one}
 use native.Mathlib.Omega.{arith}
 use borrow.Author.Needs.{needs}
@@ -12,32 +12,32 @@ use mir.Syntax.{w64}
 use mir.Val.{Fits}
 use borrow.Author.Tests.{eq-eqb, ne-eqb, eqb-true, eqb-false, leb-true, leb-false, not-true, not-false}
 use lib.Dec.{eqb, leb}
-use lib.ListN.{length, take, drop}
+use lib.ListN.{take, drop}
 use Rattle.grammar.specs.Grammar as grammar
-use Rattle.sheet.specs.Scratch.{entry, kindAt, endAt, nameAt}
+use Rattle.sheet.specs.Scratch.{kindAt, endAt, nameAt, lineCount, callArgCount}
 use Rattle.sheet.specs.Say.{nspanAt}
 use Rattle.sheet.specs.Tree.{takeNodes}
 use Rattle.rules.specs.Text.{Name, is, isOne}
 use Rattle.rules.specs.Ast.{Type', Expr, Field, more, exprsOf}
-use Rattle.rules.specs.Asking.{Ty, code, ok, Rule, _>>=_, _>>_, when, ifSome}
-use Rattle.rules.specs.Kept.{Table, Kept, kept}
-use Rattle.rules.specs.Declared.{declaredArg}
-use Rattle.rules.specs.Typing.{Env as Environment, Asked, Dot, asked, askOf, tyOf, typings, dotOf, keyedField, fieldOf, expected, checkAmount, checkKeys, judgeKey, isNameParam, checkKeyedCall}
+use Rattle.rules.specs.Asking.{Ty, code, ok, Rule, _>>=_, _>>_, provided, ifSome}
+use Rattle.rules.specs.Kept.{Table, Kept, kept, tyFrom}
+use Rattle.rules.specs.Types.{declaredArg}
+use Rattle.rules.specs.Typing.{Env as Environment, Asked, Dot, asked, askOf, tyOf, typings, dotOf, keyedField, stateFieldOf, expected, checkAmount, checkKeys, judgeKey, isNameParam, checkKeyedCall}
 use Rattle.rules.specs.Standing.{exprAt, exprsAt, fieldAt, typeAt, Loaded, Row}
 use Rattle.rules.proofs.Binding.{then-ok, then-refused}
 use Rattle.rules.proofs.Exprs.{is-dot-at}
+use Rattle.rules.proofs.Rows.{row-some, exprs-some}
 use Rattle.rules.proofs.Standing.{exprs-next, row-first, row-rest}
-use Rattle.declared.specs.Codes.{tyFrom}
-use Rattle.declared.specs.Found.{foundField}
-use Rattle.declared.specs.Lines.{Typed as TypeAt}
-use Rattle.declared.specs.Refusal.{dotAt, refusalOf, doneOf}
-use Rattle.declared.specs.declared.model.Found.{Found}
-use Rattle.declared.specs.declared.model.Found.the-variants.{At, Nothing}
-use Rattle.declared.specs.declared.refusal.Refusal.{Refusal}
-use Rattle.declared.specs.declared.refusal.Done.{Done}
-use Rattle.declared.specs.declared.refusal.Done.the-variants.{Fine, Refused}
+use Rattle.lookups.specs.Found.{foundField}
+use Rattle.lookups.specs.Lines.{TypeAt}
+use Rattle.refusals.specs.Refusal.{dotAt, refusalOf, doneOf}
+use Rattle.lookups.specs.declared.model.Found.{Found}
+use Rattle.lookups.specs.declared.model.Found.the-variants.{At, Nothing}
+use Rattle.refusals.specs.declared.refusal.Refusal.{Refusal}
+use Rattle.refusals.specs.declared.refusal.Done.{Done}
+use Rattle.refusals.specs.declared.refusal.Done.the-variants.{Fine, Refused}
 use Rattle.text.proofs.Tests.{or-parts}
-use Rattle.declared.proofs.Codes.{from-code}
+use Rattle.lookups.proofs.Codes.{from-code}
 use Rattle.env.proofs.Lookups.{TypeBehind, behind as type-behind}
 use Rattle.env.specs.Answers.{typedOf, JudgesAmount, JudgesKey}
 use Rattle.env.specs.Calls.{wantsOf, keyedOf}
@@ -50,29 +50,30 @@ use Rattle.typing.proofs.Asking.{types-length}
 use Rattle.typing.proofs.Onward.{Onward, onward, no-value-next, off-type, off-amount}
 use Rattle.typing.proofs.Operators.{gave}
 use Rattle.typing.proofs.Calls.{does-length, parts, did, stopped}
+use Rattle.grammar.specs.Kinds as kinds
 
 -- ------------------------------------------------------------ check_keyed_call
 
 -- the types that a method's arguments must have, by how many are judged
 wants-are : (x : Name) (ty : Type') → expected x ty ≡ wanted ty 0 (wantsOf x)
 unfolding expected wanted wantsOf
-wants-are x ty = go (is x "set") (isOne x ("insert" ∷ "remove" ∷ "contains" ∷ "get" ∷ "credit" ∷ "debit" ∷ []))
+wants-are x ty = by-cases (is x "set") (isOne x ("insert" ∷ "remove" ∷ "contains" ∷ "get" ∷ "credit" ∷ "debit" ∷ []))
   where
-    go : (a b : Bool)
+    by-cases : (a b : Bool)
         → _≡_ {A = List Ty} (elim a [ true ↦ declaredArg ty 0 ∷ declaredArg ty 1 ∷ [] | false ↦ elim b [ true ↦ declaredArg ty 0 ∷ [] | false ↦ [] ] ])
         (drop 0 (take (elim a as (λ _. ℕ) [ true ↦ 2 | false ↦ elim b [ true ↦ 1 | false ↦ 0 ] ]) (declaredArg ty 0 ∷ declaredArg ty 1 ∷ [])))
-    go true b = refl
-    go false true = refl
-    go false false = refl
+    by-cases true b = refl
+    by-cases false true = refl
+    by-cases false false = refl
 
 wants-few : (x : Name) → wantsOf x ≤ 2
 unfolding wantsOf
-wants-few x = go (is x "set") (isOne x ("insert" ∷ "remove" ∷ "contains" ∷ "get" ∷ "credit" ∷ "debit" ∷ []))
+wants-few x = by-cases (is x "set") (isOne x ("insert" ∷ "remove" ∷ "contains" ∷ "get" ∷ "credit" ∷ "debit" ∷ []))
   where
-    go : (a b : Bool) → elim a as (λ _. ℕ) [ true ↦ 2 | false ↦ elim b [ true ↦ 1 | false ↦ 0 ] ] ≤ 2
-    go true b = omega arith
-    go false true = omega arith
-    go false false = omega arith
+    by-cases : (a b : Bool) → elim a as (λ _. ℕ) [ true ↦ 2 | false ↦ elim b [ true ↦ 1 | false ↦ 0 ] ] ≤ 2
+    by-cases true b = omega arith
+    by-cases false true = omega arith
+    by-cases false false = omega arith
 
 -- the rule, by what the callee uses
 keyed-none : (Γ : Environment) (callee : Expr) (args : List Asked) (T : Table) (o : Option Dot) → dotOf callee ≡ o → keyedOf Γ callee ≡ none
@@ -88,14 +89,14 @@ keyed-dot Γ callee f none e q = absurd (let y : none ≡ some f = rw (keyedOf, 
 keyed-dot Γ callee f (some d) e q = (d, refl, rw (keyedOf, e) at q)
 
 module _ (s S : List ℕ) (env : Env) (T : Table) (i : ℕ) (keyed : Found) (h : AsksCall s S env T i keyed) where
-  row : Row S grammar.Expr (suc (entry S i 6)) (suc i)
+  row : Row S grammar.Expr (suc (callArgCount S i)) (suc i)
   row = parts s S env T i (h .call) .1
 
   ld : Loaded s S
   ld = h .call .asks .ready .force .loaded
 
   uses : foundField s keyed ≡ keyedOf (envOf s T env) (exprAt s (suc i))
-  unfolding keyedOf keyedField fieldOf envOf
+  unfolding keyedOf keyedField stateFieldOf envOf
   uses = h .uses .found
 
   pub no-keyed : keyed ≡ Nothing → Does s (checkKeyedCall (envOf s T env) (calleeAt s i) (typings (envOf s T env) (argsAt s S i))) T Fine T
@@ -107,20 +108,20 @@ module _ (s S : List ℕ) (env : Env) (T : Table) (i : ℕ) (keyed : Found) (h :
     abbrev base : Expr
     base = exprAt s (suc (suc i))
 
-    dot-told : (b : Bool) → eqb (kindAt S (suc i)) 30 ≡ b → (b ≡ true) × (keyedField (envOf s T env) base ≡ some (fieldAt s field))
+    dot-told : (b : Bool) → eqb (kindAt S (suc i)) kinds.dot ≡ b → (b ≡ true) × (keyedField (envOf s T env) base ≡ some (fieldAt s field))
     unfolding foundField
     dot-told b q =
         let o : dotOf (exprAt s (suc i)) ≡ cond b (some (record { base = base; name = nameAt s S (suc i); nspan = nspanAt s S (suc i) })) none =
         rw (← q) (is-dot-at (h .call .asks .ready .force .loaded) (row-first row)) in
         let d = keyed-dot (envOf s T env) (exprAt s (suc i)) (fieldAt s field) _ o (sym uses ∙ rw e refl) in
-        go b (d .0) (d .1) (d .2)
+        by-cases b (d .0) (d .1) (d .2)
       where
-        go : (b : Bool) (d : Dot) → cond b (some (record { base = base; name = nameAt s S (suc i); nspan = nspanAt s S (suc i) })) none ≡ some d
+        by-cases : (b : Bool) (d : Dot) → cond b (some (record { base = base; name = nameAt s S (suc i); nspan = nspanAt s S (suc i) })) none ≡ some d
             → keyedField (envOf s T env) (d .base) ≡ some (fieldAt s field) → (b ≡ true) × (keyedField (envOf s T env) base ≡ some (fieldAt s field))
-        go true d y z = (refl, let w : d ≡ record { base = base; name = nameAt s S (suc i); nspan = nspanAt s S (suc i) } = cc in rw w at z)
-        go false d y z = absurd (let w : _≡_ {A = ℕ} 0 1 = cc in omega arith)
+        by-cases true d y z = (refl, let w : d ≡ record { base = base; name = nameAt s S (suc i); nspan = nspanAt s S (suc i) } = cc in rw w at z)
+        by-cases false d y z = absurd (let w : _≡_ {A = ℕ} 0 1 = cc in omega arith)
 
-    told : (eqb (kindAt S (suc i)) 30 ≡ true) × (keyedField (envOf s T env) base ≡ some (fieldAt s field))
+    told : (eqb (kindAt S (suc i)) kinds.dot ≡ true) × (keyedField (envOf s T env) base ≡ some (fieldAt s field))
     told = dot-told _ refl
 
     pub by-method : AsksMethod s S env T i
@@ -141,7 +142,7 @@ module _ (s S : List ℕ) (env : Env) (T : Table) (i : ℕ) (keyed : Found) (h :
       unfolding doneOf
       amount-ends r f = record { gives = opened ∙ then-refused _ _ T U (refusalOf s r) (stopped s _ T d U (k .gives) r f) }
 
-      module _ (f : d ≡ Fine) (x : Name) (w at m : ℕ) (ex : x ≡ nameAt s S (i + 1)) (ew : w ≡ wantsOf x) (ea : at ≡ endAt S (i + 1)) (em : m ≡ entry S i 6) where
+      module _ (f : d ≡ Fine) (x : Name) (w at m : ℕ) (ex : x ≡ nameAt s S (i + 1)) (ew : w ≡ wantsOf x) (ea : at ≡ endAt S (i + 1)) (em : m ≡ callArgCount S i) where
         on : Onward s S env T U
         unfolding argsAt
         on = onward s S env T U _ tt (h .call .asks .ready) (off-amount ld (envOf s T env) (methodAt s S i) (row-rest row) (no-value-next ld (row-first row))) (did s _ T d U (k .gives) f)
@@ -164,7 +165,7 @@ module _ (s S : List ℕ) (env : Env) (T : Table) (i : ℕ) (keyed : Found) (h :
               few = rw wants (wants-few (nameAt s S (suc i)));
             }
 
-        pub keys-below : (τ : ℕ) → 10 * (length S / 8 - i) + 1 ≡ τ → 10 * (length S / 8 - at) + 8 < τ
+        pub keys-below : (τ : ℕ) → 10 * (lineCount S - i) + 1 ≡ τ → 10 * (lineCount S - at) + 8 < τ
         keys-below τ q = omega (arith, behind, row-first row .after, h .call .asks .here .within, q)
 
         pub keys-done : (r : Done) (W : Table) → Does s (keysRule (envOf s U env) (fieldAt s field) 0 w (exprsAt s m at)) U r W
@@ -176,17 +177,17 @@ module _ (s S : List ℕ) (env : Env) (T : Table) (i : ℕ) (keyed : Found) (h :
 -- ------------------------------------------------------------ check_amount
 
 module _ (s S : List ℕ) (env : Env) (T : Table) (i : ℕ) (h : AsksMethod s S env T i) where
-  all : Row S grammar.Expr (suc (entry S i 6)) (suc i)
+  all : Row S grammar.Expr (suc (callArgCount S i)) (suc i)
   all = parts s S env T i (h .call) .1
 
   abbrev d : Loaded s S
   d = h .call .asks .ready .force .loaded
 
-  module _ (m : ℕ) (em : m ≡ entry S i 6) where
+  module _ (m : ℕ) (em : m ≡ callArgCount S i) where
     -- with fewer than two arguments there is no amount
     few-args : (k : ℕ) → k < 2 → (r : Row S grammar.Expr k (endAt S (suc i))) → (b : Bool)
-        → kept (when b (checkAmount (nameAt s S (suc i)) (typings (envOf s T env) (exprsAt s k (endAt S (suc i)))))) T ≡ record { res = ok tt; table = T }
-    unfolding exprsAt takeNodes exprsOf typings checkAmount when kept
+        → kept (provided b (checkAmount (nameAt s S (suc i)) (typings (envOf s T env) (exprsAt s k (endAt S (suc i)))))) T ≡ record { res = ok tt; table = T }
+    unfolding exprsAt takeNodes exprsOf typings checkAmount provided kept
     few-args zero l r true = refl
     few-args zero l r false = refl
     few-args (suc zero) l r true = rw (exprs-next d 0 (endAt S (suc i)) (row-first r .within)) refl
@@ -195,19 +196,19 @@ module _ (s S : List ℕ) (env : Env) (T : Table) (i : ℕ) (h : AsksMethod s S 
 
     pub no-amount : m < 2 → Does s (amountRule (envOf s T env) (methodAt s S i) (argsAt s S i)) T Fine T
     unfolding amountRule methodAt argsAt doneOf
-    no-amount l = record { gives = few-args (entry S i 6) (omega arith) (row-rest all) (isOne (nameAt s S (suc i)) ("credit" ∷ "debit" ∷ [])) }
+    no-amount l = record { gives = few-args (callArgCount S i) (omega arith) (row-rest all) (isOne (nameAt s S (suc i)) ("credit" ∷ "debit" ∷ [])) }
 
     module _ (x : Name) (b : Bool) (ex : x ≡ nameAt s S (i + 1)) (eb : b ≡ isOne x ("credit" ∷ "debit" ∷ [])) where
       method : isOne (nameAt s S (suc i)) ("credit" ∷ "debit" ∷ []) ≡ b
       method = sym (eb ∙ ap (λ y. isOne y ("credit" ∷ "debit" ∷ [])) (ex ∙ ap (nameAt s S) (add-one i)))
 
       pub no-move : not b ≡ true → Does s (amountRule (envOf s T env) (methodAt s S i) (argsAt s S i)) T Fine T
-      unfolding amountRule methodAt when doneOf kept
+      unfolding amountRule methodAt provided doneOf kept
       no-move n = record { gives = rw (method, not-true b n) refl }
 
       module _ (g : 2 ≤ m) (n : not b ≡ false) (y arg : ℕ) (ey : y ≡ endAt S (i + 1)) (ea : arg ≡ endAt S y) where
         rest' : Row S grammar.Expr (suc (suc (m - 2))) (endAt S (suc i))
-        rest' = rw (let z : suc (suc (m - 2)) ≡ entry S i 6 = omega arith in z) (row-rest all)
+        rest' = rw (let z : suc (suc (m - 2)) ≡ callArgCount S i = omega arith in z) (row-rest all)
 
         arg-is : arg ≡ endAt S (endAt S (suc i))
         arg-is = ea ∙ ap (endAt S) (ey ∙ ap (endAt S) (add-one i))
@@ -215,19 +216,19 @@ module _ (s S : List ℕ) (env : Env) (T : Table) (i : ℕ) (h : AsksMethod s S 
         two : argsAt s S i ≡ more (exprAt s (endAt S (suc i))) (more (exprAt s arg) (exprsAt s (m - 2) (endAt S arg)))
         unfolding argsAt
         two =
-            ap (λ z. exprsAt s z (endAt S (suc i))) (let z : entry S i 6 ≡ suc (suc (m - 2)) = omega arith in z)
+            ap (λ z. exprsAt s z (endAt S (suc i))) (let z : callArgCount S i ≡ suc (suc (m - 2)) = omega arith in z)
             ∙ exprs-next d (suc (m - 2)) _ (row-first rest' .within)
             ∙ rw (exprs-next d (m - 2) _ (row-first (row-rest rest') .within), arg-is) refl
 
         pub amount-asks : Asks s S env T arg
         amount-asks = record { ready = h .call .asks .ready; here = rw arg-is (row-first (row-rest rest')) }
 
-        pub amount-falls : (τ : ℕ) → 10 * (length S / 8 - i) + 0 ≡ τ → 10 * (length S / 8 - arg) + 7 < τ
+        pub amount-falls : (τ : ℕ) → 10 * (lineCount S - i) + 0 ≡ τ → 10 * (lineCount S - arg) + 7 < τ
         amount-falls τ q = omega (arith, arg-is, row-first all .after, row-first rest' .after, h .call .asks .here .within, q)
 
         module _ (a : Typed) (U : Table) (k : Types s (tyOf (envOf s T env) (exprAt s arg)) T a U) where
           pub amount-no : (r : Refusal) → a ≡ No r → Does s (amountRule (envOf s T env) (methodAt s S i) (argsAt s S i)) T (Refused r) U
-          unfolding amountRule methodAt when typings checkAmount asked askOf tyOf doneOf typedOf
+          unfolding amountRule methodAt provided typings checkAmount asked askOf tyOf doneOf typedOf
           amount-no r e =
               record { gives = rw (method, not-false b n, two) (then-refused (tyOf (envOf s T env) (exprAt s arg)) _ T U (refusalOf s r) (k .gives ∙ rw e refl)) }
 
@@ -236,7 +237,7 @@ module _ (s S : List ℕ) (env : Env) (T : Table) (i : ℕ) (h : AsksMethod s S 
           dot-name = rw (add-one i, dotAt, is-dot-at d (row-first all), eq-eqb _ _ (h .dot)) refl
 
           pub amount-ok : (c : ℕ) (r : Done) → a ≡ Is c → JudgesAmount (i + 1) arg c r → Does s (amountRule (envOf s T env) (methodAt s S i) (argsAt s S i)) T r U
-          unfolding amountRule methodAt when typings checkAmount asked askOf tyOf
+          unfolding amountRule methodAt provided typings checkAmount asked askOf tyOf
           amount-ok c r e j =
               record {
                 gives =
@@ -295,12 +296,10 @@ module _ (s S : List ℕ) (env : Env) (T : Table) (field index wants left at : �
     more-to-go = let q = or-parts (leb wants index) (eqb left 0) g in (leb-false wants index (q .0), eqb-false left 0 (q .1))
 
     row-on : Row S grammar.Expr (suc (left - 1)) at
-    row-on = rw (let y : suc (left - 1) ≡ left = omega (arith, more-to-go .1) in y) (h .row)
+    row-on = row-some (omega (arith, more-to-go .1)) (h .row)
 
     list : exprsAt s left at ≡ more (exprAt s at) (exprsAt s (left - 1) (endAt S at))
-    list =
-        ap (λ y. exprsAt s y at) (let y : left ≡ suc (left - 1) = omega (arith, more-to-go .1) in y)
-        ∙ exprs-next (h .ready .force .loaded) (left - 1) at (row-first row-on .within)
+    list = exprs-some (h .ready .force .loaded) (omega (arith, more-to-go .1)) (h .row)
 
     pub keys-first : Asks s S env T at
     keys-first = record { ready = h .ready; here = row-first row-on }
@@ -318,7 +317,7 @@ module _ (s S : List ℕ) (env : Env) (T : Table) (field index wants left at : �
     keys-arg = record { force = h .ready .force; here = row-first row-on }
 
     type-at : TypeBehind s S field
-    type-at = type-behind 6 s S (h .ready .force .loaded) (At field) field refl (h .within, h .kind) (omega arith) (omega arith)
+    type-at = type-behind kinds.field s S (h .ready .force .loaded) (At field) field refl (h .within, h .kind) (omega arith) (omega arith)
 
     pub keys-type : TypeAt s S (field + 1)
     keys-type = rw (add-one field) (type-at .typed)
@@ -362,7 +361,7 @@ module _ (s S : List ℕ) (env : Env) (T : Table) (field index wants left at : �
           pub keys-rest : AsksKeys s S env U field wants (left - 1) m
           keys-rest = record { ready = on-keys .ready; row = rw em (row-rest row-on); no-value = rw em (no-value-next (h .ready .force .loaded) (row-first row-on)); within = h .within; kind = h .kind; few = h .few }
 
-          pub keys-falls : (τ : ℕ) → 10 * (length S / 8 - at) + 8 ≡ τ → 10 * (length S / 8 - m) + 8 < τ
+          pub keys-falls : (τ : ℕ) → 10 * (lineCount S - at) + 8 ≡ τ → 10 * (lineCount S - m) + 8 < τ
           keys-falls τ q = omega (arith, em, row-first row-on .after, row-first row-on .within, q)
 
           pub keys-ok : (r : Done) (W : Table) → Does s (keysRule (envOf s U env) (fieldAt s field) (index + 1) wants (exprsAt s (left - 1) m)) U r W

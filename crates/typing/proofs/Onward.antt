@@ -21,12 +21,12 @@ use Rattle.rules.specs.Typing.{askEach, tyOf, typings}
 use Rattle.rules.specs.Standing.{exprAt, exprsAt, Loaded, Here, Row, stop, next}
 use Rattle.rules.proofs.All.{All}
 use Rattle.rules.proofs.Binding.{kept-length, Off, kept-off}
-use Rattle.rules.proofs.Coherence.{Fits, FitsAll, c-bind, c-expect, c-tyOf, c-typings, c-each, c-when, c-amount}
+use Rattle.rules.proofs.Coherence.{Fits, FitsAll, c-bind, c-expect, c-tyOf, c-typings, c-each, c-provided, c-amount}
 use Rattle.rules.proofs.Forest.{here-inside, placed-at}
 use Rattle.rules.proofs.Keeps.{Throughout, OfLine, Any, throughout-map}
 use Rattle.rules.proofs.Lines.{fits-lines}
 use Rattle.rules.proofs.Standing.{stands, exprs-next}
-use Rattle.declared.proofs.Codes.{code-of}
+use Rattle.lookups.proofs.Codes.{code-of}
 use Rattle.env.proofs.Lets.{lets-all}
 use Rattle.env.specs.Answers.{typedOf, Valid}
 use Rattle.env.specs.Force.{envOf, localOf, lets, Ready}
@@ -34,6 +34,7 @@ use Rattle.env.specs.declared.env.Env.{Env}
 use Rattle.env.specs.declared.judge.Typed.{Typed}
 use Rattle.env.specs.declared.judge.Typed.the-variants.{Is, Refused}
 use Rattle.typing.specs.Asks.{amountRule, NoValue, answerMark}
+use Rattle.grammar.specs.Kinds as kinds
 
 -- the mark of an answer is its code
 pub mark-code : (s : List ℕ) (a : Typed) → Valid a → codeR (typedOf s a) ≡ answerMark a
@@ -44,7 +45,7 @@ mark-code s (Refused r) h = refl
 -- ------------------------------------------------------------ lines that are no `let`'s value
 
 -- the first part of what is no `let`
-pub no-value-below : (S : List ℕ) (i : ℕ) → kindAt S i ≢ 16 → NoValue S (suc i)
+pub no-value-below : (S : List ℕ) (i : ℕ) → kindAt S i ≢ kinds.let' → NoValue S (suc i)
 no-value-below S i n = record { before = λ j e k. n (ap (kindAt S) (let q : i ≡ j = omega arith in q) ∙ k) }
 
 module _ {s S : List ℕ} (d : Loaded s S) {i : ℕ} (h : Here S grammar.Expr i) where
@@ -59,7 +60,7 @@ module _ {s S : List ℕ} (d : Loaded s S) {i : ℕ} (h : Here S grammar.Expr i)
   no-value-lines : NoValue S i → (l : ℕ) → i ≤ l → l < endAt S i → NoValue S l
   no-value-lines a l u v = record { before = λ j e k. by-first j e k (leb l i) refl }
     where
-      by-first : (j : ℕ) → suc j ≡ l → kindAt S j ≡ 16 → (b : Bool) → leb l i ≡ b → ⊥
+      by-first : (j : ℕ) → suc j ≡ l → kindAt S j ≡ kinds.let' → (b : Bool) → leb l i ≡ b → ⊥
       by-first j e k true q = a .before j (let w = leb-true l i q in omega arith) k
       by-first j e k false q = behind l (leb-false l i q) (omega arith) .before j e k
 
@@ -91,9 +92,9 @@ module _ {s S : List ℕ} (d : Loaded s S) (Γ : rules.Env) where
 
   pub off-amount : (x : Name) {m i : ℕ} → Row S grammar.Expr m i → NoValue S i → OffValues S (amountRule Γ x (exprsAt s m i))
   unfolding amountRule
-  off-amount x r a = c-when (OfLine (NoValue S)) Any _ _ (c-amount (OfLine (NoValue S)) Any x _ (c-typings (OfLine (NoValue S)) Any Γ _ (fits-row r a)))
+  off-amount x r a = c-provided (OfLine (NoValue S)) Any _ _ (c-amount (OfLine (NoValue S)) Any x _ (c-typings (OfLine (NoValue S)) Any Γ _ (fits-row r a)))
 
-off-let : (S : List ℕ) {A : Type 0} (j : ℕ) (p : Rule A) → kindAt S j ≡ 16 → OffValues S p → Off (suc j) p
+off-let : (S : List ℕ) {A : Type 0} (j : ℕ) (p : Rule A) → kindAt S j ≡ kinds.let' → OffValues S p → Off (suc j) p
 off-let S j p k c = throughout-map (NoValue S) (λ l. suc j ≢ l) (λ l v e. v .before j e k) p c
 
 -- ------------------------------------------------------------ locals

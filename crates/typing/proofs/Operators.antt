@@ -1,26 +1,25 @@
 -- `ty_of_unary` and `ty_of_binary`: what each return and each call needs. Assumes nothing.
 use mathlib.Core.Path.{_≡_, refl, sym, ap, _∙_}
 use mathlib.Core.List.{List}
-use Prim.Native.Nat.{ℕ, suc, _+_, _*_, _-_, _/_, _<_}
+use Prim.Native.Nat.{ℕ, suc, _+_, _*_, _-_, _<_}
 use native.Mathlib.Numerals.{add-one}
 use native.Mathlib.Omega.{arith}
 use borrow.Author.Needs.{needs}
-use lib.ListN.{length, getD}
+use lib.ListN.{getD}
 use Rattle.grammar.specs.Grammar as grammar
-use Rattle.sheet.specs.Scratch.{opAt, endAt}
+use Rattle.sheet.specs.Scratch.{opAt, endAt, lineCount}
 use Rattle.sheet.specs.Say.{spanAt}
 use Rattle.rules.specs.Ast.{Neg, Shr, unaryOps, binOps, unary, binary}
 use Rattle.rules.specs.Asking.{Ty, code, ok, Rule, _>>=_}
-use Rattle.rules.specs.Kept.{Table, kept}
+use Rattle.rules.specs.Kept.{Table, kept, tyFrom}
 use Rattle.rules.specs.Typing.{asked, askOf, tyOf, typing, judgeUnary, judgeBinary, tyOfUnary, tyOfBinary}
 use Rattle.rules.specs.Standing.{exprAt, Row}
 use Rattle.rules.proofs.Binding.{then-ok, then-refused}
 use Rattle.rules.proofs.Exprs.{un-at, bin-at}
 use Rattle.rules.proofs.Standing.{row-first, row-rest}
-use Rattle.declared.specs.Codes.{tyFrom}
-use Rattle.declared.specs.Refusal.{refusalOf}
-use Rattle.declared.specs.declared.refusal.Refusal.{Refusal}
-use Rattle.declared.proofs.Codes.{code-of}
+use Rattle.refusals.specs.Refusal.{refusalOf}
+use Rattle.refusals.specs.declared.refusal.Refusal.{Refusal}
+use Rattle.lookups.proofs.Codes.{code-of}
 use Rattle.env.specs.Answers.{typedOf, Judged, JudgedIn, Operands}
 use Rattle.env.specs.Force.{envOf}
 use Rattle.env.specs.declared.env.Env.{Env}
@@ -29,6 +28,7 @@ use Rattle.env.specs.declared.judge.Typed.the-variants.{Is, Refused}
 use Rattle.typing.specs.Asks.{Asks, AsksAt, Types}
 use Rattle.typing.proofs.Asking.{types-length}
 use Rattle.typing.proofs.Onward.{Onward, onward, no-value-below, off-type}
+use Rattle.grammar.specs.Kinds as kinds
 
 -- What an asking gave.
 module _ (s : List ℕ) (p : Rule Ty) (T : Table) (a : Typed) (U : Table) (k : Types s p T a U) where
@@ -44,7 +44,7 @@ module _ (s : List ℕ) (p : Rule Ty) (T : Table) (a : Typed) (U : Table) (k : T
   unfolding typedOf
   ends f r e = record { gives = then-refused p f T U (refusalOf s r) (k .gives ∙ rw e refl); valid = tt }
 
-module _ (s S : List ℕ) (env : Env) (T : Table) (i : ℕ) (h : AsksAt 28 s S env T i) where
+module _ (s S : List ℕ) (env : Env) (T : Table) (i : ℕ) (h : AsksAt kinds.un s S env T i) where
   un : (exprAt s i ≡ unary i (spanAt s S i) (getD unaryOps (opAt S i) Neg) (exprAt s (suc i))) × Row S grammar.Expr 1 (suc i)
   un = un-at (h .asks .ready .force .loaded) (h .asks .here) (h .kind)
 
@@ -68,7 +68,7 @@ module _ (s S : List ℕ) (env : Env) (T : Table) (i : ℕ) (h : AsksAt 28 s S e
     unfolding typing tyOfUnary tyOf askOf asked
     un-no r e = rw (un .0, ← add-one i) (ends s (tyOf (envOf s T env) (exprAt s (i + 1))) T a U k _ r e)
 
-module _ (s S : List ℕ) (env : Env) (T : Table) (i : ℕ) (h : AsksAt 29 s S env T i) where
+module _ (s S : List ℕ) (env : Env) (T : Table) (i : ℕ) (h : AsksAt kinds.bin s S env T i) where
   bin : (exprAt s i ≡ binary i (spanAt s S i) (getD binOps (opAt S i) Shr) (exprAt s (suc i)) (exprAt s (endAt S (suc i)))) × Row S grammar.Expr 2 (suc i)
   bin = bin-at (h .asks .ready .force .loaded) (h .asks .here) (h .kind)
 
@@ -79,7 +79,7 @@ module _ (s S : List ℕ) (env : Env) (T : Table) (i : ℕ) (h : AsksAt 29 s S e
     right : m ≡ endAt S (suc i)
     right = em ∙ ap (endAt S) (add-one i)
 
-    pub bin-falls : (τ : ℕ) → 10 * (length S / 8 - i) + 4 ≡ τ → 10 * (length S / 8 - m) + 7 < τ
+    pub bin-falls : (τ : ℕ) → 10 * (lineCount S - i) + 4 ≡ τ → 10 * (lineCount S - m) + 7 < τ
     bin-falls τ e = omega (arith, right, row-first (bin .1) .after, h .asks .here .within, e)
 
     pub bin-operands : Operands s S (i + 1) m

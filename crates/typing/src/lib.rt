@@ -1,4 +1,4 @@
-// Typing with kept types: of module 4 what asks a type.
+// Typing with kept types: `ty_of` and its branches, and `check_keyed_call`.
 mod typing;
 
 pub use typing::ask_each;

@@ -1,7 +1,4 @@
 // `ty_of` and its branches, and `check_keyed_call`, which call each other. The lines left and a phase fall.
-use declared::Done;
-use declared::Found;
-use declared::declared_arg;
 use env::Env;
 use env::Typed;
 use env::expect_asset_receiver;
@@ -17,12 +14,17 @@ use env::ty_of_call;
 use env::ty_of_dot;
 use env::ty_of_ident;
 use env::wants;
+use grammar::kinds;
+use lookups::Found;
+use lookups::declared_arg;
+use refusals::Done;
+use rules::codes;
 use rules::is_type;
+use sheet::call_arg_count;
 use sheet::end;
 use sheet::kind;
 use sheet::name;
 use sheet::op;
-use sheet::second;
 ghost use mathlib.Core.Path.{_≡_};
 ghost use Prim.Native.Nat.{_<_};
 ghost use lib.ListN.{getD};
@@ -32,6 +34,7 @@ ghost use Rattle.rules.specs.Typing.{typing as typingOf};
 ghost use Rattle.env.specs.Force.{envOf};
 ghost use Rattle.typing.specs.Asks.{AsksAgain, AsksAll, AsksAt, AsksCall, AsksKeys, AsksLeaf, AsksMethod, Asks};
 ghost use Rattle.typing.specs.Asks.{amountRule, argsAt, calleeAt, Does, keysRule, leafCodes, answerMark, methodAt, typeArgs, typeKeyed, Types, TypesLeaf};
+ghost use Rattle.grammar.specs.Kinds as kinds;
 
 fn leaf_code(place: usize) -> u8
     requires { ⌜ place < 8 ⌝ }
@@ -40,7 +43,16 @@ fn leaf_code(place: usize) -> u8
     LEAVES[place]
 }
 
-const LEAVES: [u8; 8] = [1, 10, 7, 8, 3, 3, 3, 1];
+const LEAVES: [u8; 8] = [
+    codes::INT,
+    codes::UNKNOWN,
+    codes::TIME,
+    codes::STR,
+    codes::ADDRESS,
+    codes::ADDRESS,
+    codes::ADDRESS,
+    codes::INT,
+];
 
 // The type of a line that has no parts.
 fn ty_of_leaf(sheet: &[u8], lines: &[u16], env: Env, table: &[u8], i: usize) -> u8
@@ -48,10 +60,10 @@ fn ty_of_leaf(sheet: &[u8], lines: &[u16], env: Env, table: &[u8], i: usize) -> 
     ensures { λ r. ⌜ TypesLeaf (now (sheet .entry)) (typingOf (envOf (now (sheet .entry)) (now (table .entry)) env) (exprAt (now (sheet .entry)) i)) (now (table .entry)) r ⌝ }
 {
     let k = kind(lines, i);
-    if k == 21 {
+    if k == kinds::ID {
         return ty_of_ident(sheet, lines, env, table, name(sheet, lines, i));
     }
-    leaf_code(k - 20)
+    leaf_code(k - kinds::INT)
 }
 
 // The mark that an answer leaves.
@@ -60,7 +72,7 @@ fn mark(a: Typed) -> u8
 {
     match a {
         Typed::Is(c) => c,
-        Typed::Refused(_) => 11,
+        Typed::Refused(_) => codes::REFUSED,
     }
 }
 
@@ -89,7 +101,7 @@ fn ty_again(sheet: &[u8], lines: &[u16], env: Env, table: &mut [u8], i: usize) -
     match typing(sheet, lines, env, table, i) {
         Typed::Is(c) => Typed::Is(c),
         Typed::Refused(r) => {
-            table[i] = 11;
+            table[i] = codes::REFUSED;
             Typed::Refused(r)
         }
     }
@@ -101,26 +113,26 @@ fn typing(sheet: &[u8], lines: &[u16], env: Env, table: &mut [u8], i: usize) -> 
     ensures { λ r. ⌜ Types (now (sheet .entry)) (typingOf (envOf (now (sheet .entry)) (now (table .entry)) env) (exprAt (now (sheet .entry)) i)) (now (table .entry)) r (now (table .exit)) ⌝ }
 {
     let k = kind(lines, i);
-    if k < 28 {
+    if k < kinds::UN {
         return Typed::Is(ty_of_leaf(sheet, lines, env, table, i));
     }
-    if k == 28 {
+    if k == kinds::UN {
         return ty_of_unary(sheet, lines, env, table, i);
     }
-    if k == 29 {
+    if k == kinds::BIN {
         return ty_of_binary(sheet, lines, env, table, i);
     }
-    if k == 30 {
+    if k == kinds::DOT {
         return Typed::Is(ty_of_dot(name(sheet, lines, i)));
     }
-    if k == 31 {
+    if k == kinds::CALL {
         return type_call(sheet, lines, env, table, i);
     }
     ty_of(sheet, lines, env, table, i + 1)
 }
 
 fn ty_of_unary(sheet: &[u8], lines: &[u16], env: Env, table: &mut [u8], i: usize) -> Typed
-    requires { ⌜ AsksAt 28 (now sheet) (now lines) env (now table) i ⌝ }
+    requires { ⌜ AsksAt kinds.un (now sheet) (now lines) env (now table) i ⌝ }
     ensures { λ r. ⌜ Types (now (sheet .entry)) (typingOf (envOf (now (sheet .entry)) (now (table .entry)) env) (exprAt (now (sheet .entry)) i)) (now (table .entry)) r (now (table .exit)) ⌝ }
 {
     match ty_of(sheet, lines, env, table, i + 1) {
@@ -131,7 +143,7 @@ fn ty_of_unary(sheet: &[u8], lines: &[u16], env: Env, table: &mut [u8], i: usize
 
 // Both sides are typed before either is judged.
 fn ty_of_binary(sheet: &[u8], lines: &[u16], env: Env, table: &mut [u8], i: usize) -> Typed
-    requires { ⌜ AsksAt 29 (now sheet) (now lines) env (now table) i ⌝ }
+    requires { ⌜ AsksAt kinds.bin (now sheet) (now lines) env (now table) i ⌝ }
     ensures { λ r. ⌜ Types (now (sheet .entry)) (typingOf (envOf (now (sheet .entry)) (now (table .entry)) env) (exprAt (now (sheet .entry)) i)) (now (table .entry)) r (now (table .exit)) ⌝ }
 {
     match ty_of(sheet, lines, env, table, i + 1) {
@@ -148,7 +160,7 @@ fn ty_of_binary(sheet: &[u8], lines: &[u16], env: Env, table: &mut [u8], i: usiz
 
 // The type of a call: its receiver and its operation are judged first.
 fn type_call(sheet: &[u8], lines: &[u16], env: Env, table: &mut [u8], i: usize) -> Typed
-    requires { ⌜ AsksAt 31 (now sheet) (now lines) env (now table) i ⌝ }
+    requires { ⌜ AsksAt kinds.call (now sheet) (now lines) env (now table) i ⌝ }
     ensures { λ r. ⌜ Types (now (sheet .entry)) (typingOf (envOf (now (sheet .entry)) (now (table .entry)) env) (exprAt (now (sheet .entry)) i)) (now (table .entry)) r (now (table .exit)) ⌝ }
 {
     let keyed = keyed_of(sheet, lines, env, i + 1);
@@ -179,7 +191,7 @@ fn type_args(
         env,
         table,
         end(lines, i + 1),
-        second(lines, i),
+        call_arg_count(lines, i),
     ) {
         Done::Fine => type_keyed(sheet, lines, env, table, i, keyed),
         Done::Refused(r) => Typed::Refused(r),
@@ -251,7 +263,7 @@ pub fn check_keyed_call(
                     0,
                     wants(method),
                     at,
-                    second(lines, i),
+                    call_arg_count(lines, i),
                 )
             }
             Done::Refused(r) => Done::Refused(r),
@@ -265,7 +277,7 @@ fn check_amount(sheet: &[u8], lines: &[u16], env: Env, table: &mut [u8], i: usiz
     requires { ⌜ AsksMethod (now sheet) (now lines) env (now table) i ⌝ }
     ensures { λ r. ⌜ Does (now (sheet .entry)) (amountRule (envOf (now (sheet .entry)) (now (table .entry)) env) (methodAt (now (sheet .entry)) (now (lines .entry)) i) (argsAt (now (sheet .entry)) (now (lines .entry)) i)) (now (table .entry)) r (now (table .exit)) ⌝ }
 {
-    if second(lines, i) < 2 {
+    if call_arg_count(lines, i) < 2 {
         return Done::Fine;
     }
     if !moves_amount(name(sheet, lines, i + 1)) {

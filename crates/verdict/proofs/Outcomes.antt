@@ -8,7 +8,7 @@ use mir.Syntax.{w32, w64}
 use lib.ListN.{length, take, drop, replicate}
 use lib.Seq.{length-take-le, drop-at}
 use Rattle.sheet.specs.Line.{Line}
-use Rattle.sheet.specs.Load.{Loaded, lines, refused, linesOf, times, early, load, loadFrom}
+use Rattle.sheet.specs.Load.{LoadResult, lines, refused, linesOf, copies, early, load, loadFrom}
 use Rattle.sheet.specs.Scan.{scanAll}
 use Rattle.sheet.specs.Promise.{answer, laid, scratchFrom, scratchAfter}
 use Rattle.sheet.specs.declared.loader.Answer as loader
@@ -21,28 +21,29 @@ use Rattle.rules.specs.Asking.{Res, ok, refused as ruled-out}
 use Rattle.rules.specs.Kept.{Table}
 use Rattle.rules.specs.Check.{check}
 use Rattle.rules.specs.Standing.{LoadedIn, readLines, linesIn, modelIn}
-use Rattle.rules.specs.Verdict.{written, told, judge, refusedSheet, verdict, keptJudge, keptVerdict}
+use Rattle.rules.specs.Verdict.{overwritten, answerFor, judge, refusedSheet, verdict, keptJudge, keptVerdict}
 use Rattle.rules.proofs.Binding.{kept-length}
 use Rattle.rules.proofs.Checked.{verdict-kept}
 use Rattle.rules.proofs.Standing.{by-answer}
 use Rattle.verdict.specs.Outcome.{answerOf, zeros, outcome, Exact, judged, Judges}
 use Rattle.verdict.specs.declared.Answer.{Answer}
+use Rattle.sheet.specs.Scratch.{cellsPerLine}
 
-times-replicate : (n x : ℕ) → times n x ≡ replicate n x
-unfolding times
+times-replicate : (n x : ℕ) → copies n x ≡ replicate n x
+unfolding copies
 times-replicate zero x = refl
 times-replicate (suc n) x = ap (λ l. x ∷ l) (times-replicate n x)
 
-written-length : (new old : List ℕ) (n : ℕ) → length new ≡ n → written new old ≡ new ++ drop n old
-unfolding written
+written-length : (new old : List ℕ) (n : ℕ) → length new ≡ n → overwritten new old ≡ new ++ drop n old
+unfolding overwritten
 written-length new old n e = rw e refl
 
-laid-length : (r : Loaded) (S : List ℕ) → length (laid r S) ≡ length S
+laid-length : (r : LoadResult) (S : List ℕ) → length (laid r S) ≡ length S
 unfolding laid
 laid-length (lines ls) S = length-closed (length ls) _ ∙ length-written ls S 0
 laid-length (refused n i) S = length-times (length S) 0
 
-answer-refused : {k i : ℕ} (r : Loaded) → Refused k i ≡ answer r → r ≡ refused k i
+answer-refused : {k i : ℕ} (r : LoadResult) → Refused k i ≡ answer r → r ≡ refused k i
 unfolding answer
 answer-refused (lines ls) e = absurd (let z : _≡_ {A = ℕ} 0 1 = cc in omega arith)
 answer-refused (refused m j) e = cc
@@ -50,13 +51,13 @@ answer-refused (refused m j) e = cc
 -- ------------------------------------------------------------ a sheet that is refused
 
 unread-left : (s : List ℕ) (types : ℕ) (S : List ℕ) (k i : ℕ) → load s types (length S) ≡ refused k i
-    → scratchAfter s types S ≡ written (zeros (early s types (length S)) (length (linesOf s))) S
-unfolding load loadFrom scratchAfter scratchFrom laid zeros written
-unread-left s types S k i = go (early s types (length S)) refl
+    → scratchAfter s types S ≡ overwritten (zeros (early s types (length S)) (length (linesOf s))) S
+unfolding load loadFrom scratchAfter scratchFrom laid zeros overwritten
+unread-left s types S k i = by-cases (early s types (length S)) refl
   where
-    go : (m : ℕ) → early s types (length S) ≡ m → loadFrom m s ≡ refused k i → scratchFrom m s S ≡ written (zeros m (length (linesOf s))) S
-    go zero z e = let n = passed s types S _ _ (sym z) refl refl .entries in rw (e, n, length-times {A = ℕ} (8 * length (linesOf s)) 0) refl
-    go (suc m) z e = refl
+    by-cases : (m : ℕ) → early s types (length S) ≡ m → loadFrom m s ≡ refused k i → scratchFrom m s S ≡ overwritten (zeros m (length (linesOf s))) S
+    by-cases zero z e = let n = passed s types S _ _ (sym z) refl refl .entries in rw (e, n, length-times {A = ℕ} (cellsPerLine * length (linesOf s)) 0) refl
+    by-cases (suc m) z e = refl
 
 -- ------------------------------------------------------------ a sheet that is read
 
@@ -71,27 +72,27 @@ record ReadAs (s : List ℕ) (types : ℕ) (S : List ℕ) (n : ℕ) : Type 0 whe
 
 -- the rules on a table of zeros
 ruled : (s : List ℕ) (types scratch most n : ℕ) (ls : List Line) → load s types scratch ≡ lines ls → scanAll s ≡ lines ls → n ≡ length ls
-    → verdict s types scratch most ≡ judged s (times n 0) most
+    → verdict s types scratch most ≡ judged s (copies n 0) most
 unfolding judged keptVerdict keptJudge modelIn linesIn readLines
 ruled s types scratch most n ls l e c = verdict-kept s types scratch most ∙ rw (l, e, c, times-replicate) refl
 
-pub told-types : (most : ℕ) (r : Res Unit) (T : Table) → told most r T .types ≡ T
-unfolding told
+pub told-types : (most : ℕ) (r : Res Unit) (T : Table) → answerFor most r T .types ≡ T
+unfolding answerFor
 told-types most (ok u) T = refl
 told-types most (ruled-out r) T = refl
 
-judged-length : (s : List ℕ) (n most : ℕ) → length (judged s (times n 0) most .types) ≡ n
+judged-length : (s : List ℕ) (n most : ℕ) → length (judged s (copies n 0) most .types) ≡ n
 unfolding judged
-judged-length s n most = ap length (told-types most _ _) ∙ kept-length (check (modelIn s)) (times n 0) ∙ length-times n 0
+judged-length s n most = ap length (told-types most _ _) ∙ kept-length (check (modelIn s)) (copies n 0) ∙ length-times n 0
 
 outcome-read : (s S T M : List ℕ) (n : ℕ) (Z W N D : List ℕ) (b : Answer) → early s (length T) (length S) ≡ 0 → n ≡ length (linesOf s)
-    → verdict s (length T) (length S) (length M) ≡ judged s (times n 0) (length M)
-    → Judges s (times n 0) M b W N
-    → Z ≡ times (8 * n) 0 → D ≡ drop (8 * n) S
+    → verdict s (length T) (length S) (length M) ≡ judged s (copies n 0) (length M)
+    → Judges s (copies n 0) M b W N
+    → Z ≡ copies (cellsPerLine * n) 0 → D ≡ drop (cellsPerLine * n) S
     → record { answer = b; scratch = Z ++ D; types = W ++ drop n T; message = N } ≡ outcome s S T M
 unfolding outcome zeros
 outcome-read s S T M n Z W N D b e c v x z d =
-    rw (v, e, ← c, written-length (times (8 * n) 0) S (8 * n) (length-times (8 * n) 0), written-length _ T n (judged-length s n (length M)), z, d, x .answer, x .types, x .message) refl
+    rw (v, e, ← c, written-length (copies (cellsPerLine * n) 0) S (cellsPerLine * n) (length-times (cellsPerLine * n) 0), written-length _ T n (judged-length s n (length M)), z, d, x .answer, x .types, x .message) refl
 
 -- `load` answered r, and left U in the scratch S; types is the length it was told.
 module _ (s S U : List ℕ) (types : ℕ) (r : loader.Answer) (a : r ≡ answer (load s types (length S))) (u : U ≡ scratchAfter s types S) where
@@ -112,21 +113,21 @@ module _ (s S U : List ℕ) (types : ℕ) (r : loader.Answer) (a : r ≡ answer 
     in-scratch : LoadedIn s U n
     in-scratch = by-answer s S U types n r a e u
 
-    pub entries-within : 8 * n ≤ length U
+    pub entries-within : cellsPerLine * n ≤ length U
     entries-within = in-scratch .entries
 
-    pub entries-length : 8 * n ≡ length (take (8 * n) U)
-    entries-length = sym (length-take-le (8 * n) U entries-within)
+    pub entries-length : cellsPerLine * n ≡ length (take (cellsPerLine * n) U)
+    entries-length = sym (length-take-le (cellsPerLine * n) U entries-within)
 
-    pub entries-fit : Fits w64 (8 * n)
+    pub entries-fit : Fits w64 (cellsPerLine * n)
     entries-fit = omega (arith, in-scratch .few)
 
     -- the entries behind those of the lines
-    behind : drop (8 * n) U ≡ drop (8 * n) S
+    behind : drop (cellsPerLine * n) U ≡ drop (cellsPerLine * n) S
     behind =
-        let h = length-take-le (8 * n) S (room s types S _ n refl (read-as .early) (read-as .count)) in
-        ap (drop (8 * n)) (u ∙ sym (loads s types S _ n refl (read-as .early) (read-as .count) _ _ refl refl .1))
-        ∙ drop-at (laid (scanAll s) (take (8 * n) S)) (drop (8 * n) S) (8 * n) (laid-length (scanAll s) (take (8 * n) S) ∙ h)
+        let h = length-take-le (cellsPerLine * n) S (room s types S _ n refl (read-as .early) (read-as .count)) in
+        ap (drop (cellsPerLine * n)) (u ∙ sym (loads s types S _ n refl (read-as .early) (read-as .count) _ _ refl refl .1))
+        ∙ drop-at (laid (scanAll s) (take (cellsPerLine * n) S)) (drop (cellsPerLine * n) S) (cellsPerLine * n) (laid-length (scanAll s) (take (cellsPerLine * n) S) ∙ h)
 
     -- the table T has as many bytes at least
     module _ (T : List ℕ) (t : types ≤ length T) where
@@ -136,7 +137,7 @@ module _ (s S U : List ℕ) (types : ℕ) (r : loader.Answer) (a : r ≡ answer 
       pub table-length : n ≡ length (take n T)
       table-length = sym (length-take-le n T table-within)
 
-      pub exact : Exact s (take (8 * n) U) (take n T)
+      pub exact : Exact s (take (cellsPerLine * n) U) (take n T)
       exact =
           record {
             lines =
@@ -159,16 +160,16 @@ module _ (s S U : List ℕ) (types : ℕ) (r : loader.Answer) (a : r ≡ answer 
 
 -- the same, where it was told the length of the table T; M is the message buffer
 module _ (s S T M U : List ℕ) (r : loader.Answer) (a : r ≡ answer (load s (length T) (length S))) (u : U ≡ scratchAfter s (length T) S) where
-  pub outcome-lines : (n : ℕ) (b : Answer) (Z W N : List ℕ) → r ≡ Lines n → Judges s (times (length (take n T)) 0) M b W N → Z ≡ times (length (take (8 * n) U)) 0
-      → record { answer = b; scratch = Z ++ drop (8 * n) U; types = W ++ drop n T; message = N } ≡ outcome s S T M
+  pub outcome-lines : (n : ℕ) (b : Answer) (Z W N : List ℕ) → r ≡ Lines n → Judges s (copies (length (take n T)) 0) M b W N → Z ≡ copies (length (take (cellsPerLine * n) U)) 0
+      → record { answer = b; scratch = Z ++ drop (cellsPerLine * n) U; types = W ++ drop n T; message = N } ≡ outcome s S T M
   outcome-lines n b Z W N e x z =
       let h = read-as s S U (length T) r a u n e in
       let k = table-length s S U (length T) r a u n e T (omega arith) in
       let l = entries-length s S U (length T) r a u n e in
       outcome-read s S T M n Z W N _ b (h .early) (h .count) (ruled s (length T) (length S) (length M) n (h .read) (h .load) (h .scan) (h .size))
-      (rw (← k) at x) (z ∙ ap (λ m. times m 0) (sym l)) (behind s S U (length T) r a u n e)
+      (rw (← k) at x) (z ∙ ap (λ m. copies m 0) (sym l)) (behind s S U (length T) r a u n e)
 
   pub outcome-refused : (k i : ℕ) → r ≡ Refused k i
       → record { answer = record { number = k; place = i; count = 0; length = 0 }; scratch = U; types = T; message = M } ≡ outcome s S T M
-  unfolding outcome verdict judge refusedSheet answerOf written
+  unfolding outcome verdict judge refusedSheet answerOf overwritten
   outcome-refused k i e = let h = unread s S U (length T) r a u k i e in rw (u, unread-left s (length T) S k i h, h) refl

@@ -10,14 +10,14 @@ use Rattle.sheet.specs.Load.{lines, load}
 use Rattle.rules.specs.Asking.{Asking, Res, ok, refused, fresh, reached, reachedFrom, codeOf}
 use Rattle.rules.specs.Kept.{Table, marks, count}
 use Rattle.rules.specs.Check.{check}
-use Rattle.rules.specs.Verdict.{written, told, modelOf, ruled, judge, verdict}
+use Rattle.rules.specs.Verdict.{overwritten, answerFor, modelOf, ruled, judge, verdict}
 use Rattle.rules.proofs.Keeps.{length-marks}
 use Rattle.rules.proofs.Marks.{marks-code, code-reached, count-reached}
 use Rattle.verdict.specs.Outcome.{answerOf, outcome}
 use Rattle.verdict.proofs.Outcomes.{told-types}
 
-told-count : (most : ℕ) (r : Res Unit) (T : Table) → told most r T .count ≡ count T
-unfolding told
+told-count : (most : ℕ) (r : Res Unit) (T : Table) → answerFor most r T .count ≡ count T
+unfolding answerFor
 told-count most (ok u) T = refl
 told-count most (refused r) T = refl
 
@@ -32,7 +32,7 @@ module _ (s S T M : List ℕ) (ls : List Line) (h : load s (length T) (length S)
 
   -- The type of line l is its code by the askings: 0 where there is none, 11 where one ended in the refusal, else the first.
   pub line-type : (l : ℕ) → l < length ls → getD (outcome s S T M .types) l 0 ≡ codeOf l askings
-  unfolding outcome verdict judge ruled written
+  unfolding outcome verdict judge ruled overwritten
   line-type l w =
       let e : length table ≡ length ls = length-marks (replicate (length ls) 0) askings ∙ length-replicate {A = ℕ} (length ls) 0 in
       rw (h, told-types (length M) (fresh (check (modelOf ls)) .res) table)

@@ -11,23 +11,25 @@ use mir.Val.{Fits}
 use lib.Dec.{eqb}
 use lib.ListN.{length}
 use Rattle.grammar.specs.Grammar as grammar
-use Rattle.sheet.specs.Scratch.{endAt, nameAt, entry}
+use Rattle.sheet.specs.Scratch.{endAt, nameAt, emitArgCount, paramCount}
 use Rattle.sheet.specs.Tree.{takeNodes}
 use Rattle.rules.specs.Text.{Name}
 use Rattle.rules.specs.Ast.{Expr, Param, exprsOf, list, typeName}
 use Rattle.rules.specs.Asking.{Res, ok, Rule, _>>_, forEach}
-use Rattle.rules.specs.Declared.{narrowMax}
+use Rattle.rules.specs.Types.{narrowMax}
 use Rattle.rules.specs.Typing.{isSome}
 use Rattle.rules.specs.Assets.{wraps, reaches, eventSlot}
 use Rattle.rules.specs.Standing.{exprAt, exprsAt, paramAt, paramsAt, Loaded, Row}
-use Rattle.rules.proofs.Standing.{exprs-next, row-first, row-rest}
-use Rattle.rules.proofs.Records.{named, emit-at, event-at, param-at, params-next, no-params}
-use Rattle.declared.specs.Answers.{Answers}
-use Rattle.declared.specs.Refusal.{refusalOf, doneOf}
-use Rattle.declared.specs.declared.refusal.Refusal.the-variants.{ReachesEvent}
-use Rattle.declared.specs.declared.refusal.Done.the-variants.{Fine, Refused}
-use Rattle.declared.proofs.Answers.{gives, then-fine, then-refused}
-use Rattle.declared.proofs.Types.{type-name}
+use Rattle.rules.proofs.Standing.{row-first, row-rest}
+use Rattle.rules.proofs.Records.{named, emit-at, event-at, param-at, no-params}
+use Rattle.rules.proofs.Rows.{exprs, row-some, list-some}
+use Rattle.rules.proofs.Rows as rows
+use Rattle.refusals.specs.Answers.{Answers}
+use Rattle.refusals.specs.Refusal.{refusalOf, doneOf}
+use Rattle.refusals.specs.declared.refusal.Refusal.the-variants.{ReachesEvent}
+use Rattle.refusals.specs.declared.refusal.Done.the-variants.{Fine, Refused}
+use Rattle.refusals.proofs.Answers.{gives, then-fine, then-refused}
+use Rattle.lookups.proofs.Types.{type-name}
 use Rattle.narrow.specs.Narrow.{mostOf}
 use Rattle.narrow.proofs.Narrow.{max-some}
 use Rattle.wrapping.specs.Lines.{After}
@@ -46,9 +48,9 @@ pub record Emitting (s S M : List ℕ) (k body i event args arg params param : �
   pub exprs : Row S grammar.Expr args arg
   pub declared : Row S grammar.Param params param
   pub rest : (r : Res Unit) → Answers (sides s S M k body i args arg params param) r
-      → Answers (sides s S M k body i (entry S i 5) (suc i) (entry S event 5) (suc event)) r
+      → Answers (sides s S M k body i (emitArgCount S i) (suc i) (paramCount S event) (suc event)) r
 
-pub emit-start : (s S M : List ℕ) (k body i event args params : ℕ) → Emits s S k body i event → args ≡ entry S i 5 → params ≡ entry S event 5
+pub emit-start : (s S M : List ℕ) (k body i event args params : ℕ) → Emits s S k body i event → args ≡ emitArgCount S i → params ≡ paramCount S event
     → Emitting s S M k body i event args (i + 1) params (event + 1)
 emit-start s S M k body i event args params e a p =
     let d = e .stmt .before .loaded in
@@ -70,7 +72,7 @@ module _ (s S M : List ℕ) (k body i event args arg params param : ℕ) (g : Em
   xs = wrappedNames s S M k body
 
   abbrev Judged : Res Unit → Type 0
-  Judged r = Answers (sides s S M k body i (entry S i 5) (suc i) (entry S event 5) (suc event)) r
+  Judged r = Answers (sides s S M k body i (emitArgCount S i) (suc i) (paramCount S event) (suc event)) r
 
   d : Loaded s S
   d = g .emits .stmt .before .loaded
@@ -85,10 +87,10 @@ module _ (s S M : List ℕ) (k body i event args arg params param : ℕ) (g : Em
 
   module _ (h : 0 < args) (n : params ≢ 0) where
     es : Row S grammar.Expr (suc (args - 1)) arg
-    es = rw (let y : suc (args - 1) ≡ args = omega arith in y) (g .exprs)
+    es = row-some h (g .exprs)
 
     ps : Row S grammar.Param (suc (params - 1)) param
-    ps = rw (let y : suc (params - 1) ≡ params = omega arith in y) (g .declared)
+    ps = row-some (omega arith) (g .declared)
 
     pub emit-value : After grammar.Expr s S k body arg
     emit-value = record { before = g .emits .stmt .before; here = row-first es }
@@ -106,10 +108,8 @@ module _ (s S M : List ℕ) (k body i event args arg params param : ℕ) (g : Em
     sides-next : (r : Res Unit)
         → Answers (reaches xs (narrowMax (typeName (paramAt s param .ty))) (exprAt s arg) (eventSlot (nameAt s S i)) >> sides s S M k body i (args - 1) (endAt S arg) (params - 1) (endAt S param)) r
         → Answers (sides s S M k body i args arg params param) r
-    unfolding reachesEach forEach zip _>>_ list
-    sides-next r j =
-        rw (let y : args ≡ suc (args - 1) = omega arith in y, let y : params ≡ suc (params - 1) = omega arith in y)
-        (rw (exprs-next d (args - 1) arg (row-first es .within), params-next d (params - 1) (row-first ps .within)) j)
+    unfolding reachesEach forEach zip _>>_
+    sides-next r j = rw (list-some exprs d h (g .exprs), list-some rows.params d (omega arith) (g .declared)) j
 
     module _ (y : Name) (w : ℕ) (b : Bool) (z : y ≡ nameAt s S (param + 1)) (o : w ≡ mostOf (narrowMax y)) (j : b ≡ (not (eqb w 0) && wraps xs (exprAt s arg))) where
       some-max : isSome (narrowMax (typeName (paramAt s param .ty))) ≡ not (eqb w 0)

@@ -12,12 +12,12 @@ use lib.ListN.{getElem?}
 use borrow.Author.Tests.{eq-eqb, ne-eqb, eqb-true, lt-ltb, ltb-true, not-true, not-false}
 use Rattle.text.specs.Text.{bytes, same}
 use Rattle.grammar.specs.Grammar as grammar
-use Rattle.sheet.specs.Scratch.{kindAt, endAt, nameAt, entry}
+use Rattle.sheet.specs.Scratch.{kindAt, endAt, nameAt, callArgCount}
 use Rattle.sheet.specs.Say.{nspanAt}
 use Rattle.sheet.specs.Tree.{takeNodes}
 use Rattle.rules.specs.Text.{Name, Piece, is}
 use Rattle.rules.specs.Ast.{Expr, exprsOf, list, span}
-use Rattle.rules.specs.Asking.{Res, ok, refused, ifSome, when}
+use Rattle.rules.specs.Asking.{Res, ok, refused, ifSome, provided}
 use Rattle.rules.specs.Model.{Model}
 use Rattle.rules.specs.Statements.{narrowField}
 use Rattle.rules.specs.Typing.{Call, Dot, callOf, dotOf, identOf, isSome}
@@ -26,16 +26,17 @@ use Rattle.rules.specs.Standing.{exprAt, exprsAt, stmtAt, namedAt, modelIn, Loa
 use Rattle.rules.proofs.Standing.{exprs-next, row-first, row-rest}
 use Rattle.rules.proofs.Exprs.{ident-at, is-dot-at, dot-at, call-at, is-call-at}
 use Rattle.rules.proofs.Records.{named, assign-at}
-use Rattle.declared.specs.Answers.{Answers}
-use Rattle.declared.specs.Refusal.{refusalOf, doneOf}
-use Rattle.declared.specs.declared.refusal.Refusal.the-variants.{ReachesField, ReachesValues}
-use Rattle.declared.specs.declared.refusal.Done.the-variants.{Fine, Refused}
-use Rattle.declared.proofs.Answers.{gives, fits, misfits}
+use Rattle.refusals.specs.Answers.{Answers}
+use Rattle.refusals.specs.Refusal.{refusalOf, doneOf}
+use Rattle.refusals.specs.declared.refusal.Refusal.the-variants.{ReachesField, ReachesValues}
+use Rattle.refusals.specs.declared.refusal.Done.the-variants.{Fine, Refused}
+use Rattle.refusals.proofs.Answers.{gives, fits, misfits}
 use Rattle.narrow.specs.Narrow.{mostOf}
 use Rattle.narrow.proofs.Narrow.{field-some, values-some}
 use Rattle.wrapping.specs.Lines.{After}
 use Rattle.wrapping.specs.Marks.{wrappedNames}
 use Rattle.wrapping.specs.Reach.{setsAt}
+use Rattle.grammar.specs.Kinds as kinds
 
 -- ------------------------------------------------------------ a value and its slot
 
@@ -58,7 +59,7 @@ module _ (xs : List Name) (o : Option ℕ) (value : Expr) (slot : List Piece) (w
 -- ------------------------------------------------------------ assignments
 
 -- The target is the line behind the assignment, and its kind n.
-module _ (s S M : List ℕ) (k body i : ℕ) (a : After grammar.Stmt s S k body i) (e : kindAt S i ≡ 18) (n : ℕ) (q : n ≡ kindAt S (i + 1)) where
+module _ (s S M : List ℕ) (k body i : ℕ) (a : After grammar.Stmt s S k body i) (e : kindAt S i ≡ kinds.assign) (n : ℕ) (q : n ≡ kindAt S (i + 1)) where
   abbrev xs : List Name
   xs = wrappedNames s S M k body
 
@@ -71,18 +72,18 @@ module _ (s S M : List ℕ) (k body i : ℕ) (a : After grammar.Stmt s S k body 
   abbrev Judged : Res Unit → Type 0
   Judged r = Answers (narrowStmt (modelIn s) xs (stmtAt s i)) r
 
-  pub assign-other : n ≢ 21 → Judged (doneOf s Fine)
+  pub assign-other : n ≢ kinds.id → Judged (doneOf s Fine)
   unfolding narrowStmt ifSome doneOf
-  assign-other h = rw (assign-at d (a .here) e .0, ident-at d (row-first parts), ← add-one i, ← q, ne-eqb n 21 h) (gives tt)
+  assign-other h = rw (assign-at d (a .here) e .0, ident-at d (row-first parts), ← add-one i, ← q, ne-eqb n kinds.id h) (gives tt)
 
   pub assign-value : (v : ℕ) → v ≡ endAt S (i + 1) → After grammar.Expr s S k body v
   assign-value v z = record { before = a .before; here = rw (z, add-one i) (row-first (row-rest parts)) }
 
-  module _ (x : Name) (w v : ℕ) (b : Bool) (h : n ≡ 21) (z : v ≡ endAt S (i + 1)) (y : x ≡ nameAt s S (i + 1)) (f : w ≡ mostOf (narrowField (modelIn s) x)) (g : b ≡ (not (eqb w 0) && wraps xs (exprAt s v))) where
+  module _ (x : Name) (w v : ℕ) (b : Bool) (h : n ≡ kinds.id) (z : v ≡ endAt S (i + 1)) (y : x ≡ nameAt s S (i + 1)) (f : w ≡ mostOf (narrowField (modelIn s) x)) (g : b ≡ (not (eqb w 0) && wraps xs (exprAt s v))) where
     assign-judged : (r : Res Unit) → Answers (reaches xs (narrowField (modelIn s) x) (exprAt s v) (fieldSlot x)) r → Judged r
     unfolding narrowStmt ifSome
     assign-judged r j =
-        rw (assign-at d (a .here) e .0, ident-at d (row-first parts), ← add-one i, ← q, eq-eqb n 21 h, ← y, ← z) j
+        rw (assign-at d (a .here) e .0, ident-at d (row-first parts), ← add-one i, ← q, eq-eqb n kinds.id h, ← y, ← z) j
 
     some-field : isSome (narrowField (modelIn s) x) ≡ not (eqb w 0)
     some-field = rw f (field-some (modelIn s) x)
@@ -101,21 +102,21 @@ module _ (s S M : List ℕ) (k body i : ℕ) (a : After grammar.Stmt s S k body 
 
 -- n is the kind of line i, and c that of the line behind it
 module _ (s S : List ℕ) (i n : ℕ) (e : n ≡ kindAt S i) where
-  pub no-call : n ≢ 31 → false ≡ setsAt s S i
+  pub no-call : n ≢ kinds.call → false ≡ setsAt s S i
   unfolding setsAt
-  no-call h = rw (← e, ne-eqb n 31 h) refl
+  no-call h = rw (← e, ne-eqb n kinds.call h) refl
 
-  module _ (c : ℕ) (h : n ≡ 31) (f : c ≡ kindAt S (i + 1)) where
-    pub no-dot : c ≢ 30 → false ≡ setsAt s S i
+  module _ (c : ℕ) (h : n ≡ kinds.call) (f : c ≡ kindAt S (i + 1)) where
+    pub no-dot : c ≢ kinds.dot → false ≡ setsAt s S i
     unfolding setsAt
-    no-dot g = rw (← e, eq-eqb n 31 h, ← add-one i, ← f, ne-eqb c 30 g) refl
+    no-dot g = rw (← e, eq-eqb n kinds.call h, ← add-one i, ← f, ne-eqb c kinds.dot g) refl
 
-    pub by-set : (x : Name) (b : Bool) (u m : ℕ) → c ≡ 30 → x ≡ nameAt s S (i + 1) → b ≡ same x (bytes "set") → u ≡ kindAt S (i + 1 + 1) → m ≡ entry S i 6
-        → (b && (eqb u 21 && ltb 1 m)) ≡ setsAt s S i
+    pub by-set : (x : Name) (b : Bool) (u m : ℕ) → c ≡ kinds.dot → x ≡ nameAt s S (i + 1) → b ≡ same x (bytes "set") → u ≡ kindAt S (i + 1 + 1) → m ≡ callArgCount S i
+        → (b && (eqb u kinds.id && ltb 1 m)) ≡ setsAt s S i
     unfolding setsAt is
     by-set x b u m g y p q z =
         let j : i + 1 + 1 ≡ suc (suc i) = omega arith in
-        rw (← e, eq-eqb n 31 h, p, y, q, z, j, add-one i, ← add-one i) (rw (← f, eq-eqb c 30 g) refl)
+        rw (← e, eq-eqb n kinds.call h, p, y, q, z, j, add-one i, ← add-one i) (rw (← f, eq-eqb c kinds.dot g) refl)
 
 second-of : {s S : List ℕ} (d : Loaded s S) (m j : ℕ) → Row S grammar.Expr m j → getElem? (list (exprsAt s m j)) 1 ≡ cond (ltb 1 m) (some (exprAt s (endAt S j))) none
 unfolding list exprsAt takeNodes exprsOf
@@ -131,8 +132,8 @@ module _ (m : Model) (xs : List Name) (e : Expr) (C : Call) (D : Dot) (x : Name)
       → is (D .name) "set" ≡ c
       → (a ≡ true → b ≡ true → identOf (D .base) ≡ cond f (some x) none)
       → (a ≡ true → getElem? (list (C .args)) 1 ≡ cond g (some v) none)
-      → (r : Res Unit) → Answers (when (a && (b && (c && (f && g)))) (reaches xs (narrowValues m x) v (valuesSlot x))) r → Answers (narrowSet m xs e) r
-  unfolding narrowSet ifSome when
+      → (r : Res Unit) → Answers (provided (a && (b && (c && (f && g)))) (reaches xs (narrowValues m x) v (valuesSlot x))) r → Answers (narrowSet m xs e) r
+  unfolding narrowSet ifSome provided
   set-tests false b c f g h i j k l r y = rw h y
   set-tests true false c f g h i j k l r y = rw (h, i refl) y
   set-tests true true false f g h i j k l r y = rw (h, i refl, j) y
@@ -155,25 +156,25 @@ module _ (s S M : List ℕ) (k body i : ℕ) (a : After grammar.Expr s S k body 
   abbrev Set' : Res Unit → Type 0
   Set' r = Answers (narrowSet (modelIn s) ys (exprAt s i)) r
 
-  callee : kindAt S i ≡ 31 → Here S grammar.Expr (suc i)
+  callee : kindAt S i ≡ kinds.call → Here S grammar.Expr (suc i)
   callee e = row-first (call-at ld (a .here) e .1)
 
   set-rule : (x : Name) → x ≡ nameAt s S (suc (suc i)) → (r : Res Unit)
-      → Answers (when (setsAt s S i) (reaches ys (narrowValues (modelIn s) x) (exprAt s (endAt S (endAt S (suc i)))) (valuesSlot x))) r → Set' r
+      → Answers (provided (setsAt s S i) (reaches ys (narrowValues (modelIn s) x) (exprAt s (endAt S (endAt S (suc i)))) (valuesSlot x))) r → Set' r
   unfolding setsAt
   set-rule x n =
-      set-tests (modelIn s) ys (exprAt s i) (record { callee = exprAt s (suc i); args = exprsAt s (entry S i 6) (endAt S (suc i)) })
+      set-tests (modelIn s) ys (exprAt s i) (record { callee = exprAt s (suc i); args = exprsAt s (callArgCount S i) (endAt S (suc i)) })
       (record { base = exprAt s (suc (suc i)); name = nameAt s S (suc i); nspan = nspanAt s S (suc i) }) x (exprAt s (endAt S (endAt S (suc i))))
-      (eqb (kindAt S i) 31) (eqb (kindAt S (suc i)) 30) (is (nameAt s S (suc i)) "set") (eqb (kindAt S (suc (suc i))) 21) (ltb 1 (entry S i 6))
+      (eqb (kindAt S i) kinds.call) (eqb (kindAt S (suc i)) kinds.dot) (is (nameAt s S (suc i)) "set") (eqb (kindAt S (suc (suc i))) kinds.id) (ltb 1 (callArgCount S i))
       (is-call-at ld (a .here))
       (λ p. is-dot-at ld (callee (eqb-true _ _ p)))
       refl
       (λ p q. rw n (ident-at ld (row-first (dot-at ld (callee (eqb-true _ _ p)) (eqb-true _ _ q) .1))))
-      (λ p. second-of ld (entry S i 6) (endAt S (suc i)) (row-rest (call-at ld (a .here) (eqb-true _ _ p) .1)))
+      (λ p. second-of ld (callArgCount S i) (endAt S (suc i)) (row-rest (call-at ld (a .here) (eqb-true _ _ p) .1)))
 
   module _ (c : Bool) (e : c ≡ setsAt s S i) where
     pub set-other : not c ≡ true → Set' (doneOf s Fine)
-    unfolding when doneOf
+    unfolding provided doneOf
     set-other h = set-rule _ refl _ (rw (← e, not-true c h) (gives tt))
 
     -- the second argument stands at line v, the first at line u
@@ -187,20 +188,20 @@ module _ (s S M : List ℕ) (k body i : ℕ) (a : After grammar.Expr s S k body 
       tests : setsAt s S i ≡ true
       tests = sym e ∙ not-false c h
 
-      is-call : kindAt S i ≡ 31
+      is-call : kindAt S i ≡ kinds.call
       unfolding setsAt
-      is-call = eqb-true _ _ (both (eqb (kindAt S i) 31) _ tests .0)
+      is-call = eqb-true _ _ (both (eqb (kindAt S i) kinds.call) _ tests .0)
 
       -- the tests behind the first
-      then : (eqb (kindAt S (suc i)) 30 ≡ true) × ((is (nameAt s S (suc i)) "set" && (eqb (kindAt S (suc (suc i))) 21 && ltb 1 (entry S i 6))) ≡ true)
+      then : (eqb (kindAt S (suc i)) kinds.dot ≡ true) × ((is (nameAt s S (suc i)) "set" && (eqb (kindAt S (suc (suc i))) kinds.id && ltb 1 (callArgCount S i))) ≡ true)
       unfolding setsAt
-      then = both _ _ (both (eqb (kindAt S i) 31) _ tests .1)
+      then = both _ _ (both (eqb (kindAt S i) kinds.call) _ tests .1)
 
       pub set-value : After grammar.Expr s S k body v
       set-value =
-          let m = ltb-true 1 (entry S i 6) (both (eqb (kindAt S (suc (suc i))) 21) _ (both (is (nameAt s S (suc i)) "set") _ (then .1) .1) .1) in
-          let r : Row S grammar.Expr (suc (suc (entry S i 6 - 2))) (endAt S (suc i)) =
-          rw (let z : suc (suc (entry S i 6 - 2)) ≡ entry S i 6 = omega arith in z) (row-rest (call-at ld (a .here) is-call .1)) in
+          let m = ltb-true 1 (callArgCount S i) (both (eqb (kindAt S (suc (suc i))) kinds.id) _ (both (is (nameAt s S (suc i)) "set") _ (then .1) .1) .1) in
+          let r : Row S grammar.Expr (suc (suc (callArgCount S i - 2))) (endAt S (suc i)) =
+          rw (let z : suc (suc (callArgCount S i - 2)) ≡ callArgCount S i = omega arith in z) (row-rest (call-at ld (a .here) is-call .1)) in
           record { before = a .before; here = rw second-at (row-first (row-rest r)) }
 
       map-named : namedAt s (i + 2) ≡ nameAt s S (suc (suc i))
@@ -214,7 +215,7 @@ module _ (s S M : List ℕ) (k body i : ℕ) (a : After grammar.Expr s S k body 
         name-is = y ∙ rw map-at refl
 
         set-judged : (r : Res Unit) → Answers (reaches ys (narrowValues (modelIn s) x) (exprAt s v) (valuesSlot x)) r → Set' r
-        unfolding when
+        unfolding provided
         set-judged r z = set-rule x name-is r (rw (tests, ← second-at) z)
 
         pub set-fine : b ≡ false → Set' (doneOf s Fine)

@@ -3,7 +3,7 @@ use mathlib.Core.Path.{_≡_, refl, sym, _∙_}
 use mathlib.Core.Logic.{_≢_}
 use mathlib.Core.List.{List, _∷_}
 use mathlib.Core.Bool.{Bool, true, false, cond}
-use Prim.Native.Nat.{ℕ, zero, suc, _+_, _-_, _/_, _<_, _≤_}
+use Prim.Native.Nat.{ℕ, zero, suc, _+_, _-_, _<_, _≤_}
 use native.Mathlib.Numerals.{add-one}
 use native.Mathlib.Omega.{arith}
 use lib.Dec.{eqb}
@@ -11,7 +11,7 @@ use lib.ListN.{length, getD, set, length-set}
 use lib.Seq.{getD-set-same, getD-set-other}
 use borrow.Author.Tests.{ne-eqb}
 use Rattle.grammar.specs.Grammar as grammar
-use Rattle.sheet.specs.Scratch.{kindAt, endAt, nameAt, entry, skip}
+use Rattle.sheet.specs.Scratch.{kindAt, endAt, nameAt, skip, lineCount, paramCount, bodyCount, clauseCount}
 use Rattle.rules.specs.Text.{Name}
 use Rattle.rules.specs.Ast.{Stmt, list}
 use Rattle.rules.specs.Asking.{Res, _>>_, ifSome}
@@ -21,23 +21,25 @@ use Rattle.rules.proofs.Parts.{stop as end', _also_, pick}
 use Rattle.rules.proofs.Standing.{row-first, row-nth, row-take, skip-next}
 use Rattle.rules.proofs.Forest.{skip-least}
 use Rattle.rules.proofs.Records.{guard-at, let-at, emit-at, assign-at, do-at, event-at, EntryParts, entry-at, stmts-next, no-stmts}
-use Rattle.declared.specs.Answers.{Answers}
-use Rattle.declared.specs.Found.{Of}
-use Rattle.declared.specs.Refusal.{refusalOf, doneOf}
-use Rattle.declared.specs.declared.model.Found.{Found}
-use Rattle.declared.specs.declared.model.Found.the-variants.{At, Nothing}
-use Rattle.declared.specs.declared.refusal.Refusal.{Refusal}
-use Rattle.declared.specs.declared.refusal.Done.{Done}
-use Rattle.declared.specs.declared.refusal.Done.the-variants.{Fine, Refused}
-use Rattle.declared.proofs.Answers.{gives, then-fine, then-refused}
-use Rattle.declared.specs.Event.{foundEvent, EventNamed}
+use Rattle.refusals.specs.Answers.{Answers}
+use Rattle.lookups.specs.Found.{FoundKind}
+use Rattle.refusals.specs.Refusal.{refusalOf, doneOf}
+use Rattle.lookups.specs.declared.model.Found.{Found}
+use Rattle.lookups.specs.declared.model.Found.the-variants.{At, Nothing}
+use Rattle.refusals.specs.declared.refusal.Refusal.{Refusal}
+use Rattle.refusals.specs.declared.refusal.Done.{Done}
+use Rattle.refusals.specs.declared.refusal.Done.the-variants.{Fine, Refused}
+use Rattle.refusals.proofs.Answers.{gives, then-fine, then-refused}
+use Rattle.lookups.specs.Event.{foundEvent, EventNamed}
 use Rattle.wrapping.specs.Lines.{FewEntry, After}
 use Rattle.wrapping.specs.Marks.{isMarked, wrappedNames, marksAfter}
 use Rattle.wrapping.specs.Reach.{reachesEach, Emits}
+use Rattle.grammar.specs.Kinds as kinds
+use Rattle.sheet.specs.Line.{mostLines}
 
 -- ------------------------------------------------------------ an `emit`
 
-module _ (s S M : List ℕ) (k body i : ℕ) (a : After grammar.Stmt s S k body i) (e : kindAt S i ≡ 17) (x : Name) (r : Found) (y : x ≡ nameAt s S i) (f : EventNamed s S x r) where
+module _ (s S M : List ℕ) (k body i : ℕ) (a : After grammar.Stmt s S k body i) (e : kindAt S i ≡ kinds.emit) (x : Name) (r : Found) (y : x ≡ nameAt s S i) (f : EventNamed s S x r) where
   abbrev Judged : Res Unit → Type 0
   Judged t = Answers (narrowStmt (modelIn s) (wrappedNames s S M k body) (stmtAt s i)) t
 
@@ -46,13 +48,13 @@ module _ (s S M : List ℕ) (k body i : ℕ) (a : After grammar.Stmt s S k body 
   emit-none q = rw (emit-at (a .before .loaded) (a .here) e .0, ← y, ← f .found, q) (gives tt)
 
   module _ (j : ℕ) (q : r ≡ At j) where
-    of-event : (j < length S / 8) × (kindAt S j ≡ 2)
-    of-event = let o : Of S 2 (At j) = rw q at (f .kind) in o
+    of-event : (j < lineCount S) × (kindAt S j ≡ kinds.event)
+    of-event = let o : FoundKind S kinds.event (At j) = rw q at (f .kind) in o
 
     pub emit-event : Emits s S k body i j
     emit-event = record { stmt = a; emits = e; within = of-event .0; declares = of-event .1 }
 
-    pub emit-judged : (t : Done) → Answers (reachesEach (wrappedNames s S M k body) (nameAt s S i) (list (exprsAt s (entry S i 5) (suc i))) (paramsAt s (entry S j 5) (suc j))) (doneOf s t) → Judged (doneOf s t)
+    pub emit-judged : (t : Done) → Answers (reachesEach (wrappedNames s S M k body) (nameAt s S i) (list (exprsAt s (paramCount S i) (suc i))) (paramsAt s (paramCount S j) (suc j))) (doneOf s t) → Judged (doneOf s t)
     unfolding narrowStmt ifSome foundEvent reachesEach
     emit-judged t h = rw (emit-at (a .before .loaded) (a .here) e .0, ← y, ← f .found, q, event-at (a .before .loaded) (of-event .0) (of-event .1) .0, y) h
 
@@ -65,18 +67,18 @@ module _ (s S M : List ℕ) (k body i n : ℕ) (a : After grammar.Stmt s S k bod
   pub stmt-kind : (m : ℕ) → n ≡ m → kindAt S i ≡ m
   stmt-kind m h = sym q ∙ h
 
-  pub do-value : n ≡ 19 → After grammar.Expr s S k body (i + 1)
+  pub do-value : n ≡ kinds.do' → After grammar.Expr s S k body (i + 1)
   do-value h = record { before = a .before; here = rw (add-one i) (row-first (do-at (a .before .loaded) (a .here) (sym q ∙ h) .1)) }
 
-  pub do-judged : (t : Done) → n ≡ 19 → Answers (narrowSet (modelIn s) (wrappedNames s S M k body) (exprAt s (i + 1))) (doneOf s t) → Said (doneOf s t)
+  pub do-judged : (t : Done) → n ≡ kinds.do' → Answers (narrowSet (modelIn s) (wrappedNames s S M k body) (exprAt s (i + 1))) (doneOf s t) → Said (doneOf s t)
   unfolding narrowStmt
   do-judged t h j = rw (do-at (a .before .loaded) (a .here) (sym q ∙ h) .0, ← add-one i) j
 
-  pub stmt-plain : n ≢ 17 → n ≢ 18 → n ≢ 19 → Said (doneOf s Fine)
+  pub stmt-plain : n ≢ kinds.emit → n ≢ kinds.assign → n ≢ kinds.do' → Said (doneOf s Fine)
   unfolding narrowStmt doneOf
   stmt-plain x y z =
       let d = a .before .loaded in
-      pick {P = λ m. n ≡ m → Said (doneOf s Fine)} {i = 15} {n = 5} n
+      pick {P = λ m. n ≡ m → Said (doneOf s Fine)} {i = kinds.guard} {n = 5} n
       ((λ h. rw (guard-at d (a .here) (sym q ∙ h) .0) (gives tt))
       also (λ h. rw (let-at d (a .here) (sym q ∙ h) .0) (gives tt))
       also (λ h. absurd (x h))
@@ -100,22 +102,22 @@ names-kept s S M zero body l v h = refl
 names-kept s S M (suc k) body l v h =
     rw (getD-set-other M l (skip S k body) v 0 (λ e. omega (arith, h k (omega arith))), names-kept s S M k body l v (λ j z. h j (omega arith))) refl
 
-module _ (s S M : List ℕ) (k body i : ℕ) (a : After grammar.Stmt s S k body i) (z : i ≡ skip S k body) (w : length M ≡ 1024) where
+module _ (s S M : List ℕ) (k body i : ℕ) (a : After grammar.Stmt s S k body i) (z : i ≡ skip S k body) (w : length M ≡ mostLines) where
   d : Loaded s S
   d = a .before .loaded
 
-  other-names : (m : ℕ) → m ≢ 16 → kindAt S i ≡ m → wrappedNames s S (marksAfter s S M k body i) (suc k) body ≡ wrappedNames s S M k body
+  other-names : (m : ℕ) → m ≢ kinds.let' → kindAt S i ≡ m → wrappedNames s S (marksAfter s S M k body i) (suc k) body ≡ wrappedNames s S M k body
   unfolding wrappedNames isMarked marksAfter
-  other-names m h e = rw (← z, e, ne-eqb m 16 h) refl
+  other-names m h e = rw (← z, e, ne-eqb m kinds.let' h) refl
 
-  let-names : kindAt S i ≡ 16 → wrappedNames s S (marksAfter s S M k body i) (suc k) body ≡ wrappedAfter (wrappedNames s S M k body) (stmtAt s i)
+  let-names : kindAt S i ≡ kinds.let' → wrappedNames s S (marksAfter s S M k body i) (suc k) body ≡ wrappedAfter (wrappedNames s S M k body) (stmtAt s i)
   unfolding wrappedNames isMarked marksAfter wrappedAfter
   let-names e =
-      rw (let-at d (a .here) e .0, ← z, e) (go (wraps (wrappedNames s S M k body) (exprAt s (suc i))))
+      rw (let-at d (a .here) e .0, ← z, e) (by-cases (wraps (wrappedNames s S M k body) (exprAt s (suc i))))
     where
-      go : (b : Bool) → cond (eqb (getD (set M i (cond b 1 0)) i 0) 1) (nameAt s S i ∷ wrappedNames s S (set M i (cond b 1 0)) k body) (wrappedNames s S (set M i (cond b 1 0)) k body)
+      by-cases : (b : Bool) → cond (eqb (getD (set M i (cond b 1 0)) i 0) 1) (nameAt s S i ∷ wrappedNames s S (set M i (cond b 1 0)) k body) (wrappedNames s S (set M i (cond b 1 0)) k body)
           ≡ cond b (nameAt s S i ∷ wrappedNames s S M k body) (wrappedNames s S M k body)
-      go b =
+      by-cases b =
           rw (
             getD-set-same M i (cond b 1 0) 0 (omega (arith, a .here .within, a .before .few)),
             names-kept s S M k body i (cond b 1 0) (λ j h. rw z (before-last (a .before .row) j h)),
@@ -129,33 +131,33 @@ module _ (s S M : List ℕ) (k body i : ℕ) (a : After grammar.Stmt s S k body 
   names-after : wrappedNames s S (marksAfter s S M k body i) (suc k) body ≡ wrappedAfter (wrappedNames s S M k body) (stmtAt s i)
   unfolding wrappedAfter
   names-after =
-      pick {P = λ m. kindAt S i ≡ m → wrappedNames s S (marksAfter s S M k body i) (suc k) body ≡ wrappedAfter (wrappedNames s S M k body) (stmtAt s i)} {i = 15} {n = 5} (kindAt S i)
-      ((λ e. other-names 15 (λ q. omega arith) e ∙ rw (guard-at d (a .here) e .0) refl)
+      pick {P = λ m. kindAt S i ≡ m → wrappedNames s S (marksAfter s S M k body i) (suc k) body ≡ wrappedAfter (wrappedNames s S M k body) (stmtAt s i)} {i = kinds.guard} {n = 5} (kindAt S i)
+      ((λ e. other-names kinds.guard (λ q. omega arith) e ∙ rw (guard-at d (a .here) e .0) refl)
       also let-names
-      also (λ e. other-names 17 (λ q. omega arith) e ∙ rw (emit-at d (a .here) e .0) refl)
-      also (λ e. other-names 18 (λ q. omega arith) e ∙ rw (assign-at d (a .here) e .0) refl)
-      also (λ e. other-names 19 (λ q. omega arith) e ∙ rw (do-at d (a .here) e .0) refl)
+      also (λ e. other-names kinds.emit (λ q. omega arith) e ∙ rw (emit-at d (a .here) e .0) refl)
+      also (λ e. other-names kinds.assign (λ q. omega arith) e ∙ rw (assign-at d (a .here) e .0) refl)
+      also (λ e. other-names kinds.do' (λ q. omega arith) e ∙ rw (do-at d (a .here) e .0) refl)
       also end')
       (a .here .kind .0) (a .here .kind .1) refl
 
-  marks-length : length (marksAfter s S M k body i) ≡ 1024
+  marks-length : length (marksAfter s S M k body i) ≡ mostLines
   unfolding marksAfter
-  marks-length = go (eqb (kindAt S i) 16)
+  marks-length = by-cases (eqb (kindAt S i) kinds.let')
     where
-      go : (b : Bool) → length (cond b (set M i (cond (wraps (wrappedNames s S M k body) (exprAt s (suc i))) 1 0)) M) ≡ 1024
-      go true = length-set M i _ ∙ w
-      go false = w
+      by-cases : (b : Bool) → length (cond b (set M i (cond (wraps (wrappedNames s S M k body) (exprAt s (suc i))) 1 0)) M) ≡ mostLines
+      by-cases true = length-set M i _ ∙ w
+      by-cases false = w
 
 -- ------------------------------------------------------------ the statements of an entry
 
-module _ (s S : List ℕ) (i n : ℕ) (h : FewEntry s S i) (e : n ≡ entry S i 7) where
+module _ (s S : List ℕ) (i n : ℕ) (h : FewEntry s S i) (e : n ≡ bodyCount S i) where
   ld : Loaded s S
   ld = h .entry .loaded
 
-  at-entry : EntryParts s S i (entry S i 5) (entry S i 6) (entry S i 7)
+  at-entry : EntryParts s S i (paramCount S i) (clauseCount S i) (bodyCount S i)
   at-entry = entry-at ld (h .entry .within) (h .entry .kind)
 
-  pub entry-within : i < length S / 8
+  pub entry-within : i < lineCount S
   entry-within = h .entry .within
 
   pub no-body : n ≡ 0 → Answers (narrowWrapping (modelIn s) (entryAt s i)) (doneOf s Fine)
@@ -165,16 +167,16 @@ module _ (s S : List ℕ) (i n : ℕ) (h : FewEntry s S i) (e : n ≡ entry S i 
 -- no statement before the k-th refuses; the k-th of n stands at line at
 pub record Going (s S M : List ℕ) (i body n k at : ℕ) : Type 0 where
   pub loaded : Loaded s S
-  pub few : length S / 8 ≤ 1024
+  pub few : lineCount S ≤ mostLines
   pub row : Row S grammar.Stmt n body
   pub most : k ≤ n
   pub here : at ≡ skip S k body
-  pub marks : length M ≡ 1024
+  pub marks : length M ≡ mostLines
   pub rest : (r : Res Unit) → Answers (narrowStmts (modelIn s) (wrappedNames s S M k body) (stmtsAt s (n - k) at)) r
       → Answers (narrowWrapping (modelIn s) (entryAt s i)) r
 
-pub go-start : (s S M : List ℕ) (i n body : ℕ) → FewEntry s S i → n ≡ entry S i 7
-    → body ≡ skip S (entry S i 6) (skip S (entry S i 5) (suc i)) → length M ≡ 1024 → Going s S M i body n 0 body
+pub go-start : (s S M : List ℕ) (i n body : ℕ) → FewEntry s S i → n ≡ bodyCount S i
+    → body ≡ skip S (clauseCount S i) (skip S (paramCount S i) (suc i)) → length M ≡ mostLines → Going s S M i body n 0 body
 unfolding narrowWrapping wrappedNames skip
 go-start s S M i n body h e y w =
     let t = at-entry s S i n h e in

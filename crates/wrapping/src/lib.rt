@@ -1,4 +1,4 @@
-// Wrapping values that reach narrow slots: `narrow_wrapping` of module 6.
+// `narrow_wrapping` over loaded lines: wrapping values that reach narrow slots.
 mod entry;
 mod marks;
 mod reach;

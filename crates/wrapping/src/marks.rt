@@ -1,27 +1,35 @@
 // The `let`s that hold wrapping values, and the values that wrap. A mark of 1 is at the line of such a `let`.
+use grammar::kinds;
 use sheet::end;
 use sheet::kind;
+use sheet::limits;
 use sheet::name;
 use text::is_word;
 ghost use mathlib.Core.Bool.{_&&_};
 ghost use mathlib.Core.Path.{_≡_};
-ghost use Prim.Native.Nat.{_/_, _<_};
-ghost use lib.ListN.{length};
+ghost use Prim.Native.Nat.{_<_};
 ghost use Rattle.text.specs.Text.{same};
 ghost use Rattle.grammar.specs.Grammar.{Expr, Stmt};
-ghost use Rattle.sheet.specs.Scratch.{nameAt};
+ghost use Rattle.sheet.specs.Scratch.{nameAt, lineCount};
 ghost use Rattle.rules.specs.Assets.{wraps as wrapsOf};
 ghost use Rattle.rules.specs.Standing.{exprAt};
 ghost use Rattle.rules.specs.Text.{among};
 ghost use Rattle.wrapping.specs.Lines.{After, Before};
 ghost use Rattle.wrapping.specs.Marks.{isMarked, marksAfter, nextLine, wrappedNames, wrapsHere};
+ghost use Rattle.sheet.specs.Line.{mostLines};
 
 // Whether line i is a `let` of the name x that has a mark.
-fn is_marked(sheet: &[u8], lines: &[u16], marks: &[u8; 1024], x: &[u8], i: usize) -> bool
-    requires { ⌜ i < 1024 ⌝ }
+fn is_marked(
+    sheet: &[u8],
+    lines: &[u16],
+    marks: &[u8; limits::MOST_LINES],
+    x: &[u8],
+    i: usize,
+) -> bool
+    requires { ⌜ i < mostLines ⌝ }
     ensures { λ r. ⌜ r ≡ (isMarked (now (lines .entry)) (now (marks .entry)) i && same (now (x .entry)) (nameAt (now (sheet .entry)) (now (lines .entry)) i)) ⌝ }
 {
-    if kind(lines, i) != 16 {
+    if kind(lines, i) != kinds::LET {
         return false;
     }
     if marks[i] != 1 {
@@ -34,7 +42,7 @@ fn is_marked(sheet: &[u8], lines: &[u16], marks: &[u8; 1024], x: &[u8], i: usize
 fn is_wrapped(
     sheet: &[u8],
     lines: &[u16],
-    marks: &[u8; 1024],
+    marks: &[u8; limits::MOST_LINES],
     body: usize,
     bound: usize,
     x: &[u8],
@@ -58,7 +66,7 @@ fn is_wrapped(
 fn wraps_here(
     sheet: &[u8],
     lines: &[u16],
-    marks: &[u8; 1024],
+    marks: &[u8; limits::MOST_LINES],
     body: usize,
     bound: usize,
     i: usize,
@@ -67,10 +75,10 @@ fn wraps_here(
     ensures { λ r. ⌜ r ≡ wrapsHere (now (sheet .entry)) (now (lines .entry)) (wrappedNames (now (sheet .entry)) (now (lines .entry)) (now (marks .entry)) bound body) i ⌝ }
 {
     let k = kind(lines, i);
-    if k == 33 {
+    if k == kinds::WRAPPING {
         return true;
     }
-    if k != 21 {
+    if k != kinds::ID {
         return false;
     }
     is_wrapped(sheet, lines, marks, body, bound, name(sheet, lines, i))
@@ -78,14 +86,14 @@ fn wraps_here(
 
 // The next line of a value that counts: none inside a dot, nor in the callee of a call.
 fn next_line(lines: &[u16], i: usize) -> usize
-    requires { ⌜ i < length (now lines) / 8 ⌝ }
+    requires { ⌜ i < lineCount (now lines) ⌝ }
     ensures { λ r. ⌜ r ≡ nextLine (now (lines .entry)) i ⌝ }
 {
     let k = kind(lines, i);
-    if k == 30 {
+    if k == kinds::DOT {
         return end(lines, i);
     }
-    if k == 31 {
+    if k == kinds::CALL {
         return end(lines, i + 1);
     }
     i + 1
@@ -95,7 +103,7 @@ fn next_line(lines: &[u16], i: usize) -> usize
 pub fn wraps(
     sheet: &[u8],
     lines: &[u16],
-    marks: &[u8; 1024],
+    marks: &[u8; limits::MOST_LINES],
     body: usize,
     bound: usize,
     i: usize,
@@ -118,7 +126,7 @@ pub fn wraps(
 pub fn mark(
     sheet: &[u8],
     lines: &[u16],
-    marks: &mut [u8; 1024],
+    marks: &mut [u8; limits::MOST_LINES],
     body: usize,
     bound: usize,
     i: usize,
@@ -126,7 +134,7 @@ pub fn mark(
     requires { ⌜ After Stmt (now sheet) (now lines) bound body i ⌝ }
     ensures { λ r. ⌜ now (marks .exit) ≡ marksAfter (now (sheet .entry)) (now (lines .entry)) (now (marks .entry)) bound body i ⌝ }
 {
-    if kind(lines, i) != 16 {
+    if kind(lines, i) != kinds::LET {
         return;
     }
     if wraps(sheet, lines, marks, body, bound, i + 1) {

@@ -1,39 +1,42 @@
 // Slots that a wrapping value may not reach: narrow fields, narrow values of maps, and narrow parameters of events.
 use crate::marks::wraps;
-use declared::Done;
-use declared::Found;
-use declared::Refusal;
-use declared::event_named;
+use grammar::kinds;
+use lookups::Found;
+use lookups::event_named;
 use narrow::narrow_field;
 use narrow::narrow_max;
 use narrow::narrow_values;
+use refusals::Done;
+use refusals::Refusal;
+use sheet::call_arg_count;
+use sheet::emit_arg_count;
 use sheet::end;
-use sheet::first;
 use sheet::kind;
+use sheet::limits;
 use sheet::name;
-use sheet::second;
+use sheet::param_count;
 use text::is_word;
 ghost use mathlib.Core.Bool.{_&&_, not};
 ghost use mathlib.Core.Path.{_≡_};
-ghost use Prim.Native.Nat.{_/_, _<_, suc};
+ghost use Prim.Native.Nat.{_<_, suc};
 ghost use lib.Dec.{eqb};
-ghost use lib.ListN.{length};
 ghost use Rattle.grammar.specs.Grammar.{Expr, Stmt};
-ghost use Rattle.sheet.specs.Scratch.{entry, kindAt, nameAt};
+ghost use Rattle.sheet.specs.Scratch.{kindAt, nameAt, lineCount, emitArgCount, paramCount};
 ghost use Rattle.rules.specs.Assets.{narrowSet, narrowStmt, wraps as wrapsOf};
 ghost use Rattle.rules.specs.Ast.{list};
 ghost use Rattle.rules.specs.Standing.{exprAt, exprsAt, modelIn, paramsAt, stmtAt};
-ghost use Rattle.declared.specs.Answers.{Answers};
-ghost use Rattle.declared.specs.Refusal.{doneOf};
+ghost use Rattle.refusals.specs.Answers.{Answers};
+ghost use Rattle.refusals.specs.Refusal.{doneOf};
 ghost use Rattle.wrapping.specs.Lines.{After};
 ghost use Rattle.wrapping.specs.Marks.{wrappedNames};
 ghost use Rattle.wrapping.specs.Reach.{Emits, reachesEach, setsAt};
+ghost use Rattle.grammar.specs.Kinds as kinds;
 
 // Whether the value at line i wraps and its slot is narrow: the slot's largest number is not 0.
 fn reaches(
     sheet: &[u8],
     lines: &[u16],
-    marks: &[u8; 1024],
+    marks: &[u8; limits::MOST_LINES],
     body: usize,
     bound: usize,
     narrow: u64,
@@ -52,17 +55,17 @@ fn reaches(
 fn narrow_assign(
     sheet: &[u8],
     lines: &[u16],
-    marks: &[u8; 1024],
+    marks: &[u8; limits::MOST_LINES],
     body: usize,
     bound: usize,
     i: usize,
 ) -> Done
     requires { ⌜ After Stmt (now sheet) (now lines) bound body i ⌝ }
-    requires { ⌜ kindAt (now lines) i ≡ 18 ⌝ }
+    requires { ⌜ kindAt (now lines) i ≡ kinds.assign ⌝ }
     ensures { λ r. ⌜ Answers (narrowStmt (modelIn (now (sheet .entry))) (wrappedNames (now (sheet .entry)) (now (lines .entry)) (now (marks .entry)) bound body) (stmtAt (now (sheet .entry)) i)) (doneOf (now (sheet .entry)) r) ⌝ }
 {
     let target = i + 1;
-    if kind(lines, target) != 21 {
+    if kind(lines, target) != kinds::ID {
         return Done::Fine;
     }
     let value = end(lines, target);
@@ -78,25 +81,25 @@ fn narrow_assign(
 
 // Whether line i is a call NAME.set(..) that has a second argument.
 fn sets(sheet: &[u8], lines: &[u16], i: usize) -> bool
-    requires { ⌜ i < length (now lines) / 8 ⌝ }
+    requires { ⌜ i < lineCount (now lines) ⌝ }
     ensures { λ r. ⌜ r ≡ setsAt (now (sheet .entry)) (now (lines .entry)) i ⌝ }
 {
-    if kind(lines, i) != 31 {
+    if kind(lines, i) != kinds::CALL {
         return false;
     }
     let callee = i + 1;
-    if kind(lines, callee) != 30 {
+    if kind(lines, callee) != kinds::DOT {
         return false;
     }
     let is_set = is_word(name(sheet, lines, callee), b"set");
-    is_set & ((kind(lines, callee + 1) == 21) & (1 < second(lines, i)))
+    is_set & ((kind(lines, callee + 1) == kinds::ID) & (1 < call_arg_count(lines, i)))
 }
 
 // The call or other expression at line i, which is a statement.
 fn narrow_set(
     sheet: &[u8],
     lines: &[u16],
-    marks: &[u8; 1024],
+    marks: &[u8; limits::MOST_LINES],
     body: usize,
     bound: usize,
     i: usize,
@@ -125,19 +128,19 @@ fn narrow_set(
 fn narrow_args(
     sheet: &[u8],
     lines: &[u16],
-    marks: &[u8; 1024],
+    marks: &[u8; limits::MOST_LINES],
     body: usize,
     bound: usize,
     i: usize,
     event: usize,
 ) -> Done
     requires { ⌜ Emits (now sheet) (now lines) bound body i event ⌝ }
-    ensures { λ r. ⌜ Answers (reachesEach (wrappedNames (now (sheet .entry)) (now (lines .entry)) (now (marks .entry)) bound body) (nameAt (now (sheet .entry)) (now (lines .entry)) i) (list (exprsAt (now (sheet .entry)) (entry (now (lines .entry)) i 5) (suc i))) (paramsAt (now (sheet .entry)) (entry (now (lines .entry)) event 5) (suc event))) (doneOf (now (sheet .entry)) r) ⌝ }
+    ensures { λ r. ⌜ Answers (reachesEach (wrappedNames (now (sheet .entry)) (now (lines .entry)) (now (marks .entry)) bound body) (nameAt (now (sheet .entry)) (now (lines .entry)) i) (list (exprsAt (now (sheet .entry)) (emitArgCount (now (lines .entry)) i) (suc i))) (paramsAt (now (sheet .entry)) (paramCount (now (lines .entry)) event) (suc event))) (doneOf (now (sheet .entry)) r) ⌝ }
 {
     let mut arg = i + 1;
-    let mut args = first(lines, i);
+    let mut args = emit_arg_count(lines, i);
     let mut param = event + 1;
-    let mut params = first(lines, event);
+    let mut params = param_count(lines, event);
     while 0 < args {
         if params == 0 {
             return Done::Fine;
@@ -161,13 +164,13 @@ fn narrow_args(
 fn narrow_emit(
     sheet: &[u8],
     lines: &[u16],
-    marks: &[u8; 1024],
+    marks: &[u8; limits::MOST_LINES],
     body: usize,
     bound: usize,
     i: usize,
 ) -> Done
     requires { ⌜ After Stmt (now sheet) (now lines) bound body i ⌝ }
-    requires { ⌜ kindAt (now lines) i ≡ 17 ⌝ }
+    requires { ⌜ kindAt (now lines) i ≡ kinds.emit ⌝ }
     ensures { λ r. ⌜ Answers (narrowStmt (modelIn (now (sheet .entry))) (wrappedNames (now (sheet .entry)) (now (lines .entry)) (now (marks .entry)) bound body) (stmtAt (now (sheet .entry)) i)) (doneOf (now (sheet .entry)) r) ⌝ }
 {
     match event_named(sheet, lines, name(sheet, lines, i)) {
@@ -180,7 +183,7 @@ fn narrow_emit(
 pub fn narrow_stmt(
     sheet: &[u8],
     lines: &[u16],
-    marks: &[u8; 1024],
+    marks: &[u8; limits::MOST_LINES],
     body: usize,
     bound: usize,
     i: usize,
@@ -189,13 +192,13 @@ pub fn narrow_stmt(
     ensures { λ r. ⌜ Answers (narrowStmt (modelIn (now (sheet .entry))) (wrappedNames (now (sheet .entry)) (now (lines .entry)) (now (marks .entry)) bound body) (stmtAt (now (sheet .entry)) i)) (doneOf (now (sheet .entry)) r) ⌝ }
 {
     let k = kind(lines, i);
-    if k == 17 {
+    if k == kinds::EMIT {
         return narrow_emit(sheet, lines, marks, body, bound, i);
     }
-    if k == 18 {
+    if k == kinds::ASSIGN {
         return narrow_assign(sheet, lines, marks, body, bound, i);
     }
-    if k == 19 {
+    if k == kinds::DO {
         return narrow_set(sheet, lines, marks, body, bound, i + 1);
     }
     Done::Fine

@@ -1,31 +1,22 @@
-use mathlib.Core.Path.{sym}
 use lib.Seq.{length-take-le}
 use borrow.Author.Needs.{needs}
 use Rattle.replay_reader.proofs.turn.Statement.{statement}
 use Rattle.replay_reader.proofs.turn.Tie as tie
 
-slice-aggregate-one : tie.Need-slice-aggregate-one
-slice-aggregate-one c = sym (length-take-le _ _ (c .before .before .if2 .left))
-
-slice-aggregate-one-2 : tie.Need-slice-aggregate-one-2
-slice-aggregate-one-2 c = sym (length-take-le _ _ (c .before .before .if3 .left))
-
 pub turn-spec : {M : Type 1} → statement M
 turn-spec =
     tie.close
     (tie.spec
-    (λ c. search needs)
-    (λ c κs. search needs)
-    (λ c. search needs)
-    (λ c κs. search needs)
-    (λ c κs. search needs)
     (λ c κs. search needs)
     (λ c. search needs)
     (λ c. search needs)
     (λ c. search needs)
-    slice-aggregate-one
     (λ c. search needs)
-    slice-aggregate-one-2
+    (λ c. search needs)
+    (λ c. search needs)
+    (λ c. search (needs, length-take-le))
+    (λ c. search needs)
+    (λ c. search (needs, length-take-le))
     (λ c κs. search needs)
     (λ c. search needs)
     (λ c. search needs)

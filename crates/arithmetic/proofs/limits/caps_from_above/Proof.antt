@@ -3,7 +3,8 @@ use borrow.Author.Needs.{needs}
 use native.Mathlib.Omega.{arith}
 use Rattle.rules.specs.Arithmetic.{capsFromAbove}
 use Rattle.rules.specs.Standing.{exprAt}
-use Rattle.arithmetic.proofs.Walks.{walk-here, walk-less}
+use Rattle.rules.proofs.Walks.{walk-less}
+use Rattle.arithmetic.proofs.Walks.{walk-here}
 use Rattle.arithmetic.proofs.Capping.{caps-start, caps-into, caps-found, caps-next, caps-over, Caps}
 use Rattle.arithmetic.proofs.limits.caps_from_above.Statement.{statement}
 use Rattle.arithmetic.proofs.limits.caps_from_above.Tie as tie

@@ -3,7 +3,8 @@ use borrow.Author.Needs.{needs}
 use native.Mathlib.Omega.{arith}
 use Rattle.rules.specs.Arithmetic.{mentions}
 use Rattle.rules.specs.Standing.{exprAt}
-use Rattle.arithmetic.proofs.Walks.{mention-start, walk-less, mention-past, mention-found, mention-onward, mention-over, Mention}
+use Rattle.rules.proofs.Walks.{walk-less}
+use Rattle.arithmetic.proofs.Walks.{walk-here, mention-start, mention-past, mention-found, mention-onward, mention-over, Mention}
 use Rattle.arithmetic.proofs.Capping.{taken}
 use Rattle.arithmetic.proofs.limits.mentions.Statement.{statement}
 use Rattle.arithmetic.proofs.limits.mentions.Tie as tie
@@ -20,7 +21,7 @@ mentions-spec =
     (tie.spec Inv μ
     (λ c κs. search needs)
     (λ c. search (needs, mention-start))
-    (λ c κs. search needs)
+    (λ c κs. search (needs, walk-here))
     (λ c κs. search needs)
     (λ c. search (needs, walk-less))
     (λ c. search (needs, mention-past))
@@ -28,5 +29,5 @@ mentions-spec =
     (λ c. search (needs, mention-found))
     (λ c. omega arith)
     (λ c. omega arith)
-    (λ c. let l = c .before .before .before .before in mention-onward _ _ _ _ _ _ (l .before .loop .inv) (l .loop-test .taken) _ (c .before .before .before .kind .ensures) (c .before .before .if1 .left) _ (c .before .is-named .ensures) (c .if2 .left))
+    (λ c. let l = c .before .before .before .before in mention-onward _ _ _ _ _ _ (l .before .loop .inv) (l .loop-test .taken) _ (c .before .before .before .acknowledged .ensures) (c .before .before .if1 .left) _ (c .before .is-named .ensures) (c .if2 .left))
     (λ c. search (needs, mention-over)))

@@ -4,7 +4,8 @@ use native.Mathlib.Omega.{arith}
 use Rattle.rules.specs.Arithmetic.{sumTerms, without}
 use Rattle.rules.specs.Standing.{exprAt}
 use Rattle.rules.specs.Typing.{isSome}
-use Rattle.arithmetic.proofs.Walks.{walk-here, walk-less}
+use Rattle.rules.proofs.Walks.{walk-less}
+use Rattle.arithmetic.proofs.Walks.{walk-here}
 use Rattle.arithmetic.proofs.Terms.{target-start, target-into, target-found, target-next, target-over, Targeted}
 use Rattle.arithmetic.proofs.sums.has_target.Statement.{statement}
 use Rattle.arithmetic.proofs.sums.has_target.Tie as tie

@@ -5,7 +5,8 @@ use mathlib.Core.Bool.{not}
 use Rattle.rules.specs.Arithmetic.{any, sumTerms, bounded}
 use Rattle.rules.specs.Standing.{entryAt, exprAt}
 use Rattle.arithmetic.specs.Tests.{others}
-use Rattle.arithmetic.proofs.Walks.{walk-here, walk-less}
+use Rattle.rules.proofs.Walks.{walk-less}
+use Rattle.arithmetic.proofs.Walks.{walk-here}
 use Rattle.arithmetic.proofs.Terms.{unbounded-start, unbounded-into, unbounded-own, unbounded-found, unbounded-next, unbounded-over, Unbounded}
 use Rattle.arithmetic.proofs.sums.has_unbounded.Statement.{statement}
 use Rattle.arithmetic.proofs.sums.has_unbounded.Tie as tie

@@ -1,5 +1,5 @@
 use borrow.Author.Needs.{needs}
-use Rattle.assets.proofs.Consuming.{mints-walked, after-sum, after-exprs, after-both, condition-here, condition-walked}
+use Rattle.assets.proofs.Consuming.{condition-here, condition-walked, after-sum, after-exprs, after-both, bare-walked}
 use Rattle.assets.proofs.consumed.clause_assets.Statement.{statement}
 use Rattle.assets.proofs.consumed.clause_assets.Tie as tie
 
@@ -8,13 +8,13 @@ clause-assets-spec =
     tie.close
     (tie.spec
     (λ c κs. search needs)
-    (λ c. search (needs, mints-walked))
+    (λ c. search needs)
+    (λ c κs. search (needs, condition-here))
+    (λ c. search (needs, condition-walked))
     (λ c. search needs)
     (λ c κs. search needs)
     (λ c κs. search needs)
     (λ c. search (needs, after-sum))
     (λ c κs. search (needs, after-exprs))
     (λ c. search (needs, after-both))
-    (λ c. search needs)
-    (λ c κs. search (needs, condition-here))
-    (λ c. search (needs, condition-walked)))
+    (λ c. search (needs, bare-walked)))

@@ -22,6 +22,7 @@ pass-item-spec =
     (λ c κs. search (needs, item-params))
     (λ c. search (needs, params-pass))
     (λ c κs. search needs)
+    (λ c κs. search needs)
     (λ c. search needs)
     (λ c κs. search needs)
     (λ c κs. search (needs, item-records))

@@ -13,7 +13,7 @@ use Rattle.checking.proofs.records.+check_records.{statement}
 use Rattle.checking.proofs.records.+check_records.Tie.{close}
 
 abbrev μ : Measures 3 check-records-kinds.ps ℕ
-μ κs a = a .1 .1 .1 .1 .1 .0
+μ κs a = a .1 .1 .1 .1 .1 .1 .0
 
 abbrev at : ℕ → In 3 check-records-kinds.ps
 at t = and 3 check-records-kinds.ps (is 3 check-records-kinds.ps μ t) check-records.Pre
@@ -32,7 +32,7 @@ met t =
     (λ c. search needs)
     (λ c κs. search needs)
     (λ c. search needs)
-    (λ c κs. (search needs, records-rest _ _ _ _ _ _ (c .before .before .before .before .before .before .before .before .before .before .before .before .pre .1) (c .before .before .before .before .before .before .before .before .if1 .left) _ _ (c .before .before .before .before .before .before .check-record .ensures) (c .before .before .enum-told .given .1) _ (c .end .ensures)))
+    (λ c κs. (search needs, records-rest _ _ _ _ _ _ _ (c .before .before .before .before .before .before .before .before .before .before .before .before .pre .1) (c .before .before .before .before .before .before .before .before .if1 .left) _ _ (c .before .before .before .before .before .before .check-record .ensures) (c .before .before .enum-told .given .1) _ (c .end .ensures)))
     (λ c. search needs)
     (λ c. search (needs, does-length))
     (λ c. search (needs, records-ok))

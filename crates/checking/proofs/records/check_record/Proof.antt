@@ -8,7 +8,6 @@ pub check-record-spec : {M : Type 1} → statement M
 check-record-spec =
     tie.close
     (tie.spec
-    (λ c κs. search needs)
     (λ c κs. search (needs, a-field-in))
     (λ c. search (needs, does-length))
     (λ c. search (needs, field-does))

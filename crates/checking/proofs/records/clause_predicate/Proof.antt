@@ -9,8 +9,8 @@ clause-predicate-spec =
     tie.close
     (tie.spec
     (λ c κs. search needs)
-    (λ c. search (needs, clause-other))
     (λ c. search needs)
     (λ c κs. search (needs, clause-asks))
     (λ c. search (needs, does-length))
-    (λ c. search (needs, clause-does)))
+    (λ c. search (needs, clause-does))
+    (λ c. search (needs, clause-other)))

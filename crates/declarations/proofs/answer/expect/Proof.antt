@@ -1,4 +1,4 @@
-use Rattle.declared.specs.Answers.{expected}
+use Rattle.refusals.specs.Answers.{expected}
 use Rattle.declarations.proofs.answer.expect.Statement.{statement}
 use Rattle.declarations.proofs.answer.expect.Tie as tie
 

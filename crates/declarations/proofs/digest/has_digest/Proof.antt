@@ -5,7 +5,7 @@ use Prim.Native.Nat.{_-_, _≤_, _<_}
 use borrow.Author.Needs.{needs}
 use lib.ListN.{length, drop}
 use Rattle.rules.specs.Declarations.{lower, containsAny, DIGEST_NAME_TOKENS}
-use Rattle.declarations.proofs.Digests.{rest, place-in, place-over, word-hit, word-miss, word-over}
+use Rattle.declarations.proofs.Digests.{rest, index-in, place-over, word-hit, word-miss, word-over}
 use Rattle.declarations.proofs.digest.has_digest.Statement.{statement}
 use Rattle.declarations.proofs.digest.has_digest.Tie as tie
 
@@ -31,7 +31,7 @@ has-digest-spec =
     Inv-places
     μ-places
     (λ c. (refl, refl))
-    (λ c. search (needs, place-in))
+    (λ c. search (needs, index-in))
     (λ c. search needs)
     (λ c. search needs)
     (λ c. search needs)

@@ -3,7 +3,7 @@ use mathlib.Core.Path.{_≡_}
 use Prim.Native.Nat.{_-_, _≤_}
 use borrow.Author.Needs.{needs}
 use lib.ListN.{length}
-use Rattle.rules.specs.Declared.{parseU64}
+use Rattle.rules.specs.Types.{parseU64}
 use Rattle.declarations.specs.Tests.{sizeFits}
 use Rattle.declarations.proofs.Sizes.{left, size-start, size-skip, size-more, size-over, size-high}
 use Rattle.declarations.proofs.guardian.size_fits.Statement.{statement}

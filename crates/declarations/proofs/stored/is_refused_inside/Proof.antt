@@ -2,7 +2,7 @@ use mathlib.Core.Bool.{or-false}
 use mathlib.Core.Path.{refl}
 use borrow.Author.Needs.{needs}
 use Rattle.rules.specs.Asking.{code}
-use Rattle.rules.specs.Declared.{isTy, eqTy}
+use Rattle.rules.specs.Types.{isTy, eqTy}
 use Rattle.declarations.specs.Tests.{refusedInside}
 use Rattle.declarations.proofs.stored.is_refused_inside.Statement.{statement}
 use Rattle.declarations.proofs.stored.is_refused_inside.Tie as tie

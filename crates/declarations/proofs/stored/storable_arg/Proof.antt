@@ -1,5 +1,5 @@
 use borrow.Author.Needs.{needs}
-use Rattle.declared.proofs.Types.{arg-type}
+use Rattle.lookups.proofs.Types.{arg-type}
 use Rattle.declarations.proofs.Storing.{arg-other, arg-judged}
 use Rattle.declarations.proofs.stored.storable_arg.Statement.{statement}
 use Rattle.declarations.proofs.stored.storable_arg.Tie as tie

@@ -2,6 +2,7 @@ use borrow.Author.Needs.{needs}
 use Rattle.env.proofs.Lookups.{found-next, pool, no-pool}
 use Rattle.env.proofs.env.is_pool.Statement.{statement}
 use Rattle.env.proofs.env.is_pool.Tie as tie
+use Rattle.grammar.specs.Kinds as kinds
 
 pub is-pool-spec : {M : Type 1} → statement M
 is-pool-spec =
@@ -9,7 +10,7 @@ is-pool-spec =
     (tie.spec
     (λ c κs. search needs)
     (λ c. search needs)
-    (λ c. search (needs, found-next 6))
+    (λ c. search (needs, found-next kinds.field))
     (λ c κs. search needs)
     (λ c. search needs)
     (λ c κs. search needs)

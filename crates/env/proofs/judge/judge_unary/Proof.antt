@@ -1,6 +1,6 @@
 use borrow.Author.Needs.{needs}
 use Rattle.rules.specs.Asking.{code}
-use Rattle.rules.specs.Declared.{eqTy}
+use Rattle.rules.specs.Types.{eqTy}
 use Rattle.env.proofs.Judging.{unary-fine, unary-wrong, not-is, not-op, neg-is, neg-op}
 use Rattle.env.proofs.judge.judge_unary.Statement.{statement}
 use Rattle.env.proofs.judge.judge_unary.Tie as tie

@@ -1,6 +1,6 @@
 use borrow.Author.Needs.{needs}
 use Rattle.rules.specs.Asking.{code}
-use Rattle.rules.specs.Declared.{eqTy}
+use Rattle.rules.specs.Types.{eqTy}
 use Rattle.env.proofs.Judging.{both-judged, logical-is}
 use Rattle.env.proofs.judge.logical.Statement.{statement}
 use Rattle.env.proofs.judge.logical.Tie as tie

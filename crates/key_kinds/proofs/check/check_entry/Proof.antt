@@ -9,7 +9,7 @@ abbrev Inv-loop : tie.InvT-loop
 Inv-loop sheet lines kinds₀ entry stop at₀ kinds at = Walking sheet lines kinds₀ kinds entry stop at
 
 abbrev μ-loop : tie.MeasureT-loop
-μ-loop sheet lines kinds₀ entry stop at₀ kinds at = stop - at
+μ-loop sheet lines each-kind₀ entry stop at₀ each-kind at = stop - at
 
 pub check-entry-spec : {M : Type 1} → statement M
 check-entry-spec =

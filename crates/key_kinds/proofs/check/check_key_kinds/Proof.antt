@@ -7,7 +7,7 @@ abbrev Inv-loop : tie.InvT-loop
 Inv-loop sheet lines kinds₀ item₀ left₀ kinds item left = Items sheet lines kinds left item
 
 abbrev μ-loop : tie.MeasureT-loop
-μ-loop sheet lines kinds₀ item₀ left₀ kinds item left = left
+μ-loop sheet lines each-kind₀ item₀ left₀ each-kind item left = left
 
 pub check-key-kinds-spec : {M : Type 1} → statement M
 check-key-kinds-spec =

@@ -1,7 +1,6 @@
 use borrow.Author.Needs.{needs}
-use Rattle.rules.specs.Declared.{describe}
-use Rattle.rules.specs.Kept.{tyOfMark}
-use Rattle.declared.specs.Codes.{tyFrom}
+use Rattle.rules.specs.Types.{describe}
+use Rattle.rules.specs.Kept.{tyOfMark, tyFrom}
 use Rattle.message.proofs.Told.{described, described-rest}
 use Rattle.message.proofs.between.add_described.Statement.{statement}
 use Rattle.message.proofs.between.add_described.Tie as tie

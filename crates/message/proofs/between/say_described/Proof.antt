@@ -1,5 +1,5 @@
 use borrow.Author.Needs.{needs}
-use Rattle.pieces.proofs.Adding.{says}
+use Rattle.writing.proofs.Adding.{says}
 use Rattle.message.proofs.between.say_described.Statement.{statement}
 use Rattle.message.proofs.between.say_described.Tie as tie
 

@@ -2,7 +2,7 @@ use mathlib.Core.Path.{refl}
 use mathlib.Core.List.{_++_}
 use borrow.Author.Needs.{needs}
 use Rattle.rules.specs.Text.{render}
-use Rattle.declared.specs.Refusal.{refusalOf}
+use Rattle.refusals.specs.Refusal.{refusalOf}
 use Rattle.refusals.proofs.Tags.{past-keys, places}
 use Rattle.message.proofs.Told.{told, told-field}
 use Rattle.message.proofs.refusal.add_from_30.Statement.{statement}

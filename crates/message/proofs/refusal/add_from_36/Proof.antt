@@ -1,7 +1,7 @@
 use mathlib.Core.Path.{refl}
 use borrow.Author.Needs.{needs}
 use Rattle.rules.specs.Text.{render}
-use Rattle.declared.specs.Refusal.{refusalOf}
+use Rattle.refusals.specs.Refusal.{refusalOf}
 use Rattle.refusals.proofs.Tags.{not-from, places}
 use Rattle.message.proofs.Told.{told}
 use Rattle.message.proofs.refusal.add_from_36.Statement.{statement}

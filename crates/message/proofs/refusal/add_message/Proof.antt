@@ -1,7 +1,7 @@
 use mathlib.Core.Path.{refl}
 use borrow.Author.Needs.{needs}
 use Rattle.rules.specs.Text.{digits, render}
-use Rattle.declared.specs.Refusal.{refusalOf}
+use Rattle.refusals.specs.Refusal.{refusalOf}
 use Rattle.refusals.proofs.Tags.{from-keys, places}
 use Rattle.message.proofs.Told.{told, told-name, told-type, told-param}
 use Rattle.message.proofs.refusal.add_message.Statement.{statement}

@@ -8,7 +8,7 @@ use native.Mathlib.Omega.{arith}
 use lib.ListN.{length, getD, drop}
 use Rattle.text.specs.Text.{either, ended}
 use Rattle.sheet.specs.Step.{orTen, stepAll}
-use Rattle.grammar.specs.Table.{numbersOf}
+use Rattle.grammar.specs.Table.{mostFields, numbersOf}
 use Rattle.grammar.proofs.TableLaws.{rule-at, numbers-count, fields-at}
 use Rattle.sheet.proofs.Turns.{Turn, turn-over, turn-ends, turn-wrong, turn-taken}
 use Rattle.sheet.proofs.line.read_fields.Statement.{statement}
@@ -21,8 +21,8 @@ Inv-loop y kind n l₀ c₀ j₀ l c j =
 abbrev μ-loop : tie.MeasureT-loop
 μ-loop y kind n l₀ c₀ j₀ l c j = n - j
 
--- there are n rules, at most three
-many : (c : tie.After-fields Inv-loop μ-loop) → (c .fields .result ≡ length (numbersOf (c .before .before .args .line .kind))) × (c .fields .result ≤ 3)
+-- there are n rules, not too many for the table
+many : (c : tie.After-fields Inv-loop μ-loop) → (c .fields .result ≡ length (numbersOf (c .before .before .args .line .kind))) × (c .fields .result ≤ mostFields)
 many c =
     let b = c .before .before in
     let f = fields-at _ _ (b .pre .known) (c .fields .ensures) in

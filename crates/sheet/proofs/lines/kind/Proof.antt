@@ -5,7 +5,7 @@ use Rattle.sheet.proofs.lines.kind.Tie as tie
 
 returns : tie.Need-returns
 unfolding kindAt
-returns c = rw (c .entry .ensures .0)
+returns c = rw (c .cell .ensures .0)
 
 pub kind-spec : {M : Type 1} → statement M
 kind-spec = tie.close (tie.spec (λ c κs. search needs) returns)

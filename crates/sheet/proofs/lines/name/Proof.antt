@@ -6,7 +6,7 @@ use Rattle.sheet.proofs.lines.name.Tie as tie
 
 returns : tie.Need-returns
 unfolding nameAt cut
-returns c = rw (← c .before .before .entry .ensures .0, ← c .before .entry2 .ensures .0) (c .cut .ensures)
+returns c = rw (← c .before .before .cell .ensures .0, ← c .before .cell2 .ensures .0) (c .cut .ensures)
 
 pub name-spec : {M : Type 1} → statement M
 name-spec = tie.close (tie.spec (λ c κs. search needs) (λ c κs. search needs) (λ c κs. search needs) returns)

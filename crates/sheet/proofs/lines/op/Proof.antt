@@ -5,7 +5,7 @@ use Rattle.sheet.proofs.lines.op.Tie as tie
 
 returns : tie.Need-returns
 unfolding opAt
-returns c = rw (c .entry .ensures .0)
+returns c = rw (c .cell .ensures .0)
 
 pub op-spec : {M : Type 1} → statement M
 op-spec = tie.close (tie.spec (λ c κs. search needs) returns)

@@ -16,7 +16,7 @@ returns-2 c =
     let d = c .before .before in
     let t = d .before .before .before in
     let h = t .before .before .before .before in
-    read-none _ _ _ _ _ _ _ (t .number .given .1) (h .scan .ensures) (d .clear .ensures)
+    read-none _ _ _ _ _ _ _ (t .number .given .1) (h .scan .ensures) (d .fill-u16 .ensures)
 
 pub load-lines-spec : {M : Type 1} → statement M
 load-lines-spec =

@@ -16,12 +16,12 @@ sub-k c = omega (arith, c .before .before .before .before .before .pre .some)
 part-sort-requires : tie.Need-part-sort-requires
 part-sort-requires c κs =
     let e = c .before .before .before .before in
-    (kind-below _ _ _ (e .entry .ensures .0) (e .before .before .pre .kind), omega arith)
+    (kind-below _ _ _ (e .cell .ensures .0) (e .before .before .pre .kind), omega arith)
 
 returns : tie.Need-returns
 returns c =
     let d = c .before .before in
-    next-first _ _ _ _ _ _ _ _ (d .before .before .before .entry .ensures .0) (d .before .before .entry2 .ensures .0) (d .before .entry3 .ensures .0) (d .entry4 .ensures .0) (c .before .if1 .taken) (c .part-sort .ensures)
+    next-first _ _ _ _ _ _ _ _ (d .before .before .before .cell .ensures .0) (d .before .before .cell2 .ensures .0) (d .before .cell3 .ensures .0) (d .cell4 .ensures .0) (c .before .if1 .taken) (c .part-sort .ensures)
 
 add-k-if2 : tie.Need-add-if2
 add-k-if2 c = omega (arith, c .before .before .before .before .before .before .pre .small)
@@ -29,22 +29,22 @@ add-k-if2 c = omega (arith, c .before .before .before .before .before .before .p
 part-sort-requires-2 : tie.Need-part-sort-requires-2
 part-sort-requires-2 c κs =
     let e = c .before .before .before .before .before in
-    (kind-below _ _ _ (e .entry .ensures .0) (e .before .before .pre .kind), omega arith)
+    (kind-below _ _ _ (e .cell .ensures .0) (e .before .before .pre .kind), omega arith)
 
 returns-2 : tie.Need-returns-2
 returns-2 c =
     let d = c .before .before .before in
-    next-second _ _ _ _ _ _ _ _ (d .before .before .before .entry .ensures .0) (d .before .before .entry2 .ensures .0) (d .before .entry3 .ensures .0) (d .entry4 .ensures .0) (c .before .before .if1 .left) (c .before .if2 .taken) (c .part-sort2 .ensures)
+    next-second _ _ _ _ _ _ _ _ (d .before .before .before .cell .ensures .0) (d .before .before .cell2 .ensures .0) (d .before .cell3 .ensures .0) (d .cell4 .ensures .0) (c .before .before .if1 .left) (c .before .if2 .taken) (c .part-sort2 .ensures)
 
 part-sort-requires-3 : tie.Need-part-sort-requires-3
 part-sort-requires-3 c κs =
     let e = c .before .before .before .before .before in
-    (kind-below _ _ _ (e .entry .ensures .0) (e .before .before .pre .kind), omega arith)
+    (kind-below _ _ _ (e .cell .ensures .0) (e .before .before .pre .kind), omega arith)
 
 returns-3 : tie.Need-returns-3
 returns-3 c =
     let d = c .before .before .before in
-    next-third _ _ _ _ _ _ _ _ (d .before .before .before .entry .ensures .0) (d .before .before .entry2 .ensures .0) (d .before .entry3 .ensures .0) (d .entry4 .ensures .0) (c .before .before .if1 .left) (c .before .if2 .left) (c .part-sort3 .ensures)
+    next-third _ _ _ _ _ _ _ _ (d .before .before .before .cell .ensures .0) (d .before .before .cell2 .ensures .0) (d .before .cell3 .ensures .0) (d .cell4 .ensures .0) (c .before .before .if1 .left) (c .before .if2 .left) (c .part-sort3 .ensures)
 
 pub next-sort-spec : {M : Type 1} → statement M
 next-sort-spec =

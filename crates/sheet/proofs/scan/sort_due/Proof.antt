@@ -11,13 +11,13 @@ returns c = rw (le-leb _ _ (c .if1 .taken))
 next-sort-requires : tie.Need-next-sort-requires
 next-sort-requires c κs =
     let w = c .before .before in
-    rw (w .wide .ensures, c .wide2 .ensures) (w .before .before .before .before .pre .next (w .before .before .if1 .left))
+    rw (w .wide-u16 .ensures, c .wide-u162 .ensures) (w .before .before .before .before .pre .next (w .before .before .if1 .left))
 
 returns-2 : tie.Need-returns-2
 unfolding sortDue
 returns-2 c =
     let w = c .before .before .before in
-    rw (lt-leb _ _ (w .before .before .if1 .left), ← w .wide .ensures, ← c .before .wide2 .ensures) (c .next-sort .ensures)
+    rw (lt-leb _ _ (w .before .before .if1 .left), ← w .wide-u16 .ensures, ← c .before .wide-u162 .ensures) (c .next-sort .ensures)
 
 pub sort-due-spec : {M : Type 1} → statement M
 sort-due-spec =

@@ -1,18 +1,19 @@
 -- `sheet::scratch::close` meets its contract. The invariant: closing the lines that are left closes all.
 -- Assumes nothing.
 use mathlib.Core.Path.{_≡_, refl, sym, _∙_}
-use Prim.Native.Nat.{_≤_, _/_}
+use Prim.Native.Nat.{_≤_, _*_}
 use borrow.Author.Needs.{needs}
 use native.Mathlib.Omega.{arith}
 use lib.ListN.{length}
-use Rattle.sheet.specs.Scratch.{closed}
-use Rattle.sheet.proofs.Entries.{closed-more, closed-none}
+use Rattle.sheet.specs.Scratch.{closed, lineCount, cellsPerLine}
+use Rattle.sheet.proofs.Cells.{closed-more, closed-none}
 use Rattle.sheet.proofs.scratch.close.Statement.{statement}
 use Rattle.sheet.proofs.scratch.close.Tie as tie
+use Rattle.sheet.specs.Line.{mostLines}
 
 abbrev Inv-loop : tie.InvT-loop
 Inv-loop lines₀ i₀ lines i =
-    (length lines ≡ length lines₀) × (i ≤ length lines₀ / 8) × (length lines₀ ≤ 8192) × (closed (length lines₀ / 8) lines₀ ≡ closed i lines)
+    (length lines ≡ length lines₀) × (i ≤ lineCount lines₀) × (length lines₀ ≤ cellsPerLine * mostLines) × (closed (lineCount lines₀) lines₀ ≡ closed i lines)
 
 abbrev μ-loop : tie.MeasureT-loop
 μ-loop lines₀ i₀ lines i = i
@@ -33,7 +34,7 @@ loop-again c =
       omega (arith, l .1),
       l .2,
       l .3
-          ∙ closed-more _ _ _ _ _ _ _ (h .loop-test .taken) (a .entry .ensures .0) (b .entry2 .ensures .0) (d .entry3 .ensures .0)
+          ∙ closed-more _ _ _ _ _ _ _ (h .loop-test .taken) (a .cell .ensures .0) (b .cell2 .ensures .0) (d .cell3 .ensures .0)
           (s .skip .ensures .0) (p .put .ensures),
     )
 

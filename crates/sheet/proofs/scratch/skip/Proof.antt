@@ -5,7 +5,7 @@ use Prim.Native.Nat.{_<_}
 use borrow.Author.Needs.{needs}
 use native.Mathlib.Omega.{arith}
 use Rattle.sheet.specs.Scratch.{skip}
-use Rattle.sheet.proofs.Entries.{skip-more, skip-none}
+use Rattle.sheet.proofs.Cells.{skip-more, skip-none}
 use Rattle.sheet.proofs.scratch.skip.Statement.{statement}
 use Rattle.sheet.proofs.scratch.skip.Tie as tie
 
@@ -19,7 +19,7 @@ loop-holds : tie.Need-loop-holds Inv-loop μ-loop
 loop-holds c = (omega arith, refl)
 
 loop-again : tie.Need-loop-again Inv-loop μ-loop
-loop-again c = (omega arith, c .before .before .loop .inv .1 ∙ skip-more _ _ _ _ (c .before .loop-test .taken) (c .entry .ensures .0))
+loop-again c = (omega arith, c .before .before .loop .inv .1 ∙ skip-more _ _ _ _ (c .before .loop-test .taken) (c .cell .ensures .0))
 
 returns : tie.Need-returns Inv-loop μ-loop
 returns c = (sym (c .before .loop .inv .1 ∙ skip-none _ _ _ (c .loop-test .left)), omega arith)

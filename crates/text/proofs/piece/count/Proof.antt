@@ -27,7 +27,7 @@ loop-again c =
     let h = c .before .before .before .before in (
       omega arith,
       omega arith,
-      rw (c .wide .ensures) (count-all _ _ _ _ _ (h .loop .inv .2) _ _ k),
+      rw (c .wide .ensures .0) (count-all _ _ _ _ _ (h .loop .inv .2) _ _ k),
     )
 
 returns : tie.Need-returns Inv-loop μ-loop

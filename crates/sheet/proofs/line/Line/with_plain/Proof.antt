@@ -17,17 +17,17 @@ returns-3 c = rw (c .before .match .keys3) (c .with-name2 .ensures)
 returns-4 : tie.Need-returns-4
 returns-4 c =
     let p = c .before in
-    rw (p .before .before .match .keys4, ← assign-words, ← p .place .ensures .0, ← p .place .ensures .1) (c .with-place .ensures)
+    rw (p .before .before .match .keys4, ← assign-words, ← p .index .ensures .0, ← p .index .ensures .1) (c .with-index .ensures)
 
 returns-5 : tie.Need-returns-5
 returns-5 c =
     let p = c .before in
-    rw (p .before .before .match .keys5, ← un-words, ← p .place2 .ensures .0, ← p .place2 .ensures .1) (c .with-place2 .ensures)
+    rw (p .before .before .match .keys5, ← un-words, ← p .index2 .ensures .0, ← p .index2 .ensures .1) (c .with-index2 .ensures)
 
 returns-6 : tie.Need-returns-6
 returns-6 c =
     let p = c .before in
-    rw (p .before .match .keys6, ← p .place-bin .ensures .0, ← p .place-bin .ensures .1) (c .with-place3 .ensures)
+    rw (p .before .match .keys6, ← p .index-bin .ensures .0, ← p .index-bin .ensures .1) (c .with-index3 .ensures)
 
 returns-7 : tie.Need-returns-7
 returns-7 c =

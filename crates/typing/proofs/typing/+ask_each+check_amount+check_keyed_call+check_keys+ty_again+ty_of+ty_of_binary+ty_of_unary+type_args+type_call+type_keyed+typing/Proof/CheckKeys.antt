@@ -2,7 +2,7 @@
 use Prim.Native.Nat.{ℕ}
 use Rattle.typing.proofs.Keys.{keys-next, keys-some, keys-falls, keys-rest, laws-keys}
 use Rattle.typing.proofs.typing.check_keys.Reads as check-keys
-use Rattle.declared.proofs.declared_arg.Reads as declared-arg-reads
+use Rattle.lookups.proofs.declared_arg.Reads as declared-arg-reads
 use Rattle.sheet.proofs.end.Reads as end-reads
 use Rattle.env.proofs.judge_key.Reads as judge-key-reads
 use Rattle.typing.proofs.typing.ty_of.Reads as ty-of

@@ -1,8 +1,0 @@
-use borrow.Author.Needs.{needs}
-use Rattle.declared.proofs.Fields.{all-items, all-fields}
-use Rattle.declared.proofs.model.field_named.Statement.{statement}
-use Rattle.declared.proofs.model.field_named.Tie as tie
-
-pub field-named-spec : {M : Type 1} → statement M
-field-named-spec =
-    tie.close (tie.spec (λ c κs. search needs) (λ c κs. search (needs, all-items)) (λ c. search (needs, all-fields)))

@@ -1,6 +1,0 @@
-pub mod Answers
-pub mod Codes
-pub mod Event
-pub mod Found
-pub mod Lines
-pub mod Refusal

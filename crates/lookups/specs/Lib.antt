@@ -1,0 +1,4 @@
+pub mod Named
+pub mod Event
+pub mod Found
+pub mod Lines
