@@ -1,5 +1,5 @@
 -- Laws of the code's tables: what stands at a kind, and what every record keeps to. Assumes nothing.
-use mathlib.Core.Path.{_≡_, refl, ap, _∙_}
+use mathlib.Core.Path.{_≡_, refl, sym, ap, _∙_}
 use mathlib.Core.List.{List, [], _∷_}
 use mathlib.Core.Bool.{Bool, true, _&&_, and-eq-true-iff}
 use Prim.Native.Nat.{ℕ, zero, suc, _+_, _*_, _≤_, _<_}
@@ -9,7 +9,7 @@ use lib.ListN.{length, getD, List·getD-append}
 use lib.Seq.{getD-append-add}
 use borrow.Author.Tests.{leb-true}
 use Rattle.grammar.specs.Grammar.{Expr, noKind, Rule, span, name, text, assignOp, unOp, binOp, count, flag, Record, records, recordOf}
-use Rattle.grammar.specs.Table.{ruleNumbers, toldSorts, mostFields, mostGroups, three, four, sortNumber, tableOf, ruleTable, lengthTable, numbersOf, sortTable, sortNumbers, groupSorts}
+use Rattle.grammar.specs.Table.{ruleNumbers, toldSorts, mostFields, mostGroups, three, sortNumber, tableOf, ruleColumn, lengthTable, numbersOf, sortTable, sortNumbers, groupSorts}
 
 -- entry j of row k of a table whose rows have w entries
 pub table-at : {A : Type 0} (f : Record → List A) (w : ℕ) (d : A) (none : Record) → ((r : Record) → length (f r) ≡ w) → (rs : List Record) (k j : ℕ) → k < length rs → j < w
@@ -21,22 +21,18 @@ table-at f w d none e (r ∷ rs) (suc k) j hk hj =
     rw (let q : w * suc k + j ≡ length (f r) + (w * k + j) = omega (arith, e r) in q)
     (getD-append-add (f r) (tableOf f rs) (w * k + j) d ∙ table-at f w d none e rs k j (omega arith) hj)
 
-four-at : (xs : List ℕ) (j : ℕ) → j < mostFields → getD (four 0 xs) j 0 ≡ getD xs j 0
-four-at xs zero h = refl
-four-at xs (suc zero) h = refl
-four-at xs (suc (suc zero)) h = refl
-four-at xs (suc (suc (suc zero))) h = refl
-four-at xs (suc (suc (suc (suc j)))) h = absurd (omega arith)
-
-pub rule-at : (k j : ℕ) → k < noKind → j < mostFields → getD ruleTable (mostFields * k + j) 0 ≡ getD (numbersOf k) j 0
-rule-at k j hk hj =
-    table-at (λ r. four 0 (ruleNumbers (length (r .always)) (r .rules))) mostFields 0 _ (λ r. refl) records k j hk hj ∙ four-at (numbersOf k) j hj
-
 -- a table of one number a record
 pub number-at : (f : Record → ℕ) (k : ℕ) → k < noKind → getD (tableOf (λ r. f r ∷ []) records) k 0 ≡ f (recordOf k)
 number-at f k h =
     ap (λ i. getD (tableOf (λ r. f r ∷ []) records) i 0) (let q : k ≡ 1 * k + 0 = omega arith in q)
     ∙ table-at (λ r. f r ∷ []) 1 0 _ (λ r. refl) records k 0 h (omega arith)
+
+-- what is read in the table of field i, where j is i
+pub rule-here : (i j k r : ℕ) → j ≡ i → r ≡ getD (ruleColumn i) k 0 → r ≡ getD (ruleColumn j) k 0
+rule-here i j k r e h = h ∙ ap (λ n. getD (ruleColumn n) k 0) (sym e)
+
+pub rule-at : (k j : ℕ) → k < noKind → getD (ruleColumn j) k 0 ≡ getD (numbersOf k) j 0
+rule-at k j = number-at (λ r. getD (ruleNumbers (length (r .always)) (r .rules)) j 0) k
 
 -- each rule has a number
 numbers-length : (g : ℕ) (rs : List Rule) → length (ruleNumbers g rs) ≡ length rs

@@ -69,19 +69,17 @@ mostFields = 4
 abbrev pub mostGroups : ℕ
 mostGroups = 3
 
--- three entries of a table, and four
+-- three entries of a table
 abbrev pub three : {A : Type 0} → A → List A → List A
 three d xs = getD xs 0 d ∷ getD xs 1 d ∷ getD xs 2 d ∷ []
-
-abbrev pub four : {A : Type 0} → A → List A → List A
-four d xs = getD xs 0 d ∷ getD xs 1 d ∷ getD xs 2 d ∷ getD xs 3 d ∷ []
 
 abbrev pub tableOf : {A : Type 0} → (Record → List A) → List Record → List A
 tableOf f [] = []
 tableOf f (r ∷ rs) = f r ++ tableOf f rs
 
-abbrev pub ruleTable : List ℕ
-ruleTable = tableOf (λ r. four 0 (ruleNumbers (length (r .always)) (r .rules))) records
+-- the number of the rule of field j, by kind
+abbrev pub ruleColumn : ℕ → List ℕ
+ruleColumn j = tableOf (λ r. getD (ruleNumbers (length (r .always)) (r .rules)) j 0 ∷ []) records
 
 abbrev pub lengthTable : List ℕ
 lengthTable = tableOf (λ r. length (r .rules) ∷ []) records

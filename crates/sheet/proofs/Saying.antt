@@ -15,7 +15,7 @@ use Rattle.text.specs.declared.field.Number.{Number}
 use Rattle.text.specs.declared.field.Number.the-variants.{Is, Bad}
 use Rattle.text.proofs.Pieces.{upto-between}
 use Rattle.grammar.specs.Grammar.{records, noKind}
-use Rattle.grammar.specs.Table.{ruleTable, mostFields, spanRule}
+use Rattle.grammar.specs.Table.{ruleColumn, mostFields, spanRule}
 use Rattle.grammar.proofs.TableLaws.{rule-at}
 use Rattle.sheet.specs.Scratch.{cell, kindAt, lineCount, startCell, nameCell, lengthCell}
 use Rattle.sheet.specs.Field.{pieceAt}
@@ -58,8 +58,8 @@ word-none s S i h = rw (le-ltb i (lineCount S) h)
 pub kind-none : (k : ℕ) → noKind ≤ k → false ≡ spanFirst k
 kind-none k h = rw (List·getD-eq-default records _ h)
 
-pub kind-first : (k n : ℕ) → k < noKind → n ≡ getD ruleTable (mostFields * k + 0) 0 → eqb n spanRule ≡ spanFirst k
-kind-first k n h e = ap (λ m. eqb m spanRule) (e ∙ rule-at k 0 h (omega arith))
+pub kind-first : (k n : ℕ) → k < noKind → n ≡ getD (ruleColumn 0) k 0 → eqb n spanRule ≡ spanFirst k
+kind-first k n h e = ap (λ m. eqb m spanRule) (e ∙ rule-at k 0 h)
 
 pub span-none : (s S : List ℕ) (i k : ℕ) (b : Bool) → k ≡ kindAt S i → b ≡ spanFirst k → not b ≡ true → 0 ≡ spanAt s S i
 unfolding spanAt

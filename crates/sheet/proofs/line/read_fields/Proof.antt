@@ -49,7 +49,7 @@ with-field-requires c κs =
 which : (c : tie.After-rule Inv-loop μ-loop) → c .rule .result ≡ getD (numbersOf (c .before .before .before .before .before .args .line .kind)) (c .before .before .loop .j) 0
 which c =
     let k = rule-requires (c .before) tt in
-    c .rule .ensures ∙ rule-at _ _ (k .0) (k .1)
+    c .rule .ensures ∙ rule-at _ _ (k .0)
 
 loop-again : tie.Need-loop-again Inv-loop μ-loop
 loop-again c =
