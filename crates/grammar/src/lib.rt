@@ -11,4 +11,5 @@ pub use tables::always;
 pub use tables::fields;
 pub use tables::part_sort;
 pub use tables::rule;
+pub use tables::starts_with_span;
 pub use words::index_bin;

@@ -1,11 +1,13 @@
 // The fields and parts of each record, by its kind: what specs/Table.antt makes of the grammar.
 // A table is made where it is read: bytes are made in a few instructions, numbers one by one.
+use crate::field_rules;
 use text::wide;
 ghost use mathlib.Core.Path.{_≡_};
 ghost use Prim.Native.Nat.{_*_, _+_, _<_};
+ghost use lib.Dec.{eqb};
 ghost use lib.ListN.{getD};
 ghost use Rattle.grammar.specs.Grammar.{noKind};
-ghost use Rattle.grammar.specs.Table.{alwaysTable, lengthTable, mostFields, mostGroups, ruleColumn, sortTable};
+ghost use Rattle.grammar.specs.Table.{alwaysTable, lengthTable, mostFields, mostGroups, ruleColumn, sortTable, spanRule};
 
 // The number of fields after the word.
 pub fn fields(kind: usize) -> usize
@@ -26,6 +28,14 @@ pub fn rule(kind: usize, j: usize) -> u8
         2 => THIRD_RULES[kind],
         _ => FOURTH_RULES[kind],
     }
+}
+
+// Whether the first field is a SPAN or NSPAN. Not by `rule`, which is then called from one place and made part of it.
+pub fn starts_with_span(kind: usize) -> bool
+    requires { ⌜ kind < noKind ⌝ }
+    ensures { λ r. ⌜ r ≡ eqb (getD (ruleColumn 0) kind 0) spanRule ⌝ }
+{
+    FIRST_RULES[kind] == field_rules::SPAN
 }
 
 // The number of parts that the record always has.

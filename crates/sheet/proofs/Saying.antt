@@ -58,8 +58,8 @@ word-none s S i h = rw (le-ltb i (lineCount S) h)
 pub kind-none : (k : ℕ) → noKind ≤ k → false ≡ spanFirst k
 kind-none k h = rw (List·getD-eq-default records _ h)
 
-pub kind-first : (k n : ℕ) → k < noKind → n ≡ getD (ruleColumn 0) k 0 → eqb n spanRule ≡ spanFirst k
-kind-first k n h e = ap (λ m. eqb m spanRule) (e ∙ rule-at k 0 h)
+pub kind-first : (k : ℕ) (b : Bool) → k < noKind → b ≡ eqb (getD (ruleColumn 0) k 0) spanRule → b ≡ spanFirst k
+kind-first k b h e = e ∙ ap (λ m. eqb m spanRule) (rule-at k 0 h)
 
 pub span-none : (s S : List ℕ) (i k : ℕ) (b : Bool) → k ≡ kindAt S i → b ≡ spanFirst k → not b ≡ true → 0 ≡ spanAt s S i
 unfolding spanAt

@@ -2,9 +2,8 @@
 use crate::limits;
 use crate::scratch;
 use crate::scratch::cell;
-use grammar::field_rules;
 use grammar::kinds;
-use grammar::rule;
+use grammar::starts_with_span;
 use text::Number;
 use text::find;
 use text::number_of;
@@ -171,7 +170,7 @@ fn has_span(k: usize) -> bool
     if kinds::NONE <= k {
         return false;
     }
-    rule(k, 0) == field_rules::SPAN
+    starts_with_span(k)
 }
 
 // Its SPAN, or a field's NSPAN: the first field after the word. 0 where its record has none.
