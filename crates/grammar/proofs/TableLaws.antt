@@ -64,10 +64,11 @@ pub at-most : (f : Record → ℕ) (n k : ℕ) → every (λ r. leb (f r) n) rec
 at-most f n k e h = leb-true (f (recordOf k)) n (at-place (λ r. leb (f r) n) _ records k e h)
 
 -- how many fields a record has
-pub fields-at : (k n : ℕ) → k < noKind → n ≡ getD lengthTable k 0 → (n ≡ length (recordOf k .rules)) × (n ≤ mostFields)
-fields-at k n h e =
-    let f = e ∙ number-at (λ r. length (r .rules)) k h in
-    (f, rw f (at-most (λ r. length (r .rules)) mostFields k refl h))
+pub fields-at : (k n : ℕ) → k < noKind → n ≡ getD lengthTable k 0 → n ≡ length (recordOf k .rules)
+fields-at k n h e = e ∙ number-at (λ r. length (r .rules)) k h
+
+pub few-fields : (k : ℕ) → k < noKind → length (recordOf k .rules) ≤ mostFields
+few-fields k = at-most (λ r. length (r .rules)) mostFields k refl
 
 pub few-always : (k : ℕ) → k < noKind → length (recordOf k .always) ≤ 1
 few-always k = at-most (λ r. length (r .always)) 1 k refl

@@ -54,7 +54,7 @@ pub word-none : (s S : List ℕ) (i : ℕ) → lineCount S ≤ i → [] ≡ word
 unfolding wordAt
 word-none s S i h = rw (le-ltb i (lineCount S) h)
 
--- whether a record has a span: no record has a kind from 34 on
+-- whether a record has a span: no record has the kind `noKind` or a greater one
 pub kind-none : (k : ℕ) → noKind ≤ k → false ≡ spanFirst k
 kind-none k h = rw (List·getD-eq-default records _ h)
 

@@ -134,11 +134,11 @@ module _ (s : Sort) (y : List ℕ) (end : ℕ) (e : end ≡ pieceEnd y 0) where
       below = kind-known s (take end y) k is known
 
       rules : m ≡ length (recordOf k .rules)
-      rules = fields-at k m below fields .0
+      rules = fields-at k m below fields
 
       -- as many pieces are left as the record has fields
-      pub line-left : n ≡ m + 1 → length left ≡ length (recordOf k .rules)
-      line-left h = omega (arith, ap length opened, rules)
+      pub line-left : n ≡ m + 1 → length left ≡ m
+      line-left h = omega (arith, ap length opened)
 
       pub line-fields : (at : ℕ) → (n ≡ m + 1 → ⊥) → BadLine 9 ≡ answer at
       unfolding readPieces readAs codeRead
@@ -152,5 +152,5 @@ module _ (s : Sort) (y : List ℕ) (end : ℕ) (e : end ≡ pieceEnd y 0) where
       line-read at h r a f g =
           let first = begun-told k at a (recordOf k .always) refl (few-always k below) (f ∙ number-at (λ r. getD (numbersIn (r .always)) 0 0) k below) in
           let from : at + (end + 1) ≡ at + length (take end y) + 1 = omega (arith, length-take-le end y (omega arith)) in
-          rw (opened, ← is, ne-eqb k noKind known, eq-eqb (length left) (length (recordOf k .rules)) (line-left h))
+          rw (opened, ← is, ne-eqb k noKind known, eq-eqb (length left) (length (recordOf k .rules)) (line-left h ∙ rules))
           (g ∙ rw (← first, from) (ap step.orTen (all-told (recordOf k .rules) _ _ left (begun k at) refl (few-parts k below)) ∙ or-ten-told _))

@@ -92,8 +92,9 @@ unfoldable pub orTen : Option Line → LineRead
 orTen (some l) = Good l
 orTen none = BadLine 10
 
--- what `read_fields` asks: the line has as many fields left as its record has in all
-pub record Fields (l : Line) (y : List ℕ) (c : Cursor) : Type 0 where
+-- what `read_fields` asks: the line has n fields left, as many as its record has in all
+pub record Fields (l : Line) (n : ℕ) (y : List ℕ) (c : Cursor) : Type 0 where
   pub known : l .kind < noKind
-  pub fields : length (ended (either 44 10) [] (drop (c .at) y)) ≡ length (recordOf (l .kind) .rules)
+  pub all : n ≡ length (recordOf (l .kind) .rules)
+  pub left : length (ended (either 44 10) [] (drop (c .at) y)) ≡ n
   pub within : l .at + length y ≤ 65535

@@ -160,13 +160,12 @@ impl Line {
     }
 }
 
-// The fields from the cursor on, of a line that has as many as its record.
-fn read_fields(line: Line, y: &[u8], cursor: Cursor) -> LineRead
-    requires { ⌜ Fields line (now y) cursor ⌝ }
+// The n fields from the cursor on, of a line that has as many as its record.
+fn read_fields(line: Line, n: usize, y: &[u8], cursor: Cursor) -> LineRead
+    requires { ⌜ Fields line n (now y) cursor ⌝ }
     ensures { λ r. ⌜ r ≡ orTen (stepAll (numbersOf (line .kind)) (line .at + cursor .at) (ended (either 44 10) [] (drop (cursor .at) (now (y .entry)))) line) ⌝ }
 {
     let kind = line.kind;
-    let n = fields(kind);
     let mut l = line;
     let mut c = cursor;
     let mut j = 0;
@@ -198,7 +197,8 @@ pub fn read_line(sort: u8, y: &[u8], at: usize) -> LineRead
     if kind == kinds::NONE {
         return LineRead::Bad(8);
     }
-    if count(y, b',', b'\n') != fields(kind) + 1 {
+    let n = fields(kind);
+    if count(y, b',', b'\n') != n + 1 {
         return LineRead::Bad(9);
     }
     let line = Line {
@@ -211,5 +211,5 @@ pub fn read_line(sort: u8, y: &[u8], at: usize) -> LineRead
         second: 0,
         third: 0,
     };
-    read_fields(line, y, Cursor { at: end + 1 })
+    read_fields(line, n, y, Cursor { at: end + 1 })
 }

@@ -4,7 +4,7 @@ use borrow.Author.Needs.{needs}
 use native.Mathlib.Omega.{arith}
 use lib.Seq.{length-take-le}
 use Rattle.grammar.proofs.KindLaws.{kind-known}
-use Rattle.grammar.proofs.TableLaws.{fields-at}
+use Rattle.grammar.proofs.TableLaws.{fields-at, few-fields}
 use Rattle.sheet.proofs.Told.{line-empty, line-unknown, line-fields, line-left, line-read}
 use Rattle.sheet.proofs.line.read_line.Statement.{statement}
 use Rattle.sheet.proofs.line.read_line.Tie as tie
@@ -19,20 +19,22 @@ returns-2 : tie.Need-returns-2
 returns-2 c = let f = c .before .before .before in line-unknown _ _ _ (f .before .find .ensures) (f .if1 .left) _ (c .before .kind-for .ensures) _ (c .if2 .taken)
 
 fields-requires : tie.Need-fields-requires
-fields-requires c κs = let e = c .before in kind-known _ _ _ (e .before .kind-for .ensures) (e .if2 .left)
+fields-requires c κs = kind-known _ _ _ (c .before .kind-for .ensures) (c .if2 .left)
 
 add-if3 : tie.Need-add-if3
-add-if3 c = omega (arith, fields-at _ _ (fields-requires (c .before) tt) (c .fields .ensures) .1)
+add-if3 c =
+    let known = fields-requires (c .before .before) tt in
+    omega (arith, fields-at _ _ known (c .before .fields .ensures), few-fields _ known)
 
 returns-3 : tie.Need-returns-3
 returns-3 c =
     let k = c .before .before .before .before in
     let f = k .before .before in
     line-fields _ _ _ (f .before .find .ensures) (f .if1 .left) _ (k .kind-for .ensures)
-    (c .before .before .before .if2 .left) _ _ (c .before .before .count .ensures) (c .before .fields .ensures) _ (c .if3 .taken)
+    (c .before .before .before .if2 .left) _ _ (c .before .count .ensures) (c .before .before .fields .ensures) _ (c .if3 .taken)
 
 always-requires : tie.Need-always-requires
-always-requires c κs = fields-requires (c .before .before) κs
+always-requires c κs = fields-requires (c .before .before .before) κs
 
 read-fields-requires : tie.Need-read-fields-requires
 read-fields-requires c κs =
@@ -40,9 +42,10 @@ read-fields-requires c κs =
     let k = n .before .before .before in
     let f = k .before .before in
     record {
-      known = fields-requires (n .before) tt;
-      fields = line-left _ _ _ (f .before .find .ensures) (f .if1 .left) _ (k .kind-for .ensures)
-          (n .before .before .if2 .left) _ _ (n .before .count .ensures) (n .fields .ensures) (c .before .if3 .left);
+      known = fields-requires (n .before .before) tt;
+      all = fields-at _ _ (fields-requires (n .before .before) tt) (n .before .fields .ensures);
+      left = line-left _ _ _ (f .before .find .ensures) (f .if1 .left) _ (k .kind-for .ensures)
+          (n .before .before .if2 .left) _ _ (n .count .ensures) (n .before .fields .ensures) (c .before .if3 .left);
       within = f .before .before .before .pre;
     }
 
@@ -52,7 +55,7 @@ returns-4 c =
     let k = n .before .before .before in
     let f = k .before .before in
     line-read _ _ _ (f .before .find .ensures) (f .if1 .left) _ (k .kind-for .ensures)
-    (n .before .before .if2 .left) _ _ (n .before .count .ensures) (n .fields .ensures) _ (c .before .before .if3 .left)
+    (n .before .before .if2 .left) _ _ (n .count .ensures) (n .before .fields .ensures) _ (c .before .before .if3 .left)
     _ _ (c .before .always .ensures) (c .read-fields .ensures)
 
 pub read-line-spec : {M : Type 1} → statement M
@@ -64,8 +67,8 @@ read-line-spec =
     slice
     (λ c κs. search needs)
     returns-2
-    (λ c κs. search needs)
     fields-requires
+    (λ c κs. search needs)
     add-if3
     returns-3
     always-requires
