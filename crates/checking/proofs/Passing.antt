@@ -392,14 +392,14 @@ module _ (s : List ℕ) where
   abbrev bounds : Rule Unit
   bounds = forEach (values (modelIn s .fields)) λ f. guardianBound (f .ty)
 
-  before-grouped : (T : Table) → kept (beforeEntries (modelIn s)) T ≡ kept (p 0 >>= λ _. afterFields s) T
+  before-grouped : (T : Table) → kept (beforeEntries (modelIn s)) T ≡ kept (p passes.fields >>= λ _. afterFields s) T
   unfolding beforeEntries afterFields namesRule passRule _>>_
   before-grouped T =
-      kept-behind (p 0) (λ _. p 1 >>= λ _. bounds >>= λ _. p 5 >>= λ _. p 2) (λ _. afterFields s) T
-      (λ _ U. sym (kept-assoc (λ _. bounds >>= λ _. p 5) (λ _. p 2) (p 1) U ∙ kept-behind (p 1) (λ _. (bounds >>= λ _. p 5) >>= λ _. p 2) (λ _. bounds >>= λ _. p 5 >>= λ _. p 2) U (λ _ W. kept-assoc (λ _. p 5) (λ _. p 2) bounds W)))
+      kept-behind (p passes.fields) (λ _. p passes.events >>= λ _. bounds >>= λ _. p passes.params >>= λ _. p passes.invariants) (λ _. afterFields s) T
+      (λ _ U. sym (kept-assoc (λ _. bounds >>= λ _. p passes.params) (λ _. p passes.invariants) (p passes.events) U ∙ kept-behind (p passes.events) (λ _. (bounds >>= λ _. p passes.params) >>= λ _. p passes.invariants) (λ _. bounds >>= λ _. p passes.params >>= λ _. p passes.invariants) U (λ _ W. kept-assoc (λ _. p passes.params) (λ _. p passes.invariants) bounds W)))
 
   module _ (T : Table) (o : Done) (U : Table) where
-    module _ (a : Does s (p 1) T o U) where
+    module _ (a : Does s (p passes.events) T o U) where
       pub names-no : (x : Refusal) → o ≡ Refused x → Does s (namesRule s) T (Refused x) U
       unfolding namesRule _>>_
       names-no x e = does-cut s _ _ T o U a x e
@@ -409,7 +409,7 @@ module _ (s : List ℕ) where
         unfolding namesRule _>>_
         bounds-no x f = does-then s _ _ T o U a e (Refused x) U (does-cut s _ _ U q U (asks-none s _ U q g) x f)
 
-        pub names-ok : q ≡ Fine → (r : Done) (W : Table) → Does s (p 5) U r W → Does s (namesRule s) T r W
+        pub names-ok : q ≡ Fine → (r : Done) (W : Table) → Does s (p passes.params) U r W → Does s (namesRule s) T r W
         unfolding namesRule _>>_
         names-ok f r W k = does-then s _ _ T o U a e r W (does-then s _ _ U q U (asks-none s _ U q g) f r W k)
 
@@ -418,18 +418,18 @@ module _ (s : List ℕ) where
       unfolding afterFields _>>_
       after-no x e = does-cut s _ _ T o U a x e
 
-      pub after-ok : o ≡ Fine → (r : Done) (W : Table) → Does s (p 2) U r W → Does s (afterFields s) T r W
+      pub after-ok : o ≡ Fine → (r : Done) (W : Table) → Does s (p passes.invariants) U r W → Does s (afterFields s) T r W
       unfolding afterFields _>>_
       after-ok e r W k = does-then s _ _ T o U a e r W k
 
-    module _ (a : Does s (p 0) T o U) where
+    module _ (a : Does s (p passes.fields) T o U) where
       pub before-no : (x : Refusal) → o ≡ Refused x → Does s (beforeEntries (modelIn s)) T (Refused x) U
       before-no x e = record { gives = before-grouped T ∙ does-cut s _ (afterFields s) T o U a x e .gives }
 
       pub before-ok : o ≡ Fine → (r : Done) (W : Table) → Does s (afterFields s) U r W → Does s (beforeEntries (modelIn s)) T r W
       before-ok e r W k = record { gives = before-grouped T ∙ does-then s _ _ T o U a e r W k .gives }
 
-    module _ (a : Does s (p 4) T o U) where
+    module _ (a : Does s (p passes.entries) T o U) where
       pub entries-no : (x : Refusal) → o ≡ Refused x → Does s (fromEntries s) T (Refused x) U
       unfolding fromEntries _>>_
       entries-no x e = does-cut s _ _ T o U a x e
@@ -439,7 +439,7 @@ module _ (s : List ℕ) where
         unfolding fromEntries _>>_
         kinds-no x f = does-then s _ _ T o U a e (Refused x) U (does-cut s _ _ U q U (asks-none s _ U q g) x f)
 
-        pub entries-ok : q ≡ Fine → (r : Done) (W : Table) → Does s (p 3) U r W → Does s (fromEntries s) T r W
+        pub entries-ok : q ≡ Fine → (r : Done) (W : Table) → Does s (p passes.genesis) U r W → Does s (fromEntries s) T r W
         unfolding fromEntries _>>_
         entries-ok f r W k = does-then s _ _ T o U a e r W (does-then s _ _ U q U (asks-none s _ U q g) f r W k)
 

@@ -30,7 +30,6 @@ use Rattle.env.specs.Force.{envOf}
 use Rattle.env.specs.declared.env.Env.{Env}
 use Rattle.env.specs.declared.judge.Typed.{Typed}
 use Rattle.env.specs.declared.judge.Typed.the-variants.{Is, Refused}
-use Rattle.grammar.specs.Kinds as kinds
 use Rattle.rules.specs.Codes as codes
 use Rattle.grammar.specs.Operators as ops
 
@@ -111,35 +110,35 @@ module _ {rule : (left right : Expr) (l r : Ty) → Rule Ty} {f : Ty → Bool} {
 abbrev pub OrUnknown : Ty → Ty → Bool
 OrUnknown u t = eqTy t u || eqTy t Unknown
 
-pub logical-is : Binary logical (OrUnknown Boolean) Logical 2
+pub logical-is : Binary logical (OrUnknown Boolean) Logical codes.boolean
 unfolding logical expectNumericOr refusalOf tyFrom tyOfMark
 logical-is =
     record { wants = record { number = 38; text = logicalText; told = λ s i. refl }; is = λ a b l r. refl; code = (omega arith, omega arith) }
 
-pub arithmetic-is : Binary arithmetic numeric Arithmetic 1
+pub arithmetic-is : Binary arithmetic numeric Arithmetic codes.int
 unfolding arithmetic expectNumber refusalOf tyFrom tyOfMark
 arithmetic-is =
     record { wants = record { number = 39; text = arithmeticText; told = λ s i. refl }; is = λ a b l r. refl; code = (omega arith, omega arith) }
 
-pub ordering-is : Binary ordering numeric Ordering 2
+pub ordering-is : Binary ordering numeric Ordering codes.boolean
 unfolding ordering expectNumber refusalOf tyFrom tyOfMark
 ordering-is =
     record { wants = record { number = 40; text = orderingText; told = λ s i. refl }; is = λ a b l r. refl; code = (omega arith, omega arith) }
 
-pub not-is : Unary NotOp (OrUnknown Boolean) Not 2
+pub not-is : Unary NotOp (OrUnknown Boolean) Not codes.boolean
 unfolding judgeUnary expectNumericOr refusalOf tyFrom tyOfMark
 not-is =
     record { wants = record { number = 36; text = notText; told = λ s i. refl }; is = λ a t. refl; code = (omega arith, omega arith) }
 
-pub neg-is : Unary NegOp (OrUnknown Int) Neg 1
+pub neg-is : Unary NegOp (OrUnknown Int) Neg codes.int
 unfolding judgeUnary expectNumericOr refusalOf tyFrom tyOfMark
 neg-is =
     record { wants = record { number = 37; text = negText; told = λ s i. refl }; is = λ a t. refl; code = (omega arith, omega arith) }
 
-pub not-op : (o : ℕ) → o ≡ 0 → getD unaryOps o NegOp ≡ NotOp
+pub not-op : (o : ℕ) → o ≡ ops.unNot → getD unaryOps o NegOp ≡ NotOp
 not-op o e = rw e refl
 
-pub neg-op : (o : ℕ) → o ≢ 0 → getD unaryOps o NegOp ≡ NegOp
+pub neg-op : (o : ℕ) → o ≢ ops.unNot → getD unaryOps o NegOp ≡ NegOp
 neg-op zero h = absurd (h refl)
 neg-op (suc zero) h = refl
 neg-op (suc (suc o)) h = refl
@@ -220,8 +219,8 @@ module _ (s : List ℕ) (a b : Expr) (c d : ℕ) (r : Typed) (o : ℕ) where
   pub arithmetic-op : ops.binAdd ≤ o → JudgedIn s (arithmetic a b) c d r → ByOp o
   unfolding judgeBinary
   arithmetic-op k h =
-      rw (let q : o ≡ suc (suc (suc (suc (suc (suc (suc (suc (o - 8)))))))) = omega arith in q)
-      (all-get (λ p. JudgedIn s (judgeBinary p a b) c d r) (Add ∷ Sub ∷ Mul ∷ Div ∷ Rem ∷ Shr ∷ []) Shr (h, (h, (h, (h, (h, (h, tt)))))) h (o - 8))
+      rw (let q : o ≡ suc (suc (suc (suc (suc (suc (suc (suc (o - ops.binAdd)))))))) = omega arith in q)
+      (all-get (λ p. JudgedIn s (judgeBinary p a b) c d r) (Add ∷ Sub ∷ Mul ∷ Div ∷ Rem ∷ Shr ∷ []) Shr (h, (h, (h, (h, (h, (h, tt)))))) h (o - ops.binAdd))
 
 -- ------------------------------------------------------------ keyed calls
 

@@ -115,7 +115,7 @@ pub fn keyed_field(sheet: &[u8], lines: &[u16], env: Env, base: usize) -> Found
     }
 }
 
-// Whether line i is the bare name of a Q_Asset field, the receiver that `merge` and `split` want.
+// Whether line base is the bare name of a Q_Asset field, the receiver that `merge` and `split` want.
 pub fn is_pool(sheet: &[u8], lines: &[u16], env: Env, base: usize) -> bool
     requires { ⌜ ExprIn (now sheet) (now lines) env base ⌝ }
     ensures { λ r. ⌜ r ≡ isPool (envOf (now (sheet .entry)) [] env) (exprAt (now (sheet .entry)) base) ⌝ }

@@ -13,7 +13,7 @@ use Rattle.text.specs.Text.{bytes, ended, same}
 use Rattle.text.specs.Word.{indexIn, split}
 use Rattle.text.proofs.Words.{same-is}
 use Rattle.grammar.specs.Grammar.{assignOps, unOps, binOps, Sort, Contract, Item, Field, Param, Ty, Arg, Clause, Stmt, Expr, recordsFor, noKind, firstKind, within, wordsOf, kindFor}
-use Rattle.grammar.specs.Table.{sortOf}
+use Rattle.grammar.specs.Table.{sortOf, sortNumber}
 
 -- the words of a sort's records, as the code has them
 abbrev pub table : Sort → String
@@ -97,7 +97,7 @@ pub kind-arm : (s : Sort) (w : List ℕ) (p r : ℕ) → p ≡ indexIn w (split 
 kind-arm s w p r f g = kind-at s w p r (f ∙ rw (words-of s)) g
 
 -- the numbers that have no arm of their own
-pub other-sort : (n : ℕ) → (n ≡ 0 → ⊥) → (n ≡ 1 → ⊥) → (n ≡ 2 → ⊥) → (n ≡ 3 → ⊥) → (n ≡ 4 → ⊥) → (n ≡ 5 → ⊥) → (n ≡ 6 → ⊥) → (n ≡ 7 → ⊥) → sortOf n ≡ Expr
+pub other-sort : (n : ℕ) → (n ≡ sortNumber Contract → ⊥) → (n ≡ sortNumber Item → ⊥) → (n ≡ sortNumber Field → ⊥) → (n ≡ sortNumber Param → ⊥) → (n ≡ sortNumber Ty → ⊥) → (n ≡ sortNumber Arg → ⊥) → (n ≡ sortNumber Clause → ⊥) → (n ≡ sortNumber Stmt → ⊥) → sortOf n ≡ Expr
 other-sort zero a b c d e f g h = absurd (a refl)
 other-sort (suc zero) a b c d e f g h = absurd (b refl)
 other-sort (suc (suc zero)) a b c d e f g h = absurd (c refl)

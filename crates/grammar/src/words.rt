@@ -25,7 +25,7 @@ fn index_if(field: &[u8], word: &[u8], k: usize) -> usize
     if is_word(field, word) { k } else { 14 }
 }
 
-// The place of the guessed word of an expression, where the field is that word; else 14.
+// The place of the guessed word of an expression, which is its kind less `kinds::INT`, where the field is that word; else 14.
 fn try_expr(field: &[u8]) -> usize
     ensures { λ r. ⌜ (r < 14 → r ≡ indexIn (now (field .entry)) (wordsOf (recordsFor Expr))) ⌝ }
 {

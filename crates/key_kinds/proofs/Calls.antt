@@ -252,17 +252,17 @@ abbrev Quiets : List grammar.Sort → Type 0
 Quiets [] = Unit
 Quiets (σ ∷ σs) = Quiet σ × Quiets σs
 
-quiet-times : (k : ℕ) → Quiets (copies k grammar.Arg ++ [])
+quiet-copies : (k : ℕ) → Quiets (copies k grammar.Arg ++ [])
 unfolding copies
-quiet-times zero = tt
-quiet-times (suc k) = ((omega arith, omega arith), quiet-times k)
+quiet-copies zero = tt
+quiet-copies (suc k) = ((omega arith, omega arith), quiet-copies k)
 
 quiet-parts : (l : Line) → kinds.param ≤ l .kind → l .kind < kinds.limits → Parted l → Quiets (sorts (l .parts))
 unfolding sorts copies
 quiet-parts l a b p =
     pick {P = λ k. l .kind ≡ k → Quiets (sorts (l .parts))} {i = kinds.param} {n = 4} (l .kind)
     ((λ e. rw (parts l kinds.param p e) ((omega arith, omega arith), tt))
-    also (λ e. let g = parts l kinds.type p e in rw (g .1) (quiet-times (g .0)))
+    also (λ e. let g = parts l kinds.type p e in rw (g .1) (quiet-copies (g .0)))
     also (λ e. rw (parts l kinds.num p e) tt)
     also (λ e. rw (parts l kinds.mofn p e) tt)
     also end')

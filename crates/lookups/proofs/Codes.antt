@@ -13,7 +13,6 @@ use Rattle.rules.specs.Types.{compatible, eqTy, oneWord}
 use Rattle.rules.proofs.AnyTable.{tells}
 use Rattle.rules.proofs.Keeps.{code-tells}
 use Rattle.lookups.proofs.Types.{beyond}
-use Rattle.grammar.specs.Kinds as kinds
 use Rattle.rules.specs.Codes as codes
 
 pub code-of : (c : ℕ) → IsCode c → (tyOfMark c ≡ some (tyFrom c)) × (code (tyFrom c) ≡ c)
@@ -47,7 +46,7 @@ unfolding tyOfMark
 untold zero e = refl
 untold (suc n) e =
     let q : leb (suc n) codes.unknown ≡ false = rw (le-leb codes.int (suc n) (omega arith)) at e in
-    let h : 10 ≤ n = omega (arith, leb-false (suc n) codes.unknown q) in
+    let h : codes.unknown ≤ n = omega (arith, leb-false (suc n) codes.unknown q) in
     beyond types n h
 
 -- What `type_code` meets.

@@ -75,7 +75,7 @@ row-fields {s} {S} {m = suc m} {i} d (next h r) =
     )
     refl
 
-root : {S : List ℕ} {n : ℕ} {t : Node} → Held S n 0 t → formed.Formed grammar.Contract t → (0 < n) × (nodeKind t ≡ 0)
+root : {S : List ℕ} {n : ℕ} {t : Node} → Held S n 0 t → formed.Formed grammar.Contract t → (0 < n) × (nodeKind t ≡ kinds.contract)
 unfolding nodeKind
 root (held h y r) (formed.formed a p fs) = (h, omega (arith, a .0, a .1))
 

@@ -14,7 +14,7 @@ use Rattle.grammar.specs.Grammar as grammar
 use Rattle.sheet.specs.Load.{sorts}
 use Rattle.sheet.specs.Line.{Line}
 use Rattle.sheet.specs.Tree.{node, Nodes, nil, more}
-use Rattle.sheet.proofs.Due.{length-times}
+use Rattle.sheet.proofs.Due.{length-copies}
 use Rattle.sheet.specs.Scratch.{nameAt, kindAt, skip, typeArgCount}
 use Rattle.rules.specs.Text.{Name, is}
 use Rattle.rules.specs.Ast.{Arg, ofType, ofInt, mOfN, argList, typeName, typeOf, argOf, argsOf, args, nodes}
@@ -103,7 +103,7 @@ args-at s S i h =
     let g = parts (t .line) kinds.type (t .parted) k in
     let m : typeArgCount S i ≡ g .0 = rw (t .says .first, g .1) refl in
     rw (t .here, m) (
-      args-list (t .parts) ∙ ap (λ ns. map argOf (nodes ns)) (parts-behind t ∙ rw (g .1, append-nil, length-times) refl),
+      args-list (t .parts) ∙ ap (λ ns. map argOf (nodes ns)) (parts-behind t ∙ rw (g .1, append-nil, length-copies) refl),
       row-behind (g .0) [] t (rw (g .1) refl),
     )
 

@@ -21,7 +21,7 @@ ghost use Rattle.lookups.specs.Named.{namedCodes};
 ghost use Rattle.lookups.specs.Lines.{ExprAt, TypeAt};
 ghost use Rattle.rules.specs.Kept.{tyFrom};
 
-// The type that the name at a place of the table in ty_in_table means, 10 behind its end.
+// The type that the name at a place of the table in ty_in_table means, Unknown behind its end.
 fn named(place: usize) -> u8
     requires { ⌜ place < 21 ⌝ }
     ensures { λ r. ⌜ r ≡ getD namedCodes place 0 ⌝ }
@@ -164,7 +164,7 @@ fn arg_line(lines: &[u16], ty: usize, index: usize) -> usize
     }
 }
 
-// The type of a declared type's argument, 10 where it has no such type.
+// The type of a declared type's argument, Unknown where it has no such type.
 pub fn declared_arg(sheet: &[u8], lines: &[u16], ty: usize, index: usize) -> u8
     requires { ⌜ TypeAt (now sheet) (now lines) ty ⌝ }
     requires { ⌜ index < 2 ⌝ }

@@ -9,7 +9,7 @@ use lib.Dec.{eqb}
 use lib.ListN.{length, getD, length-append}
 use borrow.Author.Tests.{eqb-true, eqb-false}
 use Rattle.text.specs.Text.{bytes}
-use Rattle.sheet.specs.Held.{Held, HeldAll, no-tree, tree, held, Each, none as no-line, one, Every, every, EveryOf, no-more, and-more}
+use Rattle.sheet.specs.Held.{Held, HeldAll, no-tree, tree, held, Each, no-line, one, Every, every, EveryOf, no-more, and-more}
 use Rattle.sheet.specs.Line.{Line, mostBytes, mostLines}
 use Rattle.sheet.specs.Load.{linesOf}
 use Rattle.sheet.specs.Scratch.{kindAt, endAt, lineCount}
@@ -100,7 +100,7 @@ room s i = 63 * bytesUpto i (linesOf s) + 3 * i
 abbrev typeMost : ℕ
 typeMost = (63 * mostBytes + 3 * mostLines) / 64
 
--- an argument by its kind, from 8 on
+-- an argument by its kind, from `kinds.type` on
 by-kind : (k i : ℕ) (l : Line) (ps : Nodes) → l .kind - kinds.type ≡ k → length (l .name) ≤ 64
     → 64 * (weights (argText (argOf (node i l ps))) + 2) ≤ 63 * (length (l .name) + 3) + 3 + 64 * weights (argsText true (argsOf ps))
 unfolding argOf argText typeText weights weight

@@ -3,13 +3,14 @@ use mathlib.Core.Path.{_≡_, refl, sym, ap, _∙_}
 use mathlib.Core.Logic.{_⊎_, inl}
 use mathlib.Core.List.{List, [], _∷_, _++_, Forall₂·nil as nil₂, Forall₂·cons as cons₂}
 use mathlib.Core.Option.{none}
-use Prim.Native.Nat.{ℕ}
+use Prim.Native.Nat.{ℕ, _*_}
 use lib.ListN.{take, drop}
 use Rattle.text.specs.Text.{bytes, either}
 use Rattle.text.proofs.Pieces.{ended-append}
 use Rattle.grammar.specs.Grammar as grammar
 use Rattle.sheet.specs.Line.{Line}
 use Rattle.sheet.specs.Load.{linesOf, copies, load}
+use Rattle.sheet.specs.Scratch.{cellsPerLine}
 use Rattle.sheet.specs.Tree.{Node, Nodes, nil, more, trees, before}
 use Rattle.sheet.specs.Held.{done, next, Formed, FormedAll}
 use Rattle.sheet.specs.Same.{same-bytes, int-texts}
@@ -40,17 +41,17 @@ abbrev level : List ℕ → List ℕ
 level n = sheet (bytes "contract,1" ∷ bytes "state,1" ∷ bytes "field,10,level,1" ∷ bytes "type,11,u8,0" ∷ (bytes "int,17," ++ n) ∷ [])
 
 -- 300 for 200
-other-text : (verdict (level (bytes "300")) 5 40 100 .number ≡ 0) ⊎ ((verdict (level (bytes "300")) 5 40 100 .number ≡ 27) ⊎ (verdict (level (bytes "300")) 5 40 100 .number ≡ 42))
+other-text : (verdict (level (bytes "300")) 5 (cellsPerLine * 5) 100 .number ≡ 0) ⊎ ((verdict (level (bytes "300")) 5 (cellsPerLine * 5) 100 .number ≡ 27) ⊎ (verdict (level (bytes "300")) 5 (cellsPerLine * 5) 100 .number ≡ 42))
 unfolding computed readLines
 other-text =
     let s = level (bytes "200") in
     let z = level (bytes "300") in
-    texts-verdict s z 5 40 100 5 40 100 (readLines (load s 5 40)) (readLines (load z 5 40)) refl refl
+    texts-verdict s z 5 (cellsPerLine * 5) 100 5 (cellsPerLine * 5) 100 (readLines (load s 5 (cellsPerLine * 5))) (readLines (load z 5 (cellsPerLine * 5))) refl refl
     (cons₂ same-bytes (cons₂ same-bytes (cons₂ same-bytes (cons₂ same-bytes (cons₂ (int-texts (bytes "17") (bytes "200") (bytes "300") refl refl) nil₂)))))
     refl
 
 -- a u8 cannot hold it
-number-other : verdict (level (bytes "300")) 5 40 100 .number ≡ 27
+number-other : verdict (level (bytes "300")) 5 (cellsPerLine * 5) 100 .number ≡ 27
 unfolding computed
 number-other = refl
 
@@ -63,7 +64,7 @@ abbrev entries-with : List (List ℕ) → List ℕ
 entries-with body = sheet (bytes "contract,3" ∷ bytes "entry,0,0,0" ∷ bytes "entry,0,0,1" ∷ (body ++ (bytes "entry,0,0,0" ∷ [])))
 
 abbrev lines-with : List (List ℕ) → List Line
-lines-with body = readLines (load (entries-with body) 6 48)
+lines-with body = readLines (load (entries-with body) 6 (cellsPerLine * 6))
 
 -- a body that passes, and one that is refused: the other two entries come to the same
 one-entry :
@@ -77,8 +78,8 @@ one-entry =
     let xs = lines-with x in
     let ys = lines-with y in
     all-but-one {c = head xs} {e = head (drop 2 xs)} {a = take 1 (drop 1 xs)} {m = take 2 (drop 3 xs)} {z = drop 5 xs} {c' = head ys} {e' = head (drop 2 ys)} {a' = take 1 (drop 1 ys)} {m' = take 2 (drop 3 ys)} {z' = drop 5 ys}
-    (record { read = (entries-with x, 6, 48, refl); items = (1, next done); one = next (next (next done)); is-entry = refl })
-    (record { read = (entries-with y, 6, 48, refl); items = (1, next done); one = next (next (next done)); is-entry = refl })
+    (record { read = (entries-with x, 6, cellsPerLine * 6, refl); items = (1, next done); one = next (next (next done)); is-entry = refl })
+    (record { read = (entries-with y, 6, cellsPerLine * 6, refl); items = (1, next done); one = next (next (next done)); is-entry = refl })
     (cons₂ (record { kind = refl; op = refl; spans = refl; parts = refl; name = inl refl }) nil₂)
     (cons₂ (record { kind = refl; op = refl; spans = refl; parts = refl; name = inl refl }) nil₂)
 
@@ -98,15 +99,15 @@ first-item n f = formed-one (all-formed grammar.Item n f .1)
 
 -- with an `after` of no expression, and without it
 idle-after :
-    let xs = readLines (load with-after 5 40) in
-    let ys = readLines (load without-after 4 32) in
+    let xs = readLines (load with-after 5 (cellsPerLine * 5)) in
+    let ys = readLines (load without-after 4 (cellsPerLine * 4)) in
     fresh (check (modelOf xs)) .res ≡ fresh (check (modelOf ys)) .res
 unfolding computed readLines before
 idle-after =
-    let xs = readLines (load with-after 5 40) in
-    let ys = readLines (load without-after 4 32) in
-    let f = items-read with-after 5 40 (head xs) (drop 1 xs) refl in
-    let g = items-read without-after 4 32 (head ys) (drop 1 ys) refl in
+    let xs = readLines (load with-after 5 (cellsPerLine * 5)) in
+    let ys = readLines (load without-after 4 (cellsPerLine * 4)) in
+    let f = items-read with-after 5 (cellsPerLine * 5) (head xs) (drop 1 xs) refl in
+    let g = items-read without-after 4 (cellsPerLine * 4) (head ys) (drop 1 ys) refl in
     let p = entry-parts (first-item (f .0) (f .1)) refl in
     let q = entry-parts (first-item (g .0) (g .1)) refl in
     let a = entry-trees p nil (trees 2 (take 1 (drop 2 xs))) (trees 3 (drop 3 xs)) refl refl in
@@ -142,17 +143,17 @@ both-lines =
     ∙ ap (λ ls. bytes "contract,2" ∷ ls) (ended-append (either 10 10) [] (sheet first-lines) (sheet second-lines) tt)
 
 -- a state and an invariant in one sheet
-two-in-one : verdict both-bytes 8 64 100 .number ≡ 0
+two-in-one : verdict both-bytes 8 (cellsPerLine * 8) 100 .number ≡ 0
 unfolding computed readLines
 two-in-one =
     let c = bytes "contract,1" in
     let s₁ = sheet (c ∷ first-lines) in
     let s₂ = sheet (c ∷ second-lines) in
-    let x = readLines (load s₁ 4 32) in
-    let y = readLines (load s₂ 5 40) in
-    let one : Reads s₁ 4 32 c first-lines (head x) (drop 1 x) = record { all = refl; read = refl } in
-    let two : Reads s₂ 5 40 c second-lines (head y) (drop 1 y) = record { all = refl; read = refl } in
-    let both : Joins (head x) (head y) (first-lines ++ second-lines) both-bytes 8 64 (bytes "contract,2") (head (readLines (load both-bytes 8 64))) = record { all = both-lines; not-early = refl; first = refl; count = refl } in
+    let x = readLines (load s₁ 4 (cellsPerLine * 4)) in
+    let y = readLines (load s₂ 5 (cellsPerLine * 5)) in
+    let one : Reads s₁ 4 (cellsPerLine * 4) c first-lines (head x) (drop 1 x) = record { all = refl; read = refl } in
+    let two : Reads s₂ 5 (cellsPerLine * 5) c second-lines (head y) (drop 1 y) = record { all = refl; read = refl } in
+    let both : Joins (head x) (head y) (first-lines ++ second-lines) both-bytes 8 (cellsPerLine * 8) (bytes "contract,2") (head (readLines (load both-bytes 8 (cellsPerLine * 8)))) = record { all = both-lines; not-early = refl; first = refl; count = refl } in
     joined-number one two both 100 100 100
     (no-name refl refl, (no-name refl refl, (no-name refl refl, tt)))
     (no-name refl refl, (no-name refl refl, (no-name refl refl, (no-name refl refl, tt))))

@@ -95,7 +95,7 @@ entryIn ps cs ss = record { params = map paramOf (nodes ps); clauses = map claus
 entry-is : (i : ℕ) (l : Line) (ps : Nodes) (p : EntryTrees l ps) → itemOf (node i l ps) ≡ entry (entryIn (p .params) (p .clauses) (p .body))
 unfolding itemOf
 entry-is i l ps p =
-    let z : l .kind - kinds.state ≡ 4 = omega (arith, p .kind) in
+    let z : l .kind - kinds.state ≡ kinds.entry - kinds.state = omega (arith, p .kind) in
     let a = p .params in
     let c = p .clauses in
     let b = p .body in

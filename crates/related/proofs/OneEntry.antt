@@ -31,7 +31,7 @@ use Rattle.grammar.specs.Kinds as kinds
 one-entry : (i : ℕ) (e : Line) (m : List Line) → Due 1 (e ∷ m) → e .kind ≡ kinds.entry → (x : Entry) × (itemsOf (trees i (e ∷ m)) ≡ joined (itemModel (entry x)) (build []))
 unfolding itemOf entryOf nodes build
 one-entry i e m d k =
-    let z : e .kind - kinds.state ≡ 4 = omega arith in
+    let z : e .kind - kinds.state ≡ kinds.entry - kinds.state = omega arith in
     (entryOf (node i e (trees (suc i) m)), rw (first-tree i e m d, z))
 
 -- the model of the items a, an entry and the items z

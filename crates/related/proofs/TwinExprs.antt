@@ -70,26 +70,26 @@ module _ (S : Setting) (i j : ℕ) (n : S .Lines i j) (l k : Line) (h : SameName
   abbrev Made : ℕ → Type 0
   Made d = l .kind - kinds.int ≡ d → ExprLike S (exprOf (node i l ps)) (exprOf (node j k qs))
 
-  side : (d : ℕ) → l .kind - kinds.int ≡ d → k .kind - kinds.int ≡ d
+  side : (d : ℕ) → l .kind - kinds.int ≡ d - kinds.int → k .kind - kinds.int ≡ d - kinds.int
   side d e = ap (λ (n : ℕ). n - kinds.int) (sym (h .same .kind)) ∙ e
 
   made : Numbers Made 0 14
   unfolding exprOf identLeaf
   made =
-      (λ e. rw (e, side 0 e, h .same .spans) (leaf~ n (text-like (h .same .name))))
-      also (λ e. rw (e, side 1 e, h .same .spans, ← same-name (h .same) (λ q. omega arith)) (leaf~ n (id-like (l .name) (h .field (inl (omega arith))))))
-      also (λ e. rw (e, side 2 e, h .same .spans) (leaf~ n (plain date refl)))
-      also (λ e. rw (e, side 3 e, h .same .spans) (leaf~ n (plain str refl)))
-      also (λ e. rw (e, side 4 e, h .same .spans) (leaf~ n (plain caller refl)))
-      also (λ e. rw (e, side 5 e, h .same .spans) (leaf~ n (plain native refl)))
-      also (λ e. rw (e, side 6 e, h .same .spans) (leaf~ n (plain inasset refl)))
-      also (λ e. rw (e, side 7 e, h .same .spans) (leaf~ n (plain now refl)))
-      also (λ e. rw (e, side 8 e, h .same .spans, h .same .op) (unary~ n (first-like es)))
-      also (λ e. rw (e, side 9 e, h .same .spans, h .same .op) (binary~ n (first-like es) (first-like (rest-like es))))
-      also (λ e. rw (e, side 10 e, h .same .spans, same-name (h .same) (λ q. omega arith)) (field~ n (first-like es)))
-      also (λ e. rw (e, side 11 e, h .same .spans) (call~ n (first-like es) (rest-like es)))
-      also (λ e. rw (e, side 12 e, h .same .spans) (wrap~ n (first-like es)))
-      also (λ e. rw (e, side 13 e, h .same .spans) (wrap~ n (first-like es)))
+      (λ e. rw (e, side kinds.int e, h .same .spans) (leaf~ n (text-like (h .same .name))))
+      also (λ e. rw (e, side kinds.id e, h .same .spans, ← same-name (h .same) (λ q. omega arith)) (leaf~ n (id-like (l .name) (h .field (inl (omega arith))))))
+      also (λ e. rw (e, side kinds.date e, h .same .spans) (leaf~ n (plain date refl)))
+      also (λ e. rw (e, side kinds.str e, h .same .spans) (leaf~ n (plain str refl)))
+      also (λ e. rw (e, side kinds.caller e, h .same .spans) (leaf~ n (plain caller refl)))
+      also (λ e. rw (e, side kinds.native e, h .same .spans) (leaf~ n (plain native refl)))
+      also (λ e. rw (e, side kinds.inasset e, h .same .spans) (leaf~ n (plain inasset refl)))
+      also (λ e. rw (e, side kinds.now e, h .same .spans) (leaf~ n (plain now refl)))
+      also (λ e. rw (e, side kinds.un e, h .same .spans, h .same .op) (unary~ n (first-like es)))
+      also (λ e. rw (e, side kinds.bin e, h .same .spans, h .same .op) (binary~ n (first-like es) (first-like (rest-like es))))
+      also (λ e. rw (e, side kinds.dot e, h .same .spans, same-name (h .same) (λ q. omega arith)) (field~ n (first-like es)))
+      also (λ e. rw (e, side kinds.call e, h .same .spans) (call~ n (first-like es) (rest-like es)))
+      also (λ e. rw (e, side kinds.checked e, h .same .spans) (wrap~ n (first-like es)))
+      also (λ e. rw (e, side kinds.wrapping e, h .same .spans) (wrap~ n (first-like es)))
       also stop
 
   -- no expression's kind

@@ -35,10 +35,10 @@ in-type : (s : grammar.Sort) (k : ℕ) → TypeSort s → Among s k → (kinds.t
 in-type s k (inl e) a = let b : Among grammar.Ty k = rw e at a in (omega arith, omega arith)
 in-type s k (inr e) a = let b : Among grammar.Arg k = rw e at a in (omega arith, omega arith)
 
-all-times : (P : grammar.Sort → Type 0) (n : ℕ) (s : grammar.Sort) → P s → All P (copies n s)
+all-copies : (P : grammar.Sort → Type 0) (n : ℕ) (s : grammar.Sort) → P s → All P (copies n s)
 unfolding copies
-all-times P zero s h = tt
-all-times P (suc n) s h = (h, all-times P n s h)
+all-copies P zero s h = tt
+all-copies P (suc n) s h = (h, all-copies P n s h)
 
 type-parts : (l : Line) → Parted l → (kinds.type ≤ l .kind) × (l .kind < kinds.limits) → All TypeSort (sorts (l .parts))
 unfolding sorts
@@ -46,7 +46,7 @@ type-parts l p a = pick (l .kind) each-kind (a .0) (a .1) refl
   where
     each-kind : Numbers (λ k. l .kind ≡ k → All TypeSort (sorts (l .parts))) kinds.type 3
     each-kind =
-        (λ e. let m = parts l kinds.type p e in rw (m .1, append-nil) (all-times TypeSort (m .0) grammar.Arg (inr refl)))
+        (λ e. let m = parts l kinds.type p e in rw (m .1, append-nil) (all-copies TypeSort (m .0) grammar.Arg (inr refl)))
         also (λ e. rw (parts l kinds.num p e) tt)
         also (λ e. rw (parts l kinds.mofn p e) tt)
         also stop

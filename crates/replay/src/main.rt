@@ -3,13 +3,13 @@
 //
 //     number,place,count,length;zeros,scratch,types,message;TYPES;MESSAGE
 //
-// `zeros` is how many entries of the scratch are zero from its start on; `scratch`, `types` and `message` are how many entries or
+// `zeros` is how many cells of the scratch are zero from its start on; `scratch`, `types` and `message` are how many cells or
 // bytes still hold the noise up to the buffer's end. TYPES are the bytes of the type table before those, MESSAGE those of the message.
 mod noise;
 
 use frames::Frame;
 use noise::BYTE;
-use noise::ENTRY;
+use noise::CELL;
 use noise::before_noise;
 use noise::before_noise_u16;
 use noise::zeros;
@@ -64,7 +64,7 @@ fn write_line(answer: Answer, scratch: &[u16], types: &[u8], message: &[u8]) {
 }
 
 fn write_answer(sheet: &[u8], scratch: &mut [u16], types: &mut [u8], message: &mut [u8]) {
-    fill_u16(scratch, ENTRY);
+    fill_u16(scratch, CELL);
     fill(types, BYTE);
     fill(message, BYTE);
     let answer = verdict::verdict(sheet, scratch, types, message);
@@ -92,12 +92,12 @@ fn turn(sheet: &mut [u8], scratch: &mut [u16], types: &mut [u8], message: &mut [
         return false;
     };
     let bytes = at_most(lent.sheet, sheet.len());
-    let entries = at_most(lent.scratch, scratch.len());
+    let cells = at_most(lent.scratch, scratch.len());
     let codes = at_most(lent.types, types.len());
     let room = at_most(lent.message, message.len());
     one(
         &mut sheet[..bytes],
-        &mut scratch[..entries],
+        &mut scratch[..cells],
         &mut types[..codes],
         &mut message[..room],
     )

@@ -1,10 +1,10 @@
-// The noise in lent buffers: a byte that is neither a type's code nor in a message, and an entry that is not zero.
+// The noise in lent buffers: a byte that is neither a type's code nor in a message, and a cell that is not zero.
 ghost use Prim.Native.Nat.{_≤_};
 ghost use lib.ListN.{length};
 
 pub const BYTE: u8 = 165;
 
-pub const ENTRY: u16 = 42405;
+pub const CELL: u16 = 42405;
 
 // How many bytes stand before those that hold the noise up to the end.
 pub fn before_noise(bytes: &[u8]) -> usize
@@ -20,12 +20,12 @@ pub fn before_noise(bytes: &[u8]) -> usize
     n
 }
 
-pub fn before_noise_u16(entries: &[u16]) -> usize
-    ensures { λ r. ⌜ r ≤ length (now (entries .entry)) ⌝ }
+pub fn before_noise_u16(cells: &[u16]) -> usize
+    ensures { λ r. ⌜ r ≤ length (now (cells .entry)) ⌝ }
 {
-    let mut n = entries.len();
+    let mut n = cells.len();
     while 0 < n {
-        if entries[n - 1] != ENTRY {
+        if cells[n - 1] != CELL {
             return n;
         }
         n -= 1;
@@ -33,11 +33,11 @@ pub fn before_noise_u16(entries: &[u16]) -> usize
     n
 }
 
-// How many entries are zero from the start on.
-pub fn zeros(entries: &[u16]) -> usize {
+// How many cells are zero from the start on.
+pub fn zeros(cells: &[u16]) -> usize {
     let mut n = 0;
-    while n < entries.len() {
-        if entries[n] != 0 {
+    while n < cells.len() {
+        if cells[n] != 0 {
             return n;
         }
         n += 1;

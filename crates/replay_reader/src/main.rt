@@ -74,14 +74,14 @@ fn turn(text: &mut [u8], scratch: &mut [u16]) -> bool {
         return false;
     };
     let bytes = lent.sheet;
-    let entries = lent.scratch;
+    let cells = lent.scratch;
     if text.len() < bytes {
         return false;
     }
-    if scratch.len() < entries {
+    if scratch.len() < cells {
         return false;
     }
-    one(&mut text[..bytes], &mut scratch[..entries], lent.types)
+    one(&mut text[..bytes], &mut scratch[..cells], lent.types)
 }
 
 fn main() {

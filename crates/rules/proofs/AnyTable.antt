@@ -21,7 +21,7 @@ Tells c = (t : Ty) × (tyOfMark c ≡ some t) × (code t ≡ c)
 pub tells : (c : ℕ) → codes.int ≤ c → c ≤ codes.unknown → Tells c
 unfolding tyOfMark code
 tells c h k =
-    pick {P = Tells} {i = 1} {n = 10} c
+    pick {P = Tells} {i = codes.int} {n = codes.unknown} c
     ((Int, refl, refl)
     also (Boolean, refl, refl)
     also (Address, refl, refl)

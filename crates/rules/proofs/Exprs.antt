@@ -12,7 +12,7 @@ use Rattle.grammar.specs.Grammar as grammar
 use Rattle.sheet.specs.Load.{copies, sorts}
 use Rattle.sheet.specs.Scratch.{kindAt, opAt, endAt, nameAt, callArgCount}
 use Rattle.sheet.specs.Say.{spanAt, nspanAt}
-use Rattle.sheet.proofs.Due.{length-times}
+use Rattle.sheet.proofs.Due.{length-copies}
 use Rattle.rules.specs.Ast.{Neg, unaryOps, Shr, binOps, Leaf, int, id, date, str, caller, native, inasset, now, Wrap, Checked, Wrapping, Expr, leaf, unary, binary, field, call, wrap, more, line, leafOf, exprOf, exprsOf, spanOf}
 use Rattle.rules.specs.Types.{literal, intOf}
 use Rattle.rules.specs.Typing.{identLeaf, identOf, dotOf, callOf}
@@ -33,7 +33,7 @@ module _ {s S : List ℕ} (d : Loaded s S) {i : ℕ} (h : Here S grammar.Expr i)
   exprs-behind : (k : ℕ) → sorts (t .line .parts) ≡ copies k grammar.Expr → (exprsOf (t .parts) ≡ exprsAt s k (suc i)) × Row S grammar.Expr k (suc i)
   unfolding exprsAt
   exprs-behind k e =
-      (ap exprsOf (parts-behind t ∙ rw (e, length-times) refl), row-behind k [] t (rw append-nil e))
+      (ap exprsOf (parts-behind t ∙ rw (e, length-copies) refl), row-behind k [] t (rw append-nil e))
 
   -- ... the first of which is one, and the others m
   parts-split : (m : ℕ) → sorts (t .line .parts) ≡ copies (suc m) grammar.Expr

@@ -9,7 +9,7 @@ use Rattle.sheet.specs.Held.{held, HeldAll, no-tree, tree, formed, FormedAll, n
 use Rattle.sheet.specs.Load.{copies, sorts}
 use Rattle.sheet.specs.Scratch.{kindAt, endAt, skip, callArgCount}
 use Rattle.sheet.specs.Tree.{Nodes, takeNodes}
-use Rattle.sheet.proofs.Due.{length-times}
+use Rattle.sheet.proofs.Due.{length-copies}
 use Rattle.rules.specs.Ast.{Expr, leaf, unary, binary, field, call, wrap, Exprs, nil, more, exprsOf}
 use Rattle.rules.specs.Standing.{exprAt, exprsAt, Loaded, Here, Row, stop, next}
 use Rattle.rules.proofs.Parts.{stop as end', _also_, pick, parts}
@@ -76,7 +76,7 @@ ends-of (tree h hs) (one-due f fs) = ends-of hs fs
 
 -- the line after a line's parts, which are of one sort
 pub parts-end : {s S : List ℕ} {i : ℕ} (σ : grammar.Sort) (k : ℕ) (t : Stands s S i) → sorts (t .line .parts) ≡ copies k σ → skip S k (suc i) ≡ endAt S i
-parts-end σ k t e = rw (e, length-times) at (ends-of (t .held) (t .formed))
+parts-end σ k t e = rw (e, length-copies) at (ends-of (t .held) (t .formed))
 
 module _ {s S : List ℕ} (d : Loaded s S) {i : ℕ} (h : Here S grammar.Expr i) where
   abbrev Below : Type 0

@@ -12,7 +12,7 @@ use Rattle.sheet.specs.Load.{lines, load, copies, sorts}
 use Rattle.sheet.specs.Tree.{Node, node, Nodes, nil, more, trees}
 use Rattle.sheet.specs.Scratch.{endAt}
 use Rattle.sheet.specs.Held.{Formed, formed, FormedAll, none-due, one-due, Held, held, HeldAll, no-tree, tree}
-use Rattle.sheet.proofs.Due.{length-times}
+use Rattle.sheet.proofs.Due.{length-copies}
 use Rattle.sheet.proofs.Loaded.{loaded}
 use Rattle.rules.specs.Ast.{Expr, Field, Item, state, event, invariant, genesis, entry, line, lineAfter, exprOf, fieldOf, clauseOf, stmtOf, itemOf, contractOf, nodes}
 use Rattle.rules.specs.KeyKinds.{present, clauseExprs, bodyExprs, entryExprs}
@@ -265,5 +265,5 @@ module _ {S : List ℕ} {n : ℕ} where
 -- the expressions of a sheet that is loaded
 pub ordered : (s : List ℕ) (types n : ℕ) (ls : List Line) → load s types n ≡ lines ls → Ordered 0 (length ls) (allExprs (contractOf (trees 0 ls)))
 ordered s types n ls e =
-    let q = loaded s types (copies n 0) ls (rw (length-times {A = ℕ} n 0) e) in
+    let q = loaded s types (copies n 0) ls (rw (length-copies {A = ℕ} n 0) e) in
     rw (q .1, ← q .2 .all) (contract (q .0) (q .2 .formed) (q .2 .held))

@@ -11,7 +11,7 @@ use borrow.Author.Tests.{ltb-true, ltb-false, le-ltb}
 use Rattle.grammar.specs.Grammar as grammar
 use Rattle.sheet.specs.Held.{Among, spanless}
 use Rattle.sheet.specs.Line.{Line}
-use Rattle.sheet.specs.Scratch.{cell, kindAt, nameAt, lineCount}
+use Rattle.sheet.specs.Scratch.{cell, kindAt, nameAt, lineCount, kindCell, lengthCell}
 use Rattle.sheet.specs.Say.{nspanAt}
 use Rattle.sheet.specs.Tree.{Node, node, Nodes}
 use Rattle.sheet.proofs.Holds.{all-le}
@@ -37,7 +37,7 @@ by-place {P} k f g = by-cases (ltb k 14) refl
     by-cases true q = pick k f (omega arith) (ltb-true k 14 q)
     by-cases false q = let h = ltb-false k 14 q in rw (let e : k ≡ fourteenMore (k - 14) = omega (arith, h) in e) (g (k - 14))
 
--- a record as an expression: its span, and that it is a dot only where its kind is 30
+-- a record as an expression: its span, and that it is a dot only where its kind is `kinds.dot`
 as-expr : (i : ℕ) (l : Line) (ps : Nodes) → (span (exprOf (node i l ps)) ≡ spanOf l) × (l .kind ≢ kinds.dot → dotOf (exprOf (node i l ps)) ≡ none)
 unfolding span dotOf exprOf
 as-expr i l ps =
@@ -52,7 +52,7 @@ as-expr i l ps =
     also (λ e. rw e (refl, λ h. refl))
     also (λ e. rw e (refl, λ h. refl))
     also (λ e. rw e (refl, λ h. refl))
-    also (λ (e : l .kind - kinds.int ≡ 10). rw e (refl, λ h. absurd (h (omega (arith, e)))))
+    also (λ (e : l .kind - kinds.int ≡ kinds.dot - kinds.int). rw e (refl, λ h. absurd (h (omega (arith, e)))))
     also (λ e. rw e (refl, λ h. refl))
     also (λ e. rw e (refl, λ h. refl))
     also (λ e. rw e (refl, λ h. refl))
@@ -92,7 +92,7 @@ no-cell S i k h = rw (le-ltb i (lineCount S) h) refl
 
 pub no-kind : (S : List ℕ) (i : ℕ) → lineCount S ≤ i → kindAt S i ≡ kinds.contract
 unfolding kindAt
-no-kind S i h = rw (no-cell S i 0 h) refl
+no-kind S i h = rw (no-cell S i kindCell h) refl
 
 module _ {s S : List ℕ} (d : Loaded s S) (i : ℕ) where
   -- what holds of a line that is there, and of one that isn't, holds of every line
@@ -109,7 +109,7 @@ module _ {s S : List ℕ} (d : Loaded s S) (i : ℕ) where
 
   pub named-at : nameAt s S i ≡ namedAt s i
   unfolding nameAt namedAt nodeName
-  named-at = there-or-not (λ w. sym (named d w)) (λ w. rw (no-cell S i 4 w, beyond d i w) refl)
+  named-at = there-or-not (λ w. sym (named d w)) (λ w. rw (no-cell S i lengthCell w, beyond d i w) refl)
 
   pub no-place : lineCount S ≤ i → placeAt s i ≡ 0
   unfolding placeAt nodeSpan

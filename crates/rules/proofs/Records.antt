@@ -12,7 +12,7 @@ use Rattle.sheet.specs.Load.{sorts, copies}
 use Rattle.sheet.specs.Scratch.{kindAt, opAt, endAt, nameAt, skip, lineCount, firstCount, emitArgCount, targetCount, fromCount, paramCount, clauseCount, bodyCount, defaultCount}
 use Rattle.sheet.specs.Say.{spanAt}
 use Rattle.sheet.specs.Tree.{Node, node, Nodes, nil as done, more as then, takeNodes}
-use Rattle.sheet.proofs.Due.{length-times}
+use Rattle.sheet.proofs.Due.{length-copies}
 use Rattle.rules.specs.Ast.{Set, assignOps, Expr, Stmt, guard, bind, emit, assign, do', Clause, limits, denies, mints, after, Param, list, nodes, exprOf, exprsOf, stmtOf, clauseOf, paramOf, fieldOf, entryOf, eventOf}
 use Rattle.rules.specs.Standing.{nodeName, nodeSpan, namedAt, placeAt, treesFrom, nodeAt, nodesAt, exprAt, exprsAt, typeAt, fieldAt, paramAt, paramsAt, stmtAt, stmtsAt, clauseAt, clausesAt, eventAt, entryAt, Loaded, Here, Row, stop, next}
 use Rattle.rules.proofs.Parts.{parts, flags}
@@ -85,7 +85,7 @@ module _ {s S : List ℕ} (d : Loaded s S) {i : ℕ} (w : i < lineCount S) where
       → (nodes (t .parts) ≡ nodesAt s m (suc i)) × (exprsOf (t .parts) ≡ exprsAt s m (suc i)) × Row S σ m (suc i) × (firstCount S i ≡ m) × (skip S m (suc i) ≡ endAt S i)
   unfolding nodesAt exprsAt sorts
   group σ m e =
-      let p : t .parts ≡ takeNodes m (treesFrom s (suc i)) = parts-behind t ∙ rw (e, append-nil, length-times) refl in
+      let p : t .parts ≡ takeNodes m (treesFrom s (suc i)) = parts-behind t ∙ rw (e, append-nil, length-copies) refl in
       (ap nodes p, ap exprsOf p, row-behind m [] t (rw e refl), t .says .first ∙ rw e refl, parts-end σ m t (rw (e, append-nil) refl))
 
   one-part : (σ : grammar.Sort) → t .line .parts ≡ (1, σ) ∷ [] → nodes (t .parts) ≡ nodeAt s (suc i) ∷ []
@@ -194,7 +194,7 @@ module _ {s S : List ℕ} (d : Loaded s S) {i : ℕ} (h : Here S grammar.Clause 
       let b : fromCount S i ≡ p .1 .0 = ct .says .second ∙ rw g refl in
       let r = row-group (p .0, grammar.Expr) ((p .1 .0, grammar.Expr) ∷ []) ct g in
       let u = row-second (p .0, grammar.Expr) (p .1 .0, grammar.Expr) [] ct g in
-      let all = all-parts d (h .within) (p .0 + p .1 .0) (rw (g, append-nil, length-append, length-times, length-times) refl) in
+      let all = all-parts d (h .within) (p .0 + p .1 .0) (rw (g, append-nil, length-append, length-copies, length-copies) refl) in
       let n = all .0 ∙ nodes-join (p .1 .0) d r in
       let l = nodes-length d r in
       rw (a, b) (
@@ -235,7 +235,7 @@ module _ {s S : List ℕ} (d : Loaded s S) {i : ℕ} (w : i < lineCount S) where
       let z = row-third (a, grammar.Param) (b, grammar.Clause) (c, grammar.Stmt) [] et g in
       let j = skip S a (suc i) in
       let k = skip S b j in
-      let all = all-parts d w (a + (b + c)) (rw (g, append-nil, length-append, length-append, length-times, length-times, length-times) refl) in
+      let all = all-parts d w (a + (b + c)) (rw (g, append-nil, length-append, length-append, length-copies, length-copies, length-copies) refl) in
       let n : nodes (et .parts) ≡ nodesAt s a (suc i) ++ (nodesAt s b j ++ nodesAt s c k) = all .0 ∙ nodes-join (b + c) d x ∙ ap (λ ts. nodesAt s a (suc i) ++ ts) (nodes-join c d y) in
       let ends : skip S c k ≡ endAt S i = sym (skip-add S a (b + c) (suc i) ∙ skip-add S b c j) ∙ all .1 in
       rw (A, B, C)
@@ -275,7 +275,7 @@ module _ {s S : List ℕ} (d : Loaded s S) {i : ℕ} (w : i < lineCount S) where
       let f = subst (Flagged (grammar.span ∷ grammar.name ∷ grammar.flag grammar.Expr ∷ [])) z (q .2) in
       let r = row-group (1, grammar.Ty) _ et (p .1) in
       let u = row-second (1, grammar.Ty) (p .0, grammar.Expr) [] et (p .1) in
-      let all = all-parts d w (suc (p .0)) (rw (p .1) (ap suc (ap length (append-nil (copies (p .0) grammar.Expr)) ∙ length-times (p .0) grammar.Expr))) in
+      let all = all-parts d w (suc (p .0)) (rw (p .1) (ap suc (ap length (append-nil (copies (p .0) grammar.Expr)) ∙ length-copies (p .0) grammar.Expr))) in
       let n : nodes (et .parts) ≡ nodeAt s (suc i) ∷ nodesAt s (p .0) (endAt S (suc i)) = all .0 ∙ nodes-next d (p .0) (suc i) (row-first r .within) in
       let m : defaultCount S i ≡ p .0 = et .says .second ∙ rw (p .1) refl in
       rw m (rw (et .here, n, et .spells .name) refl, row-first r, u, f .0)

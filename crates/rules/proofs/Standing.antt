@@ -280,4 +280,4 @@ by-answer s S U types n r a e u =
     let X = scratchAfter s types S in
     let k = cellsPerLine * length (l .0) in
     let h : k ≤ length X = omega (arith, left-size s types S (l .0) (l .1), length-take k X) in
-    rw (u, l .2) (record { loaded = by-load s types S (l .0) (l .1); entries = h; few = left-few s types S (l .0) (l .1) })
+    rw (u, l .2) (record { loaded = by-load s types S (l .0) (l .1); cells = h; few = left-few s types S (l .0) (l .1) })

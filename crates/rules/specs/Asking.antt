@@ -77,7 +77,7 @@ forEach (a ∷ as') f = f a >>= (λ _. forEach as' f)
 abbrev pub Asking : Type 0
 Asking = ℕ × ℕ
 
--- a line that has an asking is reached; its code is 0 if it has none, 11 if any of its askings has 11, else that of its
+-- a line that has an asking is reached; its code is 0 if it has none, `codes.refused` if any of its askings has it, else that of its
 -- first
 unfoldable pub reached : ℕ → List Asking → Bool
 reached l [] = false

@@ -184,7 +184,7 @@ binOps = Or ∷ And ∷ Eq ∷ Ne ∷ Lt ∷ Gt ∷ Le ∷ Ge ∷ Add ∷ Sub �
 abbrev pub assignOps : List AssignOp
 assignOps = Set ∷ AddTo ∷ SubFrom ∷ []
 
--- expressions, kinds 20 to 33: line i, what it says, and its parts
+-- expressions, by kind from `kinds.int` on: line i, what it says, and its parts
 abbrev pub exprKinds : List (ℕ → Line → Exprs → Expr)
 exprKinds =
     (λ i l es. leaf i (spanOf l) (int (l .name)))
@@ -206,7 +206,7 @@ unfoldable mutual
   exprsOf done = nil
   exprsOf (then n ns) = more (exprOf n) (exprsOf ns)
 
--- arguments of a type, kinds 8 to 10
+-- arguments of a type, by kind from `kinds.type` on
 abbrev argKinds : List (Line → Args → Arg)
 argKinds = (λ l as'. ofType (type (spanOf l) (l .name) as')) ∷ (λ l as'. ofInt (l .name)) ∷ (λ l as'. mOfN) ∷ []
 
@@ -247,7 +247,7 @@ fieldOf (node i l ns) = fieldFrom l (nodes ns)
 unfoldable pub paramOf : Node → Param
 paramOf (node i l ns) = record { name = l .name; ty = typeOf (at (nodes ns) 0) }
 
--- clauses, kinds 11 to 14
+-- clauses, by kind from `kinds.limits` on
 abbrev clauseKinds : List (Line → List Node → Clause)
 clauseKinds =
     (λ l ns. limits (exprIn ns 0))
@@ -259,7 +259,7 @@ clauseKinds =
 unfoldable pub clauseOf : Node → Clause
 clauseOf (node i l ns) = getD clauseKinds (l .kind - kinds.limits) (λ l ns. mints) l (nodes ns)
 
--- statements, kinds 15 to 19
+-- statements, by kind from `kinds.guard` on
 abbrev stmtKinds : List (Line → List Node → Stmt)
 stmtKinds =
     (λ l ns. guard (exprIn ns 0))
@@ -286,7 +286,7 @@ entryFrom l ns =
 unfoldable pub entryOf : Node → Entry
 entryOf (node i l ns) = entryFrom l (nodes ns)
 
--- items, kinds 1 to 5
+-- items, by kind from `kinds.state` on
 abbrev itemKinds : List (Line → List Node → Item)
 itemKinds =
     (λ l ns. state (map fieldOf ns))

@@ -55,7 +55,7 @@ unfoldable pub putIf : Bool → Table → ℕ → ℕ → Table
 putIf true T l c = set T l c
 putIf false T l c = T
 
--- the mark of one asking: 11 always, else where the line has none yet
+-- the mark of one asking: that of a refusal always, else where the line has none yet
 unfoldable pub mark : Table → Asking → Table
 mark T a = putIf (eqb (getD T (a .0) 0) 0 || eqb (a .1) codes.refused) T (a .0) (a .1)
 

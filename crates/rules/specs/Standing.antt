@@ -112,7 +112,7 @@ pub record Loaded (s S : List ℕ) : Type 0 where
 -- the scratch U starts with the cells of the n lines of the sheet s, which are at most 1,024
 pub record LoadedIn (s U : List ℕ) (n : ℕ) : Type 0 where
   pub loaded : Loaded s (take (cellsPerLine * n) U)
-  pub entries : cellsPerLine * n ≤ length U
+  pub cells : cellsPerLine * n ≤ length U
   pub few : n ≤ mostLines
 
 -- line i is there, its kind may stand where the sort σ is due, and its parts end behind it

@@ -1,4 +1,4 @@
-// The rules of the type pass.
+// The rules of the type pass are definitions: specs/. Of code there are the type codes, `is_type` and `marked`.
 pub mod codes;
 mod table;
 

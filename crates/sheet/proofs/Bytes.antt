@@ -15,7 +15,7 @@ use Rattle.text.proofs.Words.{same-is}
 use Rattle.grammar.specs.Grammar.{Sort, Contract, Item, Field, Param, Ty, Arg, Clause, Stmt, Expr, Rule, span, name, text, assignOp, unOp, binOp, count, flag, Record, recordsFor, noKind, firstKind, wordsOf, kindFor}
 use Rattle.sheet.specs.Line.{Line, readField, readFields, good, readPieces, readLine, fieldsOf}
 use Rattle.sheet.specs.Load.{lines, linesOf, scan}
-use Rattle.sheet.specs.Held.{Each, none as no-line, one}
+use Rattle.sheet.specs.Held.{Each, no-line, one}
 use Rattle.sheet.proofs.Holds.{judged-lines}
 use Rattle.sheet.proofs.ReadAs.{on-number, on-test, read-as}
 use Rattle.grammar.proofs.TableLaws.{every}

@@ -7,15 +7,15 @@ use Rattle.grammar.specs.Grammar.{Sort}
 use Rattle.sheet.specs.Load.{copies, sorts, due}
 use Rattle.sheet.specs.Tree.{total}
 
-pub length-times : {A : Type 0} (n : ℕ) (x : A) → length (copies n x) ≡ n
+pub length-copies : {A : Type 0} (n : ℕ) (x : A) → length (copies n x) ≡ n
 unfolding copies
-length-times zero x = refl
-length-times (suc n) x = ap suc (length-times n x)
+length-copies zero x = refl
+length-copies (suc n) x = ap suc (length-copies n x)
 
 pub length-sorts : (gs : List (ℕ × Sort)) → length (sorts gs) ≡ total gs
 unfolding sorts total
 length-sorts [] = refl
-length-sorts (g ∷ gs) = rw (length-append, length-sorts gs, length-times (g .0) (g .1))
+length-sorts (g ∷ gs) = rw (length-append, length-sorts gs, length-copies (g .0) (g .1))
 
 pub length-due : (d : ℕ) (ss : List Sort) → length (due d ss) ≡ length ss
 unfolding due

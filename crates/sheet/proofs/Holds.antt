@@ -12,7 +12,7 @@ use Rattle.sheet.specs.Tree.{Node, node, Nodes, nil, more, total, takeNo
 use Rattle.sheet.specs.Step.{codeLine}
 use Rattle.grammar.specs.Table.{numbersIn}
 use Rattle.sheet.specs.Scratch.{cell, put, putLine, kindAt, opAt, endAt, partsAt, putLines, skip, closed, lineCount, cellsPerLine, kindCell, kindRange, startCell, nameCell, lengthCell, firstCell, secondCell, thirdCell, endCell}
-use Rattle.sheet.specs.Held.{Says, Held, held, HeldAll, no-tree, tree, Due, done, next, Sound, Each, none, one}
+use Rattle.sheet.specs.Held.{Says, Held, held, HeldAll, no-tree, tree, Due, done, next, Sound, Each, no-line, one}
 use Rattle.sheet.proofs.Due.{length-sorts, length-due}
 use Rattle.sheet.proofs.Cells.{length-put, cell-same, cell-other, length-puts, puts-below, puts-last}
 
@@ -52,14 +52,14 @@ says-kept : {S T : List ℕ} {i : ℕ} {l : Line} → ((m : ℕ) → (m < cellsP
 unfolding kindAt opAt
 says-kept f s =
     record {
-      kind = rw (f 0 (omega arith)) (s .kind);
-      op = rw (f 0 (omega arith)) (s .op);
-      at = f 1 (omega arith) ∙ s .at;
-      start = f 3 (omega arith) ∙ s .start;
-      len = f 4 (omega arith) ∙ s .len;
-      first = f 5 (omega arith) ∙ s .first;
-      second = f 6 (omega arith) ∙ s .second;
-      third = f 7 (omega arith) ∙ s .third;
+      kind = rw (f kindCell (omega arith)) (s .kind);
+      op = rw (f kindCell (omega arith)) (s .op);
+      at = f startCell (omega arith) ∙ s .at;
+      start = f nameCell (omega arith) ∙ s .start;
+      len = f lengthCell (omega arith) ∙ s .len;
+      first = f firstCell (omega arith) ∙ s .first;
+      second = f secondCell (omega arith) ∙ s .second;
+      third = f thirdCell (omega arith) ∙ s .third;
     }
 
 pub says-put : {S : List ℕ} {i : ℕ} {l : Line} (j v : ℕ) → Says S i l → Says (put S j endCell v) i l
@@ -108,59 +108,59 @@ split (suc k) no-tree g = absurd (omega arith)
 split (suc k) (tree h r) g = let q = split k r (omega arith) in (tree h (q .0), q .1)
 
 -- the cells of a line but its end cell
-abbrev entries : Line → List (ℕ × ℕ)
-entries x =
+abbrev cellsOf : Line → List (ℕ × ℕ)
+cellsOf x =
     let l = codeLine x in (kindCell, l .kind + kindRange * l .op) ∷ (startCell, l .at) ∷ (nameCell, l .start) ∷ (lengthCell, l .len) ∷ (firstCell, l .first) ∷ (secondCell, l .second) ∷ (thirdCell, l .third) ∷ []
 
 -- a line that is put is said
-pub line-says : (S : List ℕ) (i : ℕ) (l : Line) → i < lineCount S → l .kind < 64 → Says (putLine S i (codeLine l)) i l
+pub line-says : (S : List ℕ) (i : ℕ) (l : Line) → i < lineCount S → l .kind < kindRange → Says (putLine S i (codeLine l)) i l
 unfolding putLine kindAt opAt
 line-says S i l g h =
-    let e = puts-last (entries l) S i in
+    let e = puts-last (cellsOf l) S i in
     record {
-      kind = rw (e 0 g (omega arith)) (omega arith);
-      op = rw (e 0 g (omega arith)) (omega arith);
-      at = e 1 g (omega arith);
-      start = e 3 g (omega arith);
-      len = e 4 g (omega arith);
-      first = e 5 g (omega arith);
-      second = e 6 g (omega arith);
-      third = e 7 g (omega arith);
+      kind = rw (e kindCell g (omega arith)) (omega arith);
+      op = rw (e kindCell g (omega arith)) (omega arith);
+      at = e startCell g (omega arith);
+      start = e nameCell g (omega arith);
+      len = e lengthCell g (omega arith);
+      first = e firstCell g (omega arith);
+      second = e secondCell g (omega arith);
+      third = e thirdCell g (omega arith);
     }
 
 pub line-below : (S : List ℕ) (i : ℕ) (l : Line) (j m : ℕ) → j < i → m < cellsPerLine → cell (putLine S i (codeLine l)) j m ≡ cell S j m
 unfolding putLine
-line-below S i l j m g h = puts-below (entries l) S i j m g h
+line-below S i l j m g h = puts-below (cellsOf l) S i j m g h
 
 pub length-line : (S : List ℕ) (i : ℕ) (l : Line) → length (putLine S i (codeLine l)) ≡ length S
 unfolding putLine
-length-line S i l = length-puts (entries l) S i
+length-line S i l = length-puts (cellsOf l) S i
 
-written-below : (ls : List Line) (S : List ℕ) (i j m : ℕ) → j < i → m < cellsPerLine → cell (putLines i ls S) j m ≡ cell S j m
+put-lines-below : (ls : List Line) (S : List ℕ) (i j m : ℕ) → j < i → m < cellsPerLine → cell (putLines i ls S) j m ≡ cell S j m
 unfolding putLines putLine
-written-below [] S i j m g h = refl
-written-below (l ∷ ls) S i j m g h = written-below ls (putLine S i (codeLine l)) (suc i) j m (omega arith) h ∙ line-below S i l j m g h
+put-lines-below [] S i j m g h = refl
+put-lines-below (l ∷ ls) S i j m g h = put-lines-below ls (putLine S i (codeLine l)) (suc i) j m (omega arith) h ∙ line-below S i l j m g h
 
-written-says : {ls : List Line} {i : ℕ} → Each (λ j. Sound) i ls → (S : List ℕ) → cellsPerLine * (i + length ls) ≤ length S
+put-lines-say : {ls : List Line} {i : ℕ} → Each (λ j. Sound) i ls → (S : List ℕ) → cellsPerLine * (i + length ls) ≤ length S
     → Each (Says (putLines i ls S)) i ls
 unfolding putLines
-written-says none S g = none
-written-says (one {i} {l} {ls} s ss) S g =
+put-lines-say no-line S g = no-line
+put-lines-say (one {i} {l} {ls} s ss) S g =
     let e = length-line S i l in
-    one (says-kept (λ m h. written-below ls _ (suc i) i m (omega arith) (h .0)) (line-says S i l (omega arith) (s .kind)))
-    (written-says ss (putLine S i (codeLine l)) (omega arith))
+    one (says-kept (λ m h. put-lines-below ls _ (suc i) i m (omega arith) (h .0)) (line-says S i l (omega arith) (s .kind)))
+    (put-lines-say ss (putLine S i (codeLine l)) (omega arith))
 
-pub length-written : (ls : List Line) (S : List ℕ) (i : ℕ) → length (putLines i ls S) ≡ length S
+pub length-put-lines : (ls : List Line) (S : List ℕ) (i : ℕ) → length (putLines i ls S) ≡ length S
 unfolding putLines
-length-written [] S i = refl
-length-written (l ∷ ls) S i = length-written ls (putLine S i (codeLine l)) (suc i) ∙ length-line S i l
+length-put-lines [] S i = refl
+length-put-lines (l ∷ ls) S i = length-put-lines ls (putLine S i (codeLine l)) (suc i) ∙ length-line S i l
 
 pub length-closed : (n : ℕ) (S : List ℕ) → length (closed n S) ≡ length S
 unfolding closed
 length-closed zero S = refl
 length-closed (suc i) S = length-closed i _ ∙ length-put S i endCell _
 
--- the three groups of parts that cells 5 to 7 tell are all
+-- the three groups of parts that the last three cells tell are all
 parts-total : (gs : List (ℕ × Sort)) → length gs ≤ 3 → getD (numbersIn gs) 0 0 + getD (numbersIn gs) 1 0 + getD (numbersIn gs) 2 0 ≡ total gs
 unfolding total
 parts-total [] h = refl
@@ -198,7 +198,7 @@ record Closing (S : List ℕ) (n i : ℕ) (ls : List Line) : Type 0 where
 closing : {ls : List Line} {S : List ℕ} {n i k : ℕ} → Each (Says S) i ls → Each (λ j. Sound) i ls → Due k ls
     → i + length ls ≡ n → cellsPerLine * n ≤ length S → Closing S n i ls
 unfolding trees closed
-closing {S} {n} {i} none none done e g =
+closing {S} {n} {i} no-line no-line done e g =
     let f : n ≡ i = omega arith in record { now = S; same = ap (λ m. closed m S) f; says = λ s. s; long = refl; held = rw f no-tree }
 closing {n} (one {i} {l} {ls} s ss) (one o os) (next d) e g =
     let r = closing ss os d (omega arith) g in
@@ -216,7 +216,7 @@ pub holds : {ls : List Line} {n k : ℕ} (S : List ℕ) → length S ≡ cellsPe
     → HeldAll (closed n (putLines 0 ls S)) n 0 n (trees 0 ls)
 unfolding closed
 holds {ls} {n} S g e o d =
-    let c = closing {n = n} (written-says o S (omega arith)) o d (omega arith) (omega (arith, length-written ls S 0)) in rw (c .same) (c .held)
+    let c = closing {n = n} (put-lines-say o S (omega arith)) o d (omega arith) (omega (arith, length-put-lines ls S 0)) in rw (c .same) (c .held)
 
 -- ... and where one record is due, that is one tree
 pub one-tree : {ls : List Line} → Due 1 ls → (t : Node) × (trees 0 ls ≡ more t nil)

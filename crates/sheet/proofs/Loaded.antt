@@ -16,12 +16,12 @@ use Rattle.sheet.specs.Load.{LoadResult as Read, lines, refused, linesOf
 use Rattle.sheet.specs.Tree.{Node, node, Nodes, nil, more, takeNodes, dropNodes, grow, trees}
 use Rattle.sheet.specs.Scratch.{nameAt, putLines, closed, cellsPerLine}
 use Rattle.sheet.specs.Say.{numberAt, spanAt, nspanAt}
-use Rattle.sheet.specs.Held.{Says, Held, held, HeldAll, no-tree, tree, Sound, Each, none, one, Every, every, EveryOf, no-more, and-more, Spells, Holding}
+use Rattle.sheet.specs.Held.{Says, Held, held, HeldAll, no-tree, tree, Sound, Each, no-line, one, Every, every, EveryOf, no-more, and-more, Spells, Holding}
 use Rattle.sheet.specs.Scan.{Whole, linesFrom, scanAll}
 use Rattle.sheet.specs.Promise.{answer, laid, scratchAfter}
 use Rattle.sheet.specs.declared.loader.Answer.the-variants.{Lines}
 use Rattle.sheet.proofs.ReadAs.{ReadAs, read-sound, sound-small, piece-within, stands-within, SpanAt}
-use Rattle.sheet.proofs.Holds.{judged-lines, scan-due, holds, all-first, all-none, length-written, length-closed}
+use Rattle.sheet.proofs.Holds.{judged-lines, scan-due, holds, all-first, all-none, length-put-lines, length-closed}
 use Rattle.sheet.proofs.Trees.{tree-of}
 use Rattle.sheet.proofs.Scanning.{line-part}
 use Rattle.sheet.proofs.Loading.{scan-length, passed, loads, loaded-whole}
@@ -65,7 +65,7 @@ module _ (s : List ℕ) (u : unended s ≡ false) (b : length s ≤ mostBytes) w
   lines-read : (ls : List (List ℕ)) (i j at : ℕ) (ds : List (ℕ × Sort)) (xs : List Line) → ls ≡ linesFrom s at → scan i at ds ls ≡ lines xs
       → Each (λ k. Sayable s) j xs
   unfolding scan readLine fieldsOf
-  lines-read [] i j at [] xs t e = let n : xs ≡ [] = cc in rw n none
+  lines-read [] i j at [] xs t e = let n : xs ≡ [] = cc in rw n no-line
   lines-read [] i j at (d ∷ ds) xs t e = absurd (let z : _≡_ {A = ℕ} 0 1 = cc in omega arith)
   lines-read (l ∷ ls) i j at [] xs t e = absurd (let z : _≡_ {A = ℕ} 0 1 = cc in omega arith)
   lines-read (l ∷ ls) i j at (d ∷ ds) xs t e =
@@ -78,7 +78,7 @@ module _ (s : List ℕ) (u : unended s ≡ false) (b : length s ≤ mostBytes) w
       (lines-read ls _ (suc j) _ _ _ (p .2) (r .3)))
 
 sounds : {s : List ℕ} {i : ℕ} {ls : List Line} → Each (λ j. Sayable s) i ls → Each (λ j. Sound) i ls
-sounds none = none
+sounds no-line = no-line
 sounds (one r rs) = one (r .sound) (sounds rs)
 
 -- What holds of each line holds of each line of the trees.
@@ -96,7 +96,7 @@ every-drop (suc k) (and-more h r) = every-drop k r
 
 pub built : {P : ℕ → Line → Type 0} {i : ℕ} {ls : List Line} → Each P i ls → EveryOf P (trees i ls)
 unfolding trees grow
-built none = no-more
+built no-line = no-more
 built (one h r) = let b = built r in and-more (every h (every-take _ b)) (every-drop _ b)
 
 -- trees that are held, of such lines, are spelled
@@ -130,17 +130,17 @@ module _ (s : List ℕ) (types : ℕ) (S : List ℕ) (ls : List Line) (e : load 
   passes = passed s types S _ (length ls) refl (whole .0) count
 
   size : length T ≡ cellsPerLine * length ls
-  size = passes .entries ∙ rw count
+  size = passes .cells ∙ rw count
 
   left : take (cellsPerLine * length ls) (scratchAfter s types S) ≡ closed (length ls) (putLines 0 ls T)
   unfolding laid
   left =
       rw (← loads s types S _ (length ls) refl (whole .0) count _ _ refl refl .1, whole .1)
-      (take-at _ _ _ (length-closed (length ls) _ ∙ length-written ls T 0 ∙ size))
+      (take-at _ _ _ (length-closed (length ls) _ ∙ length-put-lines ls T 0 ∙ size))
 
   -- eight cells a line, of no more than 1,024 lines
   pub left-size : length (take (cellsPerLine * length ls) (scratchAfter s types S)) ≡ cellsPerLine * length ls
-  left-size = rw left (length-closed (length ls) _ ∙ length-written ls T 0 ∙ size)
+  left-size = rw left (length-closed (length ls) _ ∙ length-put-lines ls T 0 ∙ size)
 
   pub left-few : length ls ≤ mostLines
   left-few = rw count (passes .few)
@@ -149,7 +149,7 @@ module _ (s : List ℕ) (types : ℕ) (S : List ℕ) (ls : List Line) (e : load 
   pub loaded : (t : Node) × (trees 0 ls ≡ more t nil) × Holding s (take (cellsPerLine * length ls) (scratchAfter s types S)) (length ls) t
   loaded =
       let q = tree-of s types (length S) ls e in
-      let r = lines-read s (passes .ended) (passes .small) (linesOf s) 1 0 0 _ ls refl (whole .1) in
+      let r = lines-read s (passes .terminated) (passes .small) (linesOf s) 1 0 0 _ ls refl (whole .1) in
       let h = all-first (rw (q .1) at (holds T size refl (sounds r) (scan-due (linesOf s) 1 0 _ ls (whole .1)))) in
       (q .0, q .1, rw left (record { formed = q .2; held = h .0; all = all-none (h .1); spells = spelt (h .0) (every-first (rw (q .1) at (built r)) .0) }))
 

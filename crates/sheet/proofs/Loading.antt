@@ -41,7 +41,7 @@ read-all s S T U r a w h u = by-cases (scanAll s) refl (sym a ∙ h .answer)
   where
     by-cases : (r : LoadResult) → scanAll s ≡ r → Read ≡ scanned r → (Lines (lineCount U) ≡ answer (scanAll s)) × (U ≡ laid (scanAll s) S)
     by-cases (lines ls) e a =
-        let n : lineCount T ≡ length ls = omega (arith, h .size, w .entries, scan-length (linesOf s) 1 0 _ ls e) in
+        let n : lineCount T ≡ length ls = omega (arith, h .size, w .cells, scan-length (linesOf s) 1 0 _ ls e) in
         rw (e, u, length-closed (lineCount T) T, n) (refl, ap (closed (length ls)) (h .left ls e))
     by-cases (refused m i) e a = absurd (let z : _≡_ {A = ℕ} 0 1 = cc in omega arith)
 
@@ -98,9 +98,9 @@ module _ (s : List ℕ) (types : ℕ) (S : List ℕ) (k m : ℕ) (e : k ≡ earl
   passed =
       record {
         small = ltb-false _ _ (untrue 0);
-        ended = untrue 1;
+        terminated = untrue 1;
         few = ltb-false _ _ (untrue 2);
-        entries = length-take-le (cellsPerLine * m) S room ∙ ap (λ n. cellsPerLine * n) l;
+        cells = length-take-le (cellsPerLine * m) S room ∙ ap (λ n. cellsPerLine * n) l;
       }
 
   pub loads : (r : Answer) (T : List ℕ) → r ≡ answer (scanAll s) → T ≡ laid (scanAll s) (take (cellsPerLine * m) S)

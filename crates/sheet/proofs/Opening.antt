@@ -13,17 +13,17 @@ use borrow.Author.Tests.{lt-leb, eqb-true, eqb-false, ltb-true, ltb-false}
 use Rattle.grammar.specs.Grammar.{Expr, noKind}
 use Rattle.sheet.specs.Load.{copies, due}
 use Rattle.grammar.specs.Table.{sortOf}
-use Rattle.sheet.specs.Scratch.{cell, kindAt, partsAt, firstCount, secondCount, thirdCount, cellsPerLine}
+use Rattle.sheet.specs.Scratch.{cell, kindAt, partsAt, firstCount, secondCount, thirdCount, cellsPerLine, kindCell, firstCell, secondCell, thirdCell}
 use Rattle.sheet.specs.Open.{groupSort, groupAt, nextSort, sortsAt, leftAt, opened, settled, spent, Owned, Open}
 use Rattle.sheet.specs.Scan.{sortDue}
-use Rattle.sheet.proofs.Due.{length-times}
+use Rattle.sheet.proofs.Due.{length-copies}
 
 -- an element of a list of one element, many times, and one past it
-getD-times : {A : Type 0} (n k : ℕ) (x d : A) (ys : List A) → k < n → getD (copies n x ++ ys) k d ≡ x
+getD-copies : {A : Type 0} (n k : ℕ) (x d : A) (ys : List A) → k < n → getD (copies n x ++ ys) k d ≡ x
 unfolding copies
-getD-times zero k x d ys h = absurd (omega arith)
-getD-times (suc n) zero x d ys h = refl
-getD-times (suc n) (suc k) x d ys h = getD-times n k x d ys (omega arith)
+getD-copies zero k x d ys h = absurd (omega arith)
+getD-copies (suc n) zero x d ys h = refl
+getD-copies (suc n) (suc k) x d ys h = getD-copies n k x d ys (omega arith)
 
 getD-past : {A : Type 0} (n k : ℕ) (x d : A) (ys : List A) → n ≤ k → getD (copies n x ++ ys) k d ≡ getD ys (k - n) d
 unfolding copies
@@ -32,17 +32,17 @@ getD-past (suc n) zero x d ys h = absurd (omega arith)
 getD-past (suc n) (suc k) x d ys h = getD-past n k x d ys (omega arith) ∙ ap (λ m. getD ys m d) (let e : k - n ≡ suc k - suc n = omega arith in e)
 
 getD-all : {A : Type 0} (n k : ℕ) (x d : A) → k < n → getD (copies n x) k d ≡ x
-getD-all n k x d h = rw append-nil at (getD-times n k x d [] h)
+getD-all n k x d h = rw append-nil at (getD-copies n k x d [] h)
 
 pub sorts-length : (S : List ℕ) (i : ℕ) → length (sortsAt S i) ≡ partsAt S i
 unfolding sortsAt
-sorts-length S i = simp (length-append, length-times) (omega arith)
+sorts-length S i = simp (length-append, length-copies) (omega arith)
 
 -- part k of a line is of the sort of its group
 sort-of : (S : List ℕ) (i k : ℕ) (b c : Bool) → k < partsAt S i → ltb k (firstCount S i) ≡ b → ltb k (firstCount S i + secondCount S i) ≡ c
     → getD (sortsAt S i) k Expr ≡ sortOf (groupSort S i (cond b 0 (cond c 1 2)))
 unfolding sortsAt
-sort-of S i k true c h p q = getD-times (firstCount S i) k _ _ _ (ltb-true _ _ p)
+sort-of S i k true c h p q = getD-copies (firstCount S i) k _ _ _ (ltb-true _ _ p)
 sort-of S i k false c h p q = getD-past (firstCount S i) k _ _ _ (ltb-false _ _ p) ∙ later c q
   where
     later : (c : Bool) → ltb k (firstCount S i + secondCount S i) ≡ c
@@ -50,7 +50,7 @@ sort-of S i k false c h p q = getD-past (firstCount S i) k _ _ _ (ltb-false _ _ 
         ≡ sortOf (groupSort S i (cond c 1 2))
     later true q =
         let e : k < firstCount S i + secondCount S i = ltb-true _ _ q in
-        let f : firstCount S i ≤ k = ltb-false _ _ p in getD-times _ _ _ _ _ (omega arith)
+        let f : firstCount S i ≤ k = ltb-false _ _ p in getD-copies _ _ _ _ _ (omega arith)
     later false q =
         let e : firstCount S i + secondCount S i ≤ k = ltb-false _ _ q in getD-past _ _ _ _ _ (omega arith) ∙ getD-all _ _ _ _ (omega arith)
 
@@ -125,7 +125,7 @@ unfolding leftAt sortsAt kindAt
 left-same S T ds es os ps zero p q r = rw p
 left-same S T ds es os ps (suc d) p q r =
     let e = r (omega arith) in
-    rw (← q (omega arith), ← p, ← e 0 (omega arith), ← e 5 (omega arith), ← e 6 (omega arith), ← e 7 (omega arith))
+    rw (← q (omega arith), ← p, ← e kindCell (omega arith), ← e firstCell (omega arith), ← e secondCell (omega arith), ← e thirdCell (omega arith))
 
 -- the first that is left at the deepest depth, and the others
 left-head : (S ds os : List ℕ) (i n : ℕ) → Open S ds os i n → 0 < n → leftAt S ds os (n - 1) ≡ sortOf (sortDue S ds os n) ∷ leftAt S (spent ds n) os (n - 1)
@@ -193,14 +193,14 @@ module _ (S T ds os : List ℕ) (i n : ℕ) (o : Open S ds os i n) (some : 0 < n
   owned-after es ps d z h f g =
       let w = o .owned d z h in
       let e : (k : ℕ) → k < cellsPerLine → cell S (getD os d 0) k ≡ cell T (getD os d 0) k = λ k l. same (getD os d 0) k (w .above) l in
-      let e5 = e 5 (omega arith) in
-      let e6 = e 6 (omega arith) in
-      let e7 = e 7 (omega arith) in
+      let first = e firstCell (omega arith) in
+      let second = e secondCell (omega arith) in
+      let third = e thirdCell (omega arith) in
       let some = w .next .some in
       let small = w .next .small in
       record {
         above = rw g (let a = w .above in omega arith);
-        next = rw g (record { kind = rw (← e 0 (omega arith)) (w .next .kind); some = omega arith; small = omega arith });
+        next = rw g (record { kind = rw (← e kindCell (omega arith)) (w .next .kind); some = omega arith; small = omega arith });
       }
 
   pub open-none : Open T (spent ds n) os (suc i) (settled (spent ds n) n)

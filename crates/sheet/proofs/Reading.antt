@@ -30,18 +30,18 @@ module _ (y : List ℕ) (at end : ℕ) (e : end ≡ pieceEnd y at) where
   unfolding valueThen
   number-bad most r p q = rw (← part, ← p, q)
 
-  pub written-good : (name b : Bool) → b ≡ isNameOrText name (take (end - at) (drop at y)) → b ≡ true
+  pub name-good : (name b : Bool) → b ≡ isNameOrText name (take (end - at) (drop at y)) → b ≡ true
       → Name at (end - at) (record { at = end + 1 }) ≡ nameThen (isNameOrText name (pieceAt y at)) at (length (pieceAt y at)) (nextAt y at)
   unfolding nameThen
-  written-good name b p q =
+  name-good name b p q =
       let f : isNameOrText name (pieceAt y at) ≡ true = rw part at (sym p ∙ q) in
       let n : end - at ≡ length (pieceAt y at) = omega arith in
       rw (f, n, e)
 
-  pub written-bad : (name b : Bool) → b ≡ isNameOrText name (take (end - at) (drop at y)) → b ≡ false
+  pub name-bad : (name b : Bool) → b ≡ isNameOrText name (take (end - at) (drop at y)) → b ≡ false
       → BadName ≡ nameThen (isNameOrText name (pieceAt y at)) at (length (pieceAt y at)) (nextAt y at)
   unfolding nameThen
-  written-bad name b p q = rw (← part, ← p, q)
+  name-bad name b p q = rw (← part, ← p, q)
 
   pub place-field : (ws : List (List ℕ)) (r : ℕ) → r ≡ indexIn (take (end - at) (drop at y)) ws → r ≡ indexIn (pieceAt y at) ws
   place-field ws r p = rw (← part) p

@@ -2,7 +2,7 @@
 use mathlib.Core.Path.{_≡_, sym, ap, _∙_}
 use mathlib.Core.Bool.{Bool, true, false, not}
 use mathlib.Core.List.{List, []}
-use Prim.Native.Nat.{ℕ, _+_, _*_, _-_, _≤_, _<_}
+use Prim.Native.Nat.{ℕ, _+_, _-_, _≤_, _<_}
 use native.Mathlib.Nat.{add-sub-cancel-left}
 use native.Mathlib.Omega.{arith}
 use lib.Dec.{eqb}
@@ -15,7 +15,7 @@ use Rattle.text.specs.declared.field.Number.{Number}
 use Rattle.text.specs.declared.field.Number.the-variants.{Is, Bad}
 use Rattle.text.proofs.Pieces.{upto-between}
 use Rattle.grammar.specs.Grammar.{records, noKind}
-use Rattle.grammar.specs.Table.{ruleColumn, mostFields, spanRule}
+use Rattle.grammar.specs.Table.{ruleColumn, spanRule}
 use Rattle.grammar.proofs.TableLaws.{rule-at}
 use Rattle.sheet.specs.Scratch.{cell, kindAt, lineCount, startCell, nameCell, lengthCell}
 use Rattle.sheet.specs.Field.{pieceAt}

@@ -55,7 +55,7 @@ module _ {s S T ds os : List ℕ} {n at i : ℕ} (g : Going s S T ds os n at i) 
     after-start = omega arith
 
     pub before-end : f + 1 ≤ length s
-    before-end = omega (arith, line-ends s at (w .ended) h)
+    before-end = omega (arith, line-ends s at (w .terminated) h)
 
     pub end-fits : Fits w64 (f + 1)
     end-fits = let b = before-end in omega (arith, w .small)
@@ -90,8 +90,8 @@ module _ {s S T ds os : List ℕ} {n at i : ℕ} (g : Going s S T ds os n at i) 
           returns-deep z d =
               let x = is in
               scans-deep s S U _ (ltb (f + 1) (length s)) (i + 1 + 1) d
-              (turn-deep s S T ds os n at i w g h some σ p l (x .0) (x .1) (x .2) U (k .entries) es ps m f (k .took) z e)
-              (turn-size s S T ds os n at i w g h some σ p l (x .0) (x .1) (x .2) U (k .entries))
+              (turn-deep s S T ds os n at i w g h some σ p l (x .0) (x .1) (x .2) U (k .cells) es ps m f (k .took) z e)
+              (turn-size s S T ds os n at i w g h some σ p l (x .0) (x .1) (x .2) U (k .cells))
 
           pub goes-on : (m ≡ 66 → ⊥) → Going s S U es ps m (f + 1) (i + 1)
-          goes-on z = let x = is in turn-next s S T ds os n at i w g h some σ p l (x .0) (x .1) (x .2) U (k .entries) es ps m f (k .took) z e
+          goes-on z = let x = is in turn-next s S T ds os n at i w g h some σ p l (x .0) (x .1) (x .2) U (k .cells) es ps m f (k .took) z e

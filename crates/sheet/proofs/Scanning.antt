@@ -70,11 +70,11 @@ after-lines [] = refl
 after-lines (l ∷ ls) = rw (after-lines ls)
 
 -- a line more is written
-written-last : (ls : List Line) (x : Line) (i : ℕ) (S : List ℕ) → putLines i (ls ++ (x ∷ [])) S ≡ putLine (putLines i ls S) (i + length ls) (codeLine x)
+put-lines-last : (ls : List Line) (x : Line) (i : ℕ) (S : List ℕ) → putLines i (ls ++ (x ∷ [])) S ≡ putLine (putLines i ls S) (i + length ls) (codeLine x)
 unfolding putLines
-written-last [] x i S = ap (λ j. putLine S j (codeLine x)) (let e : i ≡ i + 0 = omega arith in e)
-written-last (l ∷ ls) x i S =
-    written-last ls x (suc i) (putLine S i (codeLine l)) ∙ ap (λ j. putLine (putLines (suc i) ls (putLine S i (codeLine l))) j (codeLine x)) (let e : suc i + length ls ≡ i + suc (length ls) = omega arith in e)
+put-lines-last [] x i S = ap (λ j. putLine S j (codeLine x)) (let e : i ≡ i + 0 = omega arith in e)
+put-lines-last (l ∷ ls) x i S =
+    put-lines-last ls x (suc i) (putLine S i (codeLine l)) ∙ ap (λ j. putLine (putLines (suc i) ls (putLine S i (codeLine l))) j (codeLine x)) (let e : suc i + length ls ≡ i + suc (length ls) = omega arith in e)
 
 -- only LF ends a line
 ten : (b : ℕ) → either 10 10 b ≡ true → b ≡ 10
@@ -190,7 +190,7 @@ module _ (s S T ds os : List ℕ) (n at i : ℕ) (w : Whole s S) (g : Going s S 
 
   -- the line, and those after it
   pub there : linesFrom s at ≡ here ∷ linesFrom s (at + length here + 1)
-  there = piece-next (either 10 10) s at (line-ends s at (w .ended) h)
+  there = piece-next (either 10 10) s at (line-ends s at (w .terminated) h)
 
   fewer : i < length (linesOf s)
   fewer = let e = ap length there in omega (arith, g .lines)
@@ -207,7 +207,7 @@ module _ (s S T ds os : List ℕ) (n at i : ℕ) (w : Whole s S) (g : Going s S 
   pub turn-read : (σ f : ℕ) (r : LineRead) → f ≡ at + length here → r ≡ codeRead (readPieces (sortOf σ) at (ended (either 44 10) [] (take (f + 1 - at) (drop at s))))
       → r ≡ codeRead (readLine (sortOf σ) at here)
   unfolding readLine fieldsOf
-  turn-read σ f r e q = q ∙ rw (line-part s at (w .ended) h (f + 1) (ap (λ k. k + 1) e))
+  turn-read σ f r e q = q ∙ rw (line-part s at (w .terminated) h (f + 1) (ap (λ k. k + 1) e))
 
   module _ (some : n ≡ 0 → ⊥) (σ : ℕ) (p : σ ≡ sortDue T ds os n) where
     whole : scanAll s
@@ -229,10 +229,10 @@ module _ (s S T ds os : List ℕ) (n at i : ℕ) (w : Whole s S) (g : Going s S 
       pub turn-small : Small l
       turn-small =
           rw t
-          (sound-small (sortOf σ) at (here ++ (10 ∷ [])) x (rw (length-append here (10 ∷ [])) (omega (arith, line-ends s at (w .ended) h, w .small))) sound)
+          (sound-small (sortOf σ) at (here ++ (10 ∷ [])) x (rw (length-append here (10 ∷ [])) (omega (arith, line-ends s at (w .terminated) h, w .small))) sound)
 
       pub turn-room : i < lineCount T
-      turn-room = omega (arith, fewer, g .size, w .entries)
+      turn-room = omega (arith, fewer, g .size, w .cells)
 
       abbrev parts : ℕ
       parts = l .first + l .second + l .third
@@ -298,12 +298,12 @@ module _ (s S T ds os : List ℕ) (n at i : ℕ) (w : Whole s S) (g : Going s S 
             record {
               read = g .read ++ (x ∷ []);
               whole = later ∙ after-last (g .read) x rest ∙ rw (v .0, add-one i, e);
-              entries = u ∙ rw (t, written-last (g .read) x 0 S, ← g .entries, g .count, zero-add);
+              cells = u ∙ rw (t, put-lines-last (g .read) x 0 S, ← g .cells, g .count, zero-add);
               count = rw (length-append (g .read) (x ∷ [])) (omega (arith, g .count));
               size = turn-size;
               lines = rw (e) (omega (arith, g .lines));
               counts = rw (add-one i) (v .1);
-              within = omega (arith, line-ends s at (w .ended) h);
+              within = omega (arith, line-ends s at (w .terminated) h);
             }
           where
             took : (b : Bool) → eqb parts 0 ≡ b → (opened U es ps m ≡ due n (sortsAt U i) ++ opened T (spent ds n) os n) × Open U es ps (suc i) m
@@ -324,7 +324,7 @@ module _ (s S T ds os : List ℕ) (n at i : ℕ) (w : Whole s S) (g : Going s S 
                 let q = eqb-false parts 0 y in
                 let v : 0 < length (sortsAt U i) = rw (sorts-length U i, ← all) (omega (arith, q)) in
                 let c : scanned rest ≡ tooDeep (ltb (f + 1) (length s)) (i + 1 + 1) =
-                rw (e, add-one (i + 1), add-one i) (scan-deep s (suc (suc i)) (at + length here + 1) n (sortsAt U i) (opened T (spent ds n) os n) (omega arith) v (w .ended))
+                rw (e, add-one (i + 1), add-one i) (scan-deep s (suc (suc i)) (at + length here + 1) n (sortsAt U i) (opened T (spent ds n) os n) (omega arith) v (w .terminated))
                 in
                 rw later (deep-after (g .read) x rest (ltb (f + 1) (length s)) (i + 1 + 1) c)
 
@@ -335,7 +335,7 @@ going-start s S ds os c d e =
     record {
       read = [];
       whole = rw e;
-      entries = refl;
+      cells = refl;
       count = refl;
       size = refl;
       lines = zero-add _;
@@ -349,7 +349,7 @@ module _ (s S T ds os : List ℕ) (n at i : ℕ) (g : Going s S T ds os n at i) 
   unfolding opened scan scanned
   end-complete z =
       let e : scanAll s ≡ lines (g .read) = g .whole ∙ rw (z, no-lines s at h) (after-lines (g .read)) in
-      record { answer = rw e; left = λ ls f. g .entries ∙ ap (λ l. putLines 0 l S) (let q : g .read ≡ ls = cc in q); size = g .size }
+      record { answer = rw e; left = λ ls f. g .cells ∙ ap (λ l. putLines 0 l S) (let q : g .read ≡ ls = cc in q); size = g .size }
 
   pub end-missing : (n ≡ 0 → ⊥) → scanAll s ≡ refused 11 (i + 1)
   unfolding scan

@@ -47,7 +47,7 @@ pub record Sound (l : line.Line) : Type 0 where
 
 -- P of each line, the first of which is line i
 pub data Each (P : ℕ → line.Line → Type 0) : ℕ → List line.Line → Type 0 where
-  none : {i : ℕ} → Each P i []
+  no-line : {i : ℕ} → Each P i []
   one : {i : ℕ} {l : line.Line} {ls : List line.Line} → P i l → Each P (suc i) ls → Each P i (l ∷ ls)
 
 mutual

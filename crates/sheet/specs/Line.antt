@@ -80,9 +80,9 @@ readField name a f l = when (isName f) (withName l a f)
 readField text a f l = when (isText f) (withName l a f)
 readField (count s) a f l = onNumber (numberOf mostCount f) (λ n. withParts l n s)
 readField (flag s) a f l = onNumber (numberOf mostFlag f) (λ n. withParts l n s)
-readField assignOp a f l = chosen (indexIn f assignOps) 3 l
-readField unOp a f l = chosen (indexIn f unOps) 2 l
-readField binOp a f l = chosen (indexIn f binOps) 14 l
+readField assignOp a f l = chosen (indexIn f assignOps) (length assignOps) l
+readField unOp a f l = chosen (indexIn f unOps) (length unOps) l
+readField binOp a f l = chosen (indexIn f binOps) (length binOps) l
 
 -- the fields fs, the first of which starts at a, read by their rules
 unfoldable pub readFields : List Rule → ℕ → List (List ℕ) → Line → Option Line

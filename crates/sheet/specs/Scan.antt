@@ -5,8 +5,8 @@ use mathlib.Core.Bool.{Bool, false, cond}
 use mathlib.Core.List.{List, [], _∷_}
 use lib.Dec.{leb}
 use lib.ListN.{length, getD, drop}
-use Rattle.text.specs.Text.{ended}
 use Rattle.grammar.specs.Grammar.{Contract}
+use Rattle.grammar.specs.Table.{sortNumber}
 use Rattle.sheet.specs.Line.{Line, mostBytes, mostLines}
 use Rattle.sheet.specs.Load.{LoadResult, lines, refused, after, linesOf, scan, unended}
 use Rattle.sheet.specs.Scratch.{putLine, putLines, Small, lineCount, cellsPerLine}
@@ -17,7 +17,7 @@ use Rattle.sheet.specs.declared.scan.Scanned.the-variants.{Read, Fault}
 
 -- the number of the sort that is due at the deepest of n depths
 unfoldable pub sortDue : List ℕ → List ℕ → List ℕ → ℕ → ℕ
-sortDue S ds os n = cond (leb n 1) 0 (nextSort S (getD os (n - 1) 0) (getD ds (n - 1) 0))
+sortDue S ds os n = cond (leb n 1) (sortNumber Contract) (nextSort S (getD os (n - 1) 0) (getD ds (n - 1) 0))
 
 -- what `sort_due` asks
 pub record Deepest (S ds os : List ℕ) (n : ℕ) : Type 0 where
@@ -27,9 +27,9 @@ pub record Deepest (S ds os : List ℕ) (n : ℕ) : Type 0 where
 -- a sheet that passed refusals 1 to 3, and the cells of its lines
 pub record Whole (s S : List ℕ) : Type 0 where
   pub small : length s ≤ mostBytes
-  pub ended : unended s ≡ false
+  pub terminated : unended s ≡ false
   pub few : length (linesOf s) ≤ mostLines
-  pub entries : length S ≡ cellsPerLine * length (linesOf s)
+  pub cells : length S ≡ cellsPerLine * length (linesOf s)
 
 -- the lines from a position on
 abbrev pub linesFrom : List ℕ → ℕ → List (List ℕ)
@@ -58,7 +58,7 @@ afterAll (l ∷ ls) r = after l (afterAll ls r)
 pub record Going (s S T ds os : List ℕ) (n at i : ℕ) : Type 0 where
   pub read : List Line
   pub whole : scanAll s ≡ afterAll read (scan (suc i) at (opened T ds os n) (linesFrom s at))
-  pub entries : T ≡ putLines 0 read S
+  pub cells : T ≡ putLines 0 read S
   pub count : length read ≡ i
   pub size : length T ≡ length S
   pub lines : i + length (linesFrom s at) ≡ length (linesOf s)
@@ -76,5 +76,5 @@ pub record Accepts (T ds : List ℕ) (n i : ℕ) (l : CodeLine) : Type 0 where
   pub top : Top ds n i (l .first + l .second + l .third)
 
 pub record Accepted (T U ds os es ps : List ℕ) (n i : ℕ) (l : CodeLine) (r : ℕ) : Type 0 where
-  pub entries : U ≡ putLine T i l
+  pub cells : U ≡ putLine T i l
   pub took : Took ds os es ps n i (l .first + l .second + l .third) r

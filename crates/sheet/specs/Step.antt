@@ -74,9 +74,9 @@ plainStep n a f l =
     ∷ spanStep f l
     ∷ nameStep true a f l
     ∷ nameStep false a f l
-    ∷ opStep assignOps 3 f l
-    ∷ opStep unOps 2 f l
-    ∷ opStep binOps 14 f l
+    ∷ opStep assignOps (length assignOps) f l
+    ∷ opStep unOps (length unOps) f l
+    ∷ opStep binOps (length binOps) f l
     ∷ [])
     n none
 

@@ -160,7 +160,7 @@ impl Line {
     }
 }
 
-// The n fields from the cursor on, of a line that has as many as its record.
+// The n fields from the cursor on, as many as the line's record has.
 fn read_fields(line: Line, n: usize, y: &[u8], cursor: Cursor) -> LineRead
     requires { ⌜ Fields line n (now y) cursor ⌝ }
     ensures { λ r. ⌜ r ≡ orTen (stepAll (numbersOf (line .kind)) (line .at + cursor .at) (ended (either 44 10) [] (drop (cursor .at) (now (y .entry)))) line) ⌝ }

@@ -8,10 +8,10 @@ use lib.ListN.{length, take, set, length-set}
 use lib.Seq.{take-all, take-suc-set}
 use Rattle.text.specs.Text.{copies}
 
-times-last : {A : Type 0} (n : ℕ) (x : A) → copies n x ++ (x ∷ []) ≡ copies (suc n) x
+copies-last : {A : Type 0} (n : ℕ) (x : A) → copies n x ++ (x ∷ []) ≡ copies (suc n) x
 unfolding copies
-times-last zero x = refl
-times-last (suc n) x = ap (λ l. x ∷ l) (times-last n x)
+copies-last zero x = refl
+copies-last (suc n) x = ap (λ l. x ∷ l) (copies-last n x)
 
 -- the loop stands before element i of S, which was S₀ before it: those passed hold x
 pub record Filled (x : ℕ) (S₀ S : List ℕ) (i : ℕ) : Type 0 where
@@ -29,7 +29,7 @@ module _ (x : ℕ) (S₀ S : List ℕ) (i : ℕ) (f : Filled x S₀ S i) where
       record {
         size = rw length-set (f .size);
         within = rw length-set (omega arith);
-        front = rw (add-one i, take-suc-set S i x h, f .front) (times-last i x);
+        front = rw (add-one i, take-suc-set S i x h, f .front) (copies-last i x);
       }
 
   pub filled-all : length S ≤ i → S ≡ copies (length S₀) x

@@ -28,12 +28,12 @@ pub fn fill(bytes: &mut [u8], x: u8)
     }
 }
 
-pub fn fill_u16(entries: &mut [u16], x: u16)
-    ensures { λ _. ⌜ now (entries .exit) ≡ copies (length (now (entries .entry))) x ⌝ }
+pub fn fill_u16(cells: &mut [u16], x: u16)
+    ensures { λ _. ⌜ now (cells .exit) ≡ copies (length (now (cells .entry))) x ⌝ }
 {
     let mut i = 0;
-    while i < entries.len() {
-        entries[i] = x;
+    while i < cells.len() {
+        cells[i] = x;
         i += 1;
     }
 }

@@ -93,7 +93,7 @@ pub fn ty_of(sheet: &[u8], lines: &[u16], env: Env, table: &mut [u8], i: usize) 
     a
 }
 
-// Types line i again, which keeps its first type, or gets 11.
+// Types line i again, which keeps its first type, or is marked as refused.
 fn ty_again(sheet: &[u8], lines: &[u16], env: Env, table: &mut [u8], i: usize) -> Typed
     requires { ⌜ AsksAgain (now sheet) (now lines) env (now table) i ⌝ }
     ensures { λ r. ⌜ Types (now (sheet .entry)) (tyOf (envOf (now (sheet .entry)) (now (table .entry)) env) (exprAt (now (sheet .entry)) i)) (now (table .entry)) r (now (table .exit)) ⌝ }

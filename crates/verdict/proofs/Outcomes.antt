@@ -13,8 +13,8 @@ use Rattle.sheet.specs.Scan.{scanAll}
 use Rattle.sheet.specs.Promise.{answer, laid, scratchFrom, scratchAfter}
 use Rattle.sheet.specs.declared.loader.Answer as loader
 use Rattle.sheet.specs.declared.loader.Answer.the-variants.{Lines, Refused}
-use Rattle.sheet.proofs.Due.{length-times}
-use Rattle.sheet.proofs.Holds.{length-written, length-closed}
+use Rattle.sheet.proofs.Due.{length-copies}
+use Rattle.sheet.proofs.Holds.{length-put-lines, length-closed}
 use Rattle.sheet.proofs.Loading.{scan-length, room, types-room, passed, loads, loaded-whole, load-place}
 use Rattle.sheet.proofs.Loaded.{answer-lines}
 use Rattle.rules.specs.Asking.{Res, ok, refused as ruled-out}
@@ -29,10 +29,10 @@ use Rattle.verdict.specs.Outcome.{answerOf, zeros, outcome, Exact, judge
 use Rattle.verdict.specs.declared.Answer.{Answer}
 use Rattle.sheet.specs.Scratch.{cellsPerLine}
 
-times-replicate : (n x : ℕ) → copies n x ≡ replicate n x
+copies-replicate : (n x : ℕ) → copies n x ≡ replicate n x
 unfolding copies
-times-replicate zero x = refl
-times-replicate (suc n) x = ap (λ l. x ∷ l) (times-replicate n x)
+copies-replicate zero x = refl
+copies-replicate (suc n) x = ap (λ l. x ∷ l) (copies-replicate n x)
 
 written-length : (new old : List ℕ) (n : ℕ) → length new ≡ n → overwritten new old ≡ new ++ drop n old
 unfolding overwritten
@@ -40,8 +40,8 @@ written-length new old n e = rw e refl
 
 laid-length : (r : LoadResult) (S : List ℕ) → length (laid r S) ≡ length S
 unfolding laid
-laid-length (lines ls) S = length-closed (length ls) _ ∙ length-written ls S 0
-laid-length (refused n i) S = length-times (length S) 0
+laid-length (lines ls) S = length-closed (length ls) _ ∙ length-put-lines ls S 0
+laid-length (refused n i) S = length-copies (length S) 0
 
 answer-refused : {k i : ℕ} (r : LoadResult) → Refused k i ≡ answer r → r ≡ refused k i
 unfolding answer
@@ -56,7 +56,7 @@ unfolding load loadFrom scratchAfter scratchFrom laid zeros overwritten
 unread-left s types S k i = by-cases (early s types (length S)) refl
   where
     by-cases : (m : ℕ) → early s types (length S) ≡ m → loadFrom m s ≡ refused k i → scratchFrom m s S ≡ overwritten (zeros m (length (linesOf s))) S
-    by-cases zero z e = let n = passed s types S _ _ (sym z) refl refl .entries in rw (e, n, length-times {A = ℕ} (cellsPerLine * length (linesOf s)) 0) refl
+    by-cases zero z e = let n = passed s types S _ _ (sym z) refl refl .cells in rw (e, n, length-copies {A = ℕ} (cellsPerLine * length (linesOf s)) 0) refl
     by-cases (suc m) z e = refl
 
 -- ------------------------------------------------------------ a sheet that is read
@@ -74,7 +74,7 @@ record ReadAs (s : List ℕ) (types : ℕ) (S : List ℕ) (n : ℕ) : Type 0 whe
 ruled : (s : List ℕ) (types scratch most n : ℕ) (ls : List Line) → load s types scratch ≡ lines ls → scanAll s ≡ lines ls → n ≡ length ls
     → verdict s types scratch most ≡ judged s (copies n 0) most
 unfolding judged keptVerdict keptJudge modelIn linesIn readLines
-ruled s types scratch most n ls l e c = verdict-kept s types scratch most ∙ rw (l, e, c, times-replicate) refl
+ruled s types scratch most n ls l e c = verdict-kept s types scratch most ∙ rw (l, e, c, copies-replicate) refl
 
 pub told-types : (most : ℕ) (r : Res Unit) (T : Table) → answerFor most r T .types ≡ T
 unfolding answerFor
@@ -83,7 +83,7 @@ told-types most (ruled-out r) T = refl
 
 judged-length : (s : List ℕ) (n most : ℕ) → length (judged s (copies n 0) most .types) ≡ n
 unfolding judged
-judged-length s n most = ap length (told-types most _ _) ∙ kept-length (check (modelIn s)) (copies n 0) ∙ length-times n 0
+judged-length s n most = ap length (told-types most _ _) ∙ kept-length (check (modelIn s)) (copies n 0) ∙ length-copies n 0
 
 outcome-read : (s S T M : List ℕ) (n : ℕ) (Z W N D : List ℕ) (b : Answer) → early s (length T) (length S) ≡ 0 → n ≡ length (linesOf s)
     → verdict s (length T) (length S) (length M) ≡ judged s (copies n 0) (length M)
@@ -92,7 +92,7 @@ outcome-read : (s S T M : List ℕ) (n : ℕ) (Z W N D : List ℕ) (b : Answer) 
     → record { answer = b; scratch = Z ++ D; types = W ++ drop n T; message = N } ≡ outcome s S T M
 unfolding outcome zeros
 outcome-read s S T M n Z W N D b e c v x z d =
-    rw (v, e, ← c, written-length (copies (cellsPerLine * n) 0) S (cellsPerLine * n) (length-times (cellsPerLine * n) 0), written-length _ T n (judged-length s n (length M)), z, d, x .answer, x .types, x .message) refl
+    rw (v, e, ← c, written-length (copies (cellsPerLine * n) 0) S (cellsPerLine * n) (length-copies (cellsPerLine * n) 0), written-length _ T n (judged-length s n (length M)), z, d, x .answer, x .types, x .message) refl
 
 -- `load` answered r, and left U in the scratch S; types is the length it was told.
 module _ (s S U : List ℕ) (types : ℕ) (r : loader.Answer) (a : r ≡ answer (load s types (length S))) (u : U ≡ scratchAfter s types S) where
@@ -113,14 +113,14 @@ module _ (s S U : List ℕ) (types : ℕ) (r : loader.Answer) (a : r ≡ answer 
     in-scratch : LoadedIn s U n
     in-scratch = by-answer s S U types n r a e u
 
-    pub entries-within : cellsPerLine * n ≤ length U
-    entries-within = in-scratch .entries
+    pub cells-within : cellsPerLine * n ≤ length U
+    cells-within = in-scratch .cells
 
-    pub entries-length : cellsPerLine * n ≡ length (take (cellsPerLine * n) U)
-    entries-length = sym (length-take-le (cellsPerLine * n) U entries-within)
+    pub cells-length : cellsPerLine * n ≡ length (take (cellsPerLine * n) U)
+    cells-length = sym (length-take-le (cellsPerLine * n) U cells-within)
 
-    pub entries-fit : Fits w64 (cellsPerLine * n)
-    entries-fit = omega (arith, in-scratch .few)
+    pub cells-fit : Fits w64 (cellsPerLine * n)
+    cells-fit = omega (arith, in-scratch .few)
 
     -- the entries behind those of the lines
     behind : drop (cellsPerLine * n) U ≡ drop (cellsPerLine * n) S
@@ -144,9 +144,9 @@ module _ (s S U : List ℕ) (types : ℕ) (r : loader.Answer) (a : r ≡ answer 
                 record {
                   loaded = in-scratch .loaded;
                   small = passed s types S _ n refl (read-as .early) (read-as .count) .small;
-                  few = omega (arith, in-scratch .few, entries-length);
+                  few = omega (arith, in-scratch .few, cells-length);
                 };
-            bytes = omega (arith, entries-length, table-length);
+            bytes = omega (arith, cells-length, table-length);
           }
 
   module _ (k i : ℕ) (e : r ≡ Refused k i) where
@@ -165,7 +165,7 @@ module _ (s S T M U : List ℕ) (r : loader.Answer) (a : r ≡ answer (load s (l
   outcome-lines n b Z W N e x z =
       let h = read-as s S U (length T) r a u n e in
       let k = table-length s S U (length T) r a u n e T (omega arith) in
-      let l = entries-length s S U (length T) r a u n e in
+      let l = cells-length s S U (length T) r a u n e in
       outcome-read s S T M n Z W N _ b (h .early) (h .count) (ruled s (length T) (length S) (length M) n (h .read) (h .load) (h .scan) (h .size))
       (rw (← k) at x) (z ∙ ap (λ m. copies m 0) (sym l)) (behind s S U (length T) r a u n e)
 

@@ -8,7 +8,7 @@ use mir.Syntax.{w32}
 use lib.ListN.{length}
 use borrow.Author.Tests.{le-leb, lt-leb}
 use Rattle.sheet.specs.Load.{copies}
-use Rattle.sheet.proofs.Due.{length-times}
+use Rattle.sheet.proofs.Due.{length-copies}
 use Rattle.rules.specs.Text.{render}
 use Rattle.rules.specs.Kept.{Table, count}
 use Rattle.rules.specs.Check.{check}
@@ -100,7 +100,7 @@ module _ (s S : List ℕ) (T U : Table) (d : Done) (x : Does s (check (modelIn s
 -- the table T is now Z, zeros
 module _ (s S : List ℕ) (T Z : Table) (e : Z ≡ copies (length T) 0) where
   pub exact-cleared : Exact s S T → Exact s S Z
-  exact-cleared h = record { lines = h .lines; bytes = ap length e ∙ length-times (length T) 0 ∙ h .bytes }
+  exact-cleared h = record { lines = h .lines; bytes = ap length e ∙ length-copies (length T) 0 ∙ h .bytes }
 
   pub judges-cleared : (M : List ℕ) (r : Answer) (U N : List ℕ) → Judges s Z M r U N → Judges s (copies (length T) 0) M r U N
   judges-cleared M r U N x = rw (← e) x

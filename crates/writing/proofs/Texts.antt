@@ -15,7 +15,7 @@ use Rattle.text.specs.declared.field.Number.the-variants.{Is, Bad}
 use Rattle.grammar.specs.Grammar.{Sort, Rule, span, name, text, assignOp, unOp, binOp, count, flag, recordOf, kindFor}
 use Rattle.sheet.specs.Line.{Line, withName, begun, when, onNumber, readField, readFields, andThen, good, readPieces, readLine, fieldsOf}
 use Rattle.sheet.specs.Load.{LoadResult as Load, lines, refused, linesOf, scan}
-use Rattle.sheet.specs.Held.{Each, none as no-line, one, Every, every, EveryOf, no-more, and-more}
+use Rattle.sheet.specs.Held.{Each, no-line, one, Every, every, EveryOf, no-more, and-more}
 use Rattle.sheet.specs.Scan.{scanAll}
 use Rattle.sheet.specs.Scratch.{kindAt, nameAt, lineCount}
 use Rattle.sheet.specs.Tree.{node, Nodes}

@@ -46,7 +46,7 @@ pub fn add_type(sheet: &[u8], lines: &[u16], buffer: &mut [u8], at: usize, i: us
     add_args(sheet, lines, buffer, named, i + 1, end(lines, i), true)
 }
 
-// Adds the text of the record at line i as an argument: each kind up to that of a type is a type.
+// Adds the text of the record at line i as an argument: each kind up to that of a type is a type, as `argOf` has it for any line.
 fn add_arg(sheet: &[u8], lines: &[u16], buffer: &mut [u8], at: usize, i: usize) -> usize
     requires { ⌜ Loaded (now sheet) (now lines) ⌝ }
     ensures { λ r. ⌜ Adds (render (argText (argAt (now (sheet .entry)) i))) (now (buffer .entry)) at (now (buffer .exit)) r ⌝ }

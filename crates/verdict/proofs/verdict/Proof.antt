@@ -1,6 +1,6 @@
 -- `verdict::verdict` meets its contract. Assumes nothing.
 use borrow.Author.Needs.{needs}
-use Rattle.verdict.proofs.Outcomes.{entries-within, entries-length, entries-fit, table-within, table-length, exact, place-fits, outcome-lines, outcome-refused}
+use Rattle.verdict.proofs.Outcomes.{cells-within, cells-length, cells-fit, table-within, table-length, exact, place-fits, outcome-lines, outcome-refused}
 use Rattle.verdict.proofs.verdict.Statement.{statement}
 use Rattle.verdict.proofs.verdict.Tie as tie
 
@@ -10,9 +10,9 @@ verdict-spec =
     (tie.spec
     (λ c κs. search needs)
     (λ c. search needs)
-    (λ c. search (needs, entries-fit))
-    (λ c. search (needs, entries-within))
-    (λ c. search (needs, entries-length))
+    (λ c. search (needs, cells-fit))
+    (λ c. search (needs, cells-within))
+    (λ c. search (needs, cells-length))
     (λ c. search (needs, table-within))
     (λ c. search (needs, table-length))
     (λ c κs. search (needs, exact))

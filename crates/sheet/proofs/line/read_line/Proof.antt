@@ -41,9 +41,10 @@ read-fields-requires c κs =
     let n = c .before .before in
     let k = n .before .before .before in
     let f = k .before .before in
+    let known = fields-requires (n .before .before) tt in
     record {
-      known = fields-requires (n .before .before) tt;
-      all = fields-at _ _ (fields-requires (n .before .before) tt) (n .before .fields .ensures);
+      known = known;
+      all = fields-at _ _ known (n .before .fields .ensures);
       left = line-left _ _ _ (f .before .find .ensures) (f .if1 .left) _ (k .kind-for .ensures)
           (n .before .before .if2 .left) _ _ (n .count .ensures) (n .before .fields .ensures) (c .before .if3 .left);
       within = f .before .before .before .pre;

@@ -7,10 +7,10 @@ use Rattle.text.proofs.element.fill_u16.Statement.{statement}
 use Rattle.text.proofs.element.fill_u16.Tie as tie
 
 abbrev Inv-loop : tie.InvT-loop
-Inv-loop entries₀ x i₀ entries i = Filled x entries₀ entries i
+Inv-loop cells₀ x i₀ cells i = Filled x cells₀ cells i
 
 abbrev μ-loop : tie.MeasureT-loop
-μ-loop entries₀ x i₀ entries i = length entries₀ - i
+μ-loop cells₀ x i₀ cells i = length cells₀ - i
 
 pub fill-u16-spec : {M : Type 1} → statement M
 fill-u16-spec =
