@@ -9,7 +9,7 @@ use native.Mathlib.Omega.{arith}
 use lib.Dec.{eqb}
 use borrow.Author.Tests.{eq-eqb, ne-eqb, eqb-true, eqb-false, not-true, not-false}
 use Rattle.grammar.specs.Grammar as grammar
-use Rattle.sheet.specs.Scratch.{kindAt, endAt, skip, firstCount, itemCount}
+use Rattle.sheet.specs.Scratch.{kindAt, endAt, skip, itemCount, fieldCount, paramCount, genesisCount}
 use Rattle.sheet.specs.Tree.{takeNodes}
 use Rattle.rules.specs.Ast.{Expr, Field, Stmt, Event, Entry, nodes, fieldOf, stmtOf, itemOf, eventOf, entryOf}
 use Rattle.rules.specs.Asking.{Rule, ret, _>>=_, _>>_, forEach}
@@ -137,7 +137,7 @@ module _ {s S : List ℕ} (d : Loaded s S) {i : ℕ} (h : Here S grammar.Item i)
   abbrev its : Model
   its = itemModel (itemOf (nodeAt s i))
 
-  state-model : kindAt S i ≡ kinds.state → (its ≡ of-state (map fieldOf (nodesAt s (firstCount S i) (suc i)))) × Row S grammar.Field (firstCount S i) (suc i)
+  state-model : kindAt S i ≡ kinds.state → (its ≡ of-state (map fieldOf (nodesAt s (fieldCount S i) (suc i)))) × Row S grammar.Field (fieldCount S i) (suc i)
   unfolding itemModel itemOf
   state-model e =
       let p = parts (it .line) kinds.state (it .parted) (kind-is e) in
@@ -156,7 +156,7 @@ module _ {s S : List ℕ} (d : Loaded s S) {i : ℕ} (h : Here S grammar.Item i)
       let n : nodes (it .parts) ≡ nodeAt s (suc i) ∷ [] = g .0 ∙ nodes-next d 0 (suc i) (row-first (g .2) .within) ∙ rw (no-nodes s (endAt S (suc i))) refl in
       (rw (it .here, kind-is e, n) refl, g .2)
 
-  genesis-model : kindAt S i ≡ kinds.genesis → (its ≡ of-genesis (map stmtOf (nodesAt s (firstCount S i) (suc i)))) × Row S grammar.Stmt (firstCount S i) (suc i)
+  genesis-model : kindAt S i ≡ kinds.genesis → (its ≡ of-genesis (map stmtOf (nodesAt s (genesisCount S i) (suc i)))) × Row S grammar.Stmt (genesisCount S i) (suc i)
   unfolding itemModel itemOf
   genesis-model e =
       let p = parts (it .line) kinds.genesis (it .parted) (kind-is e) in
@@ -233,7 +233,7 @@ module _ (s S : List ℕ) (T : Table) (pass i : ℕ) (h : OwnItem s S T pass i) 
         record { gives = rw (e, inv .0) (one (expectPredicate (typing.new (modelIn s) [])) (exprAt s (suc i)) T ∙ rw (← new-env s T, ← f, ← add-one i) (a .gives)) }
 
   -- parameters
-  module _ (k : ℕ) (ek : k ≡ kindAt S i) (q : (eqb pass passes.events || eqb pass passes.params) ≡ true) (m : ℕ) (em : m ≡ firstCount S i) where
+  module _ (k : ℕ) (ek : k ≡ kindAt S i) (q : (eqb pass passes.events || eqb pass passes.params) ≡ true) (m : ℕ) (em : m ≡ paramCount S i) where
     params-of : (P : Type 0) → (pass ≡ passes.events → kindAt S i ≡ kinds.event → P) → (pass ≡ passes.params → kindAt S i ≡ kinds.entry → P) → P
     params-of P f g = by-cases (eqb pass passes.events) refl q
       where
@@ -267,7 +267,7 @@ module _ (s S : List ℕ) (T : Table) (pass i : ℕ) (h : OwnItem s S T pass i) 
         })
 
   -- fields, and statements of genesis
-  module _ (k : ℕ) (ek : k ≡ kindAt S i) (no-entries : pass ≢ passes.entries) (no-invariants : pass ≢ passes.invariants) (q : (eqb pass passes.events || eqb pass passes.params) ≡ false) (sort m : ℕ) (es : sort ≡ cond (eqb pass passes.fields) (sortNumber grammar.Field) (sortNumber grammar.Stmt)) (em : m ≡ firstCount S i) where
+  module _ (k : ℕ) (ek : k ≡ kindAt S i) (no-entries : pass ≢ passes.entries) (no-invariants : pass ≢ passes.invariants) (q : (eqb pass passes.events || eqb pass passes.params) ≡ false) (sort m : ℕ) (es : sort ≡ cond (eqb pass passes.fields) (sortNumber grammar.Field) (sortNumber grammar.Stmt)) (em : m ≡ cond (eqb pass passes.fields) (fieldCount S i) (genesisCount S i)) where
     records-of : (P : Type 0) → (pass ≡ passes.fields → kindAt S i ≡ kinds.state → eqb k kinds.genesis ≡ false → P) → (pass ≡ passes.genesis → kindAt S i ≡ kinds.genesis → eqb k kinds.genesis ≡ true → P) → P
     records-of P a b = by-cases (eqb pass passes.fields) refl
       where
@@ -287,12 +287,18 @@ module _ (s S : List ℕ) (T : Table) (pass i : ℕ) (h : OwnItem s S T pass i) 
             let w : kindAt S i ≡ kinds.genesis = kind ∙ rw its refl in
             b its w (eq-eqb k kinds.genesis (ek ∙ w))
 
+    fields-in : pass ≡ passes.fields → m ≡ fieldCount S i
+    fields-in e = em ∙ rw e refl
+
+    genesis-in : pass ≡ passes.genesis → m ≡ genesisCount S i
+    genesis-in e = em ∙ rw e refl
+
     pub item-records : (env : Env) (g : Bool) → env ≡ withParams 0 0 g → RecordsIn s S env T sort m (i + 1)
     unfolding withParams
     item-records env g f =
         records-of (RecordsIn s S env T sort m (i + 1))
-        (λ e w z. rw (f, es, e) (record { ready = bare-ready s S T g sh; bare = refl; walked = a-field; row = rw (em, add-one i) (state-model d here w .1) }))
-        (λ e w z. rw (f, es, e) (record { ready = bare-ready s S T g sh; bare = refl; walked = a-stmt; row = rw (em, add-one i) (genesis-model d here w .1) }))
+        (λ e w z. rw (f, es, e) (record { ready = bare-ready s S T g sh; bare = refl; walked = a-field; row = rw (fields-in e, add-one i) (state-model d here w .1) }))
+        (λ e w z. rw (f, es, e) (record { ready = bare-ready s S T g sh; bare = refl; walked = a-stmt; row = rw (genesis-in e, add-one i) (genesis-model d here w .1) }))
 
     pub records-pass : (env : Env) (r : Done) (U : Table) → env ≡ withParams 0 0 (eqb k kinds.genesis) → Does s (forEach (nodesAt s m (i + 1)) (recordRule sort (envOf s T env))) T r U
         → Does s (passRule s pass (itemModel (itemOf (nodeAt s i)))) T r U
@@ -304,13 +310,13 @@ module _ (s S : List ℕ) (T : Table) (pass i : ℕ) (h : OwnItem s S T pass i) 
         let y = state-model d here w in
         let g : env ≡ withParams 0 0 false = f ∙ rw z refl in
         let its : sort ≡ sortNumber grammar.Field = es ∙ rw e refl in
-        record { gives = rw (e, y .0) (sym (rule-each (sortNumber grammar.Field) Γ fieldOf (checkField Γ) (rule-field Γ) (nodesAt s (firstCount S i) (suc i)) T) ∙ rw (← new-env s T, ← g, ← em, ← add-one i, ← its) (a .gives)) })
+        record { gives = rw (e, y .0) (sym (rule-each (sortNumber grammar.Field) Γ fieldOf (checkField Γ) (rule-field Γ) (nodesAt s (fieldCount S i) (suc i)) T) ∙ rw (← new-env s T, ← g, ← fields-in e, ← add-one i, ← its) (a .gives)) })
         (λ e w z.
         let Γ = typing.inGenesis (typing.new (modelIn s) []) in
         let y = genesis-model d here w in
         let g : env ≡ withParams 0 0 true = f ∙ rw z refl in
         let its : sort ≡ sortNumber grammar.Stmt = es ∙ rw e refl in
-        record { gives = rw (e, y .0) (sym (rule-each (sortNumber grammar.Stmt) Γ stmtOf (checkGenesis Γ) (rule-stmt Γ) (nodesAt s (firstCount S i) (suc i)) T) ∙ rw (← genesis-env s T, ← g, ← em, ← add-one i, ← its) (a .gives)) })
+        record { gives = rw (e, y .0) (sym (rule-each (sortNumber grammar.Stmt) Γ stmtOf (checkGenesis Γ) (rule-stmt Γ) (nodesAt s (genesisCount S i) (suc i)) T) ∙ rw (← genesis-env s T, ← g, ← genesis-in e, ← add-one i, ← its) (a .gives)) })
 
 -- ------------------------------------------------------------ check_item, check_items
 

@@ -28,7 +28,7 @@ ghost use Rattle.rules.specs.Standing.{modelIn, nodeAt, nodesAt};
 ghost use Rattle.typing.specs.Asks.{Does};
 ghost use Rattle.checking.specs.Passes as passes;
 ghost use Rattle.checking.specs.Walk.{afterFields, fromEntries, ItemIn, ItemsIn, namesRule, OwnItem, PassIn, passRule, SheetIn};
-ghost use Rattle.sheet.specs.Scratch.{firstCount};
+ghost use Rattle.sheet.specs.Scratch.{fieldCount, genesisCount};
 ghost use Rattle.grammar.specs.Grammar.{Field, Stmt};
 ghost use Rattle.grammar.specs.Table.{sortNumber};
 
@@ -63,7 +63,7 @@ fn looks_at(pass: usize, k: usize) -> bool
     k == ITEM_KINDS[pass]
 }
 
-// The sort of the records of a state, or of genesis, and how many it has.
+// The sort of the records of a state, or of genesis.
 fn record_sort(pass: usize) -> u8
     ensures { λ r. ⌜ r ≡ cond (eqb pass passes.fields) (sortNumber Field) (sortNumber Stmt) ⌝ }
 {
@@ -74,8 +74,9 @@ fn record_sort(pass: usize) -> u8
     }
 }
 
+// How many it has.
 fn record_count(lines: &[u16], pass: usize, i: usize) -> usize
-    ensures { λ r. ⌜ r ≡ firstCount (now (lines .entry)) i ⌝ }
+    ensures { λ r. ⌜ r ≡ cond (eqb pass passes.fields) (fieldCount (now (lines .entry)) i) (genesisCount (now (lines .entry)) i) ⌝ }
 {
     if pass == FIELDS {
         field_count(lines, i)
