@@ -11,7 +11,7 @@ use native.Mathlib.Omega.{arith}
 use borrow.Author.Tests.{eq-eqb, ne-eqb, lt-leb}
 use lib.ListN.{length}
 use Rattle.text.specs.Text.{bytes}
-use Rattle.sheet.specs.Scratch.{kindAt, nameAt}
+use Rattle.sheet.specs.Scratch.{kindAt, nameAt, lineCount}
 use Rattle.rules.specs.Text.{Name, Piece, render, digits}
 use Rattle.rules.specs.Asking.{Unknown}
 use Rattle.rules.specs.Types.{describe, parseU128}
@@ -189,9 +189,9 @@ module _ (s S : List ℕ) (i : ℕ) (d : Loaded s S) where
     pub next-said : Adds (t ++ (namedAt s (i + 1) ++ u)) B a U b → t ++ (namedAt s (suc i) ++ u) ≡ g → Adds g B a U b
     next-said x e = rw (← e, ← add-one i) x
 
-    pub none-said : length S ≤ i → Adds (t ++ u) B a U b → t ++ (namedAt s (suc i) ++ u) ≡ g → Adds g B a U b
+    pub none-said : (n : ℕ) → n ≡ lineCount S → n ≤ i → Adds (t ++ u) B a U b → t ++ (namedAt s (suc i) ++ u) ≡ g → Adds g B a U b
     unfolding namedAt nodeName
-    none-said h x e = rw (← e, beyond d (suc i) (omega arith)) x
+    none-said n c h x e = rw (← e, beyond d (suc i) (omega (arith, c))) x
 
   -- the number of the literal at line i
   module _ (B : List ℕ) (a : ℕ) (U : List ℕ) (b k : ℕ) (e : k ≡ kindAt S i) where

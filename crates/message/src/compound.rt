@@ -10,6 +10,7 @@ use declarations::arity_of;
 use grammar::kinds;
 use narrow::exceeds;
 use sheet::kind;
+use sheet::line_count;
 use sheet::name;
 use writing::add;
 use writing::add_decimal;
@@ -206,7 +207,7 @@ pub fn add_overflow(
     requires { ⌜ Loaded (now sheet) (now lines) ⌝ }
     ensures { λ r. ⌜ Adds (render (overflowText (namedAt (now (sheet .entry)) (suc assign)))) (now (buffer .entry)) at (now (buffer .exit)) r ⌝ }
 {
-    if assign < lines.len() {
+    if assign < line_count(lines) {
         return say_name(sheet, lines, buffer, at, &OVERFLOW, assign + 1, &UNBOUNDED);
     }
     say(buffer, at, &OVERFLOW, b"", &UNBOUNDED)

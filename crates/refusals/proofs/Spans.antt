@@ -13,7 +13,7 @@ use Rattle.grammar.specs.Table.{ruleNumbers, spanRule}
 use Rattle.grammar.proofs.TableLaws.{at-place}
 use Rattle.sheet.specs.Held.{spanless}
 use Rattle.sheet.specs.Say.{spanFirst, spanAt, nspanAt}
-use Rattle.sheet.specs.Scratch.{kindAt}
+use Rattle.sheet.specs.Scratch.{kindAt, lineCount}
 use Rattle.rules.specs.Ast.{span as spanOf}
 use Rattle.rules.specs.Standing.{placeAt, Loaded}
 use Rattle.rules.proofs.Places.{is-there, no-place, unplaced, not-dot-at, dot-there, span-at}
@@ -76,5 +76,5 @@ module _ (s S : List ℕ) (d : Loaded s S) (i k : ℕ) (e : k ≡ kindAt S i) wh
   unfolding dotAt
   name-none f = rw (dotAt, not-dot-at d i (λ z. f (e ∙ z))) refl
 
-pub behind-none : (s S : List ℕ) (i : ℕ) → Loaded s S → length S ≤ i → 0 ≡ placeAt s (suc i)
-behind-none s S i d h = sym (no-place d (suc i) (omega arith))
+pub behind-none : (s S : List ℕ) (i n : ℕ) → Loaded s S → n ≡ lineCount S → n ≤ i → 0 ≡ placeAt s (suc i)
+behind-none s S i n d e h = sym (no-place d (suc i) (omega (arith, e)))

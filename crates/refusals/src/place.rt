@@ -2,6 +2,7 @@
 use crate::refusal::Refusal;
 use grammar::kinds;
 use sheet::kind;
+use sheet::line_count;
 use sheet::nspan;
 use sheet::span;
 ghost use mathlib.Core.Path.{_≡_};
@@ -25,7 +26,7 @@ fn place_behind(sheet: &[u8], lines: &[u16], i: usize) -> u32
     requires { ⌜ Loaded (now sheet) (now lines) ⌝ }
     ensures { λ r. ⌜ r ≡ placeAt (now (sheet .entry)) (suc i) ⌝ }
 {
-    if i < lines.len() {
+    if i < line_count(lines) {
         place_at(sheet, lines, i + 1)
     } else {
         0

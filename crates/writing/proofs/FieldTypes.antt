@@ -7,7 +7,7 @@ use native.Mathlib.Omega.{arith}
 use native.Mathlib.Numerals.{add-one}
 use borrow.Author.Tests.{lt-ltb, le-ltb}
 use lib.Dec.{ltb}
-use lib.ListN.{length, getD}
+use lib.ListN.{getD}
 use Rattle.sheet.specs.Held.{held, HeldAll, no-tree, tree}
 use Rattle.sheet.specs.Scratch.{nameAt, endAt, lineCount}
 use Rattle.sheet.specs.Tree.{Node, node, Nodes, before}
@@ -23,32 +23,32 @@ use Rattle.writing.specs.Writing.{Adds}
 
 -- ------------------------------------------------------------ `type_line`
 
-line-beyond : (S : List ℕ) (i : ℕ) → lineCount S ≤ i → length S ≡ typeLine S i
+line-beyond : (S : List ℕ) (i : ℕ) → lineCount S ≤ i → lineCount S ≡ typeLine S i
 unfolding typeLine
 line-beyond S i h = rw (no-cell S i 2 h, le-ltb (suc i) 0 (omega arith)) refl
 
-pub line-counted : (S : List ℕ) (i n : ℕ) → n ≡ lineCount S → n ≤ i → length S ≡ typeLine S i
-line-counted S i n e h = line-beyond S i (omega (arith, e))
+pub line-counted : (S : List ℕ) (i n : ℕ) → n ≡ lineCount S → n ≤ i → n ≡ typeLine S i
+line-counted S i n e h = e ∙ line-beyond S i (omega (arith, e))
 
 module _ (S : List ℕ) (i n : ℕ) (e : n ≡ endAt S i) where
   pub line-there : i + 1 < n → i + 1 ≡ typeLine S i
   unfolding typeLine
   line-there h = rw (← e, ← add-one i, lt-ltb (i + 1) n h) refl
 
-  pub line-none : n ≤ i + 1 → length S ≡ typeLine S i
+  pub line-none : (m : ℕ) → m ≡ lineCount S → n ≤ i + 1 → m ≡ typeLine S i
   unfolding typeLine
-  line-none h = rw (← e, ← add-one i, le-ltb (i + 1) n h) refl
+  line-none m f h = rw (← e, ← add-one i, le-ltb (i + 1) n h) f
 
 -- ------------------------------------------------------------ `add_type_of` and `type_name_of`
 
 module _ (s S : List ℕ) (d : Loaded s S) where
-  no-type : typeAt s (length S) ≡ typeOf blankNode
+  no-type : typeAt s (lineCount S) ≡ typeOf blankNode
   unfolding typeAt
-  no-type = rw (beyond d (length S) (omega arith)) refl
+  no-type = rw (beyond d (lineCount S) (omega arith)) refl
 
   -- the first of the trees from line i up to line j, as a type
   first-type : {n i j : ℕ} {ps : Nodes} (ns : Nodes) → treesFrom s i ≡ before ps ns → HeldAll S n i j ps
-      → typeAt s (cond (ltb i j) i (length S)) ≡ typeOf (getD (nodes ps) 0 blankNode)
+      → typeAt s (cond (ltb i j) i (lineCount S)) ≡ typeOf (getD (nodes ps) 0 blankNode)
   unfolding typeAt nodeAt before nodes
   first-type {i = i} ns e no-tree = rw (le-ltb i i (omega arith)) no-type
   first-type {i = i} {j} ns e (tree (held h y r) rs) = rw (lt-ltb i j (omega (arith, all-le r, all-le rs)), e) refl

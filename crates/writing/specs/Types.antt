@@ -4,7 +4,6 @@ use Prim.Native.String.{String}
 use mathlib.Core.List.{List, []}
 use mathlib.Core.Bool.{Bool, true, false, cond}
 use lib.Dec.{ltb}
-use lib.ListN.{length}
 use Rattle.sheet.specs.Scratch.{endAt, lineCount}
 use Rattle.sheet.specs.Tree.{node, Nodes, nil, more}
 use Rattle.text.specs.Text.{bytes}
@@ -37,4 +36,4 @@ closing false = bytes ">"
 
 -- the line of the type that the field or parameter at line i declares, which is its first part; one that isn't there where it has none
 unfoldable pub typeLine : List ℕ → ℕ → ℕ
-typeLine S i = cond (ltb (suc i) (endAt S i)) (suc i) (length S)
+typeLine S i = cond (ltb (suc i) (endAt S i)) (suc i) (lineCount S)

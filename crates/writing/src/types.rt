@@ -86,13 +86,14 @@ fn add_args(
 fn type_line(lines: &[u16], i: usize) -> usize
     ensures { λ r. ⌜ r ≡ typeLine (now (lines .entry)) i ⌝ }
 {
-    if line_count(lines) <= i {
-        return lines.len();
+    let n = line_count(lines);
+    if n <= i {
+        return n;
     }
     if i + 1 < end(lines, i) {
         return i + 1;
     }
-    lines.len()
+    n
 }
 
 // Adds the text of the type that the field or parameter at line i declares.

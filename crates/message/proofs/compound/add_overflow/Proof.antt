@@ -9,6 +9,7 @@ unfolding render
 add-overflow-spec =
     tie.close
     (tie.spec
+    (λ c κs. search needs)  -- line-count-requires
     (λ c. search needs)  -- slice-aggregate-say-name
     (λ c. search needs)  -- add-say-name
     (λ c. search needs)  -- slice-aggregate-say-name-2
