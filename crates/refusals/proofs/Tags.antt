@@ -2,11 +2,11 @@
 use mathlib.Core.Path.{_≡_, refl, sym, ap, _∙_}
 use mathlib.Core.Logic.{inl, inr}
 use mathlib.Core.Bool.{Bool, true, false, not, _&&_, _||_, and-eq-true-iff}
-use mathlib.Core.List.{List, [], _∷_}
-use Prim.Native.Nat.{ℕ, zero, suc, _≤_}
+use mathlib.Core.List.{List, [], _∷_, _++_}
+use Prim.Native.Nat.{ℕ, zero, suc, _-_, _≤_}
 use native.Mathlib.Omega.{arith}
 use lib.Dec.{eqb, leb, ltb}
-use lib.ListN.{getD}
+use lib.ListN.{length, getD}
 use borrow.Author.Tests.{leb-true, ltb-true}
 use denote.Enum.Declared.{tagOf}
 use types.Run.{OneOf}
@@ -43,6 +43,10 @@ places i (suc n) = i ∷ places (suc i) n
 
 abbrev pub numbers : List ℕ
 numbers = 12 ∷ 13 ∷ 14 ∷ 15 ∷ 16 ∷ 17 ∷ 18 ∷ 19 ∷ 20 ∷ 21 ∷ 22 ∷ 22 ∷ 22 ∷ 23 ∷ 24 ∷ 25 ∷ 26 ∷ 27 ∷ 28 ∷ 29 ∷ 30 ∷ 31 ∷ 32 ∷ 33 ∷ 34 ∷ 35 ∷ 36 ∷ 37 ∷ 38 ∷ 39 ∷ 40 ∷ 41 ∷ 42 ∷ 43 ∷ 44 ∷ 45 ∷ 46 ∷ []
+
+-- the places from i on, up to the last: each refusal has a number
+abbrev pub placesFrom : ℕ → List ℕ
+placesFrom i = places i (length numbers - i)
 
 number-of : (s : List ℕ) (r : Refusal) → refusalOf s r .number ≡ getD numbers (tag r) 0
 unfolding refusalOf
@@ -119,7 +123,7 @@ line-told r q i e f = rw e f
 
 -- where all but Digest, Receiver and KeyedOp stand
 abbrev pub plainTags : List ℕ
-plainTags = 0 ∷ 1 ∷ 2 ∷ 3 ∷ 4 ∷ 5 ∷ 7 ∷ 8 ∷ 9 ∷ 10 ∷ 11 ∷ 12 ∷ 13 ∷ 14 ∷ 15 ∷ 16 ∷ 17 ∷ 18 ∷ 19 ∷ 22 ∷ 23 ∷ 24 ∷ 25 ∷ 26 ∷ 27 ∷ 28 ∷ 29 ∷ 30 ∷ 31 ∷ 32 ∷ 33 ∷ 34 ∷ 35 ∷ 36 ∷ []
+plainTags = places 0 6 ++ places 7 13 ++ placesFrom 22
 
 -- their place is that of a line
 plain : (s : List ℕ) (r : Refusal) → not (eqb (tag r) 6 || (eqb (tag r) 20 || eqb (tag r) 21)) ≡ true → refusalOf s r .place ≡ placeAt s (lineOf r)

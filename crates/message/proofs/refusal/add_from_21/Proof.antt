@@ -3,7 +3,7 @@ use mathlib.Core.List.{_++_}
 use borrow.Author.Needs.{needs}
 use Rattle.rules.specs.Text.{render}
 use Rattle.refusals.specs.Refusal.{refusalOf}
-use Rattle.refusals.proofs.Tags.{past-keys, places}
+use Rattle.refusals.proofs.Tags.{past-keys, places, placesFrom}
 use Rattle.message.proofs.Told.{told}
 use Rattle.message.proofs.refusal.add_from_21.Statement.{statement}
 use Rattle.message.proofs.refusal.add_from_21.Tie as tie
@@ -34,7 +34,7 @@ add-from-21-spec =
     (λ c. search needs)  -- enum-told-3
     (λ c. search needs)  -- slice-aggregate-add-3
     (λ c κs. search needs)  -- add-requires-3
-    (λ c κs. (c .before .before .before .before .before .pre .0, past-keys _ 21 25 (places 0 9 ++ places 15 22) (c .before .before .before .before .before .pre .1) (c .before .match .keys7) refl))  -- add-from-25-requires
+    (λ c κs. (c .before .before .before .before .before .pre .0, past-keys _ 21 25 (places 0 9 ++ placesFrom 15) (c .before .before .before .before .before .pre .1) (c .before .match .keys7) refl))  -- add-from-25-requires
     (λ c. search needs)  -- same-length
     (λ c. search (needs, told))  -- returns
     (λ c. search needs)  -- same-length-2

@@ -3,7 +3,7 @@ use mathlib.Core.List.{_++_}
 use borrow.Author.Needs.{needs}
 use Rattle.rules.specs.Text.{render}
 use Rattle.refusals.specs.Refusal.{refusalOf}
-use Rattle.refusals.proofs.Tags.{past-keys, places}
+use Rattle.refusals.proofs.Tags.{past-keys, places, placesFrom}
 use Rattle.message.proofs.Told.{told}
 use Rattle.message.proofs.refusal.add_from_25.Statement.{statement}
 use Rattle.message.proofs.refusal.add_from_25.Tie as tie
@@ -28,7 +28,7 @@ add-from-25-spec =
     (λ c. search needs)  -- enum-told
     (λ c. search needs)  -- slice-aggregate-add
     (λ c κs. search needs)  -- add-requires
-    (λ c κs. (c .before .before .before .before .before .pre .0, past-keys _ 25 30 (places 0 15 ++ places 20 17) (c .before .before .before .before .before .pre .1) (c .before .match .keys6) refl))  -- add-from-30-requires
+    (λ c κs. (c .before .before .before .before .before .pre .0, past-keys _ 25 30 (places 0 15 ++ placesFrom 20) (c .before .before .before .before .before .pre .1) (c .before .match .keys6) refl))  -- add-from-30-requires
     (λ c. search needs)  -- same-length
     (λ c. search (needs, told))  -- returns
     (λ c. search needs)  -- same-length-2

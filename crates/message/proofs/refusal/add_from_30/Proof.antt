@@ -3,7 +3,7 @@ use mathlib.Core.List.{_++_}
 use borrow.Author.Needs.{needs}
 use Rattle.rules.specs.Text.{render}
 use Rattle.refusals.specs.Refusal.{refusalOf}
-use Rattle.refusals.proofs.Tags.{past-keys, places}
+use Rattle.refusals.proofs.Tags.{past-keys, places, placesFrom}
 use Rattle.message.proofs.Told.{told, told-field}
 use Rattle.message.proofs.refusal.add_from_30.Statement.{statement}
 use Rattle.message.proofs.refusal.add_from_30.Tie as tie
@@ -31,7 +31,7 @@ add-from-30-spec =
     (λ c κs. search needs)  -- say-name-requires-2
     (λ c. search needs)  -- enum-known-r-6
     (λ c κs. search needs)  -- add-holds-requires
-    (λ c κs. (c .before .before .before .before .before .pre .0, past-keys _ 30 36 (places 0 20 ++ places 26 11) (c .before .before .before .before .before .pre .1) (c .before .match .keys7) refl))  -- add-from-36-requires
+    (λ c κs. (c .before .before .before .before .before .pre .0, past-keys _ 30 36 (places 0 20 ++ placesFrom 26) (c .before .before .before .before .before .pre .1) (c .before .match .keys7) refl))  -- add-from-36-requires
     (λ c. search needs)  -- same-length
     (λ c. search (needs, told))  -- returns
     (λ c. search needs)  -- same-length-2

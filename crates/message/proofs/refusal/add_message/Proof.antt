@@ -2,7 +2,7 @@ use mathlib.Core.Path.{refl}
 use borrow.Author.Needs.{needs}
 use Rattle.rules.specs.Text.{digits, render}
 use Rattle.refusals.specs.Refusal.{refusalOf}
-use Rattle.refusals.proofs.Tags.{from-keys, places}
+use Rattle.refusals.proofs.Tags.{from-keys, placesFrom}
 use Rattle.message.proofs.Told.{told, told-name, told-type, told-param}
 use Rattle.message.proofs.refusal.add_message.Statement.{statement}
 use Rattle.message.proofs.refusal.add_message.Tie as tie
@@ -41,7 +41,7 @@ add-message-spec =
     (λ c. search needs)  -- enum-told-2
     (λ c. search needs)  -- slice-aggregate-add-2
     (λ c κs. search needs)  -- add-requires-2
-    (λ c κs. (c .before .before .before .before .before .pre, from-keys _ 21 (places 9 28) (c .before .match .keys10) refl))  -- add-from-21-requires
+    (λ c κs. (c .before .before .before .before .before .pre, from-keys _ 21 (placesFrom 9) (c .before .match .keys10) refl))  -- add-from-21-requires
     (λ c. search needs)  -- same-length
     (λ c. search (needs, told))  -- returns
     (λ c. search needs)  -- same-length-2

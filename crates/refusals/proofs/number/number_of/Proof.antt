@@ -1,6 +1,6 @@
 use mathlib.Core.Path.{refl}
 use borrow.Author.Needs.{needs}
-use Rattle.refusals.proofs.Tags.{number-told, from-keys, places}
+use Rattle.refusals.proofs.Tags.{number-told, from-keys, placesFrom}
 use Rattle.refusals.proofs.number.number_of.Statement.{statement}
 use Rattle.refusals.proofs.number.number_of.Tie as tie
 
@@ -28,7 +28,7 @@ number-of-spec =
     (λ c. search needs)
     (λ c. search needs)
     (λ c. search needs)
-    (λ c κs. from-keys _ 30 (places 20 17) (c .match .keys21) refl)
+    (λ c κs. from-keys _ 30 (placesFrom 20) (c .match .keys21) refl)
     (λ c. search (needs, number-told))
     (λ c. search (needs, number-told))
     (λ c. search (needs, number-told))

@@ -1,7 +1,7 @@
 use mathlib.Core.Path.{refl}
 use borrow.Author.Needs.{needs}
 use Rattle.refusals.specs.Places.{lineOf}
-use Rattle.refusals.proofs.Tags.{line-told, from-keys, places}
+use Rattle.refusals.proofs.Tags.{line-told, from-keys, placesFrom}
 use Rattle.refusals.proofs.place.line_of.Statement.{statement}
 use Rattle.refusals.proofs.place.line_of.Tie as tie
 
@@ -30,7 +30,7 @@ line-of-spec =
     (λ c. search needs)
     (λ c. search needs)
     (λ c. search needs)
-    (λ c κs. from-keys _ 30 (places 20 17) (c .match .keys21) refl)
+    (λ c κs. from-keys _ 30 (placesFrom 20) (c .match .keys21) refl)
     (λ c. search (needs, line-told))
     (λ c. search (needs, line-told))
     (λ c. search (needs, line-told))
