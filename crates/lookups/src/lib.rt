@@ -18,3 +18,4 @@ pub use ty::numeric;
 pub use ty::one_word;
 pub use ty::ty_of_decl;
 pub use ty::type_code;
+pub use ty::zero_digit;

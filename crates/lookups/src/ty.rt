@@ -180,7 +180,8 @@ pub fn declared_arg(sheet: &[u8], lines: &[u16], ty: usize, index: usize) -> u8
     ty_of_decl(sheet, lines, at)
 }
 
-fn zero_digit(b: u8) -> bool
+// Whether a byte of a literal's text is a zero or an underscore.
+pub fn zero_digit(b: u8) -> bool
     ensures { λ r. ⌜ r ≡ zeroDigit b ⌝ }
 {
     (b == b'0') | (b == b'_')

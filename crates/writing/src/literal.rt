@@ -1,17 +1,12 @@
 // The number of a literal's text as Rust prints it.
 use crate::write::add;
+use lookups::zero_digit;
 ghost use mathlib.Core.Path.{_≡_};
 ghost use Prim.Native.Nat.{_≤_};
 ghost use lib.ListN.{drop, length};
-ghost use Rattle.rules.specs.Types.{noUnderscores, zeroDigit};
+ghost use Rattle.rules.specs.Types.{noUnderscores};
 ghost use Rattle.writing.specs.Writing.{Adds};
 ghost use Rattle.writing.specs.Literal.{AddsLiteral, counting};
-
-fn zero_digit(b: u8) -> bool
-    ensures { λ r. ⌜ r ≡ zeroDigit b ⌝ }
-{
-    (b == b'0') | (b == b'_')
-}
 
 // Where the digits start that count.
 fn start_of(text: &[u8]) -> usize
