@@ -1,4 +1,6 @@
 // `check_arithmetic` over loaded lines: sums that may overflow unchecked.
+#![tactic(auto)]
+
 mod check;
 mod limits;
 mod lines;

@@ -1,4 +1,6 @@
 // `asset_calls_consumed` over loaded lines: no asset that is made is dropped.
+#![tactic(auto)]
+
 mod consumed;
 mod made;
 

@@ -1,4 +1,6 @@
 // `check_entry` and `check`, without `check_underflow`.
+#![tactic(auto)]
+
 mod entry;
 mod items;
 mod records;

@@ -1,4 +1,6 @@
 // `emit` statements, and who receives funds or issues an asset.
+#![tactic(auto)]
+
 mod emit;
 mod recipient;
 

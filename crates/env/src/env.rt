@@ -14,7 +14,7 @@ use text::is_word;
 
 // The model is that of the sheet. The parameters are `count` records from line `params` on. Of the statements from
 // line `body` on, the `let`s among the first `bound` are bound; `next` is the line behind those first statements.
-#[derive(Drop)]
+#[derive(Clone, Copy)]
 pub struct Env {
     pub params: usize,
     pub count: usize,

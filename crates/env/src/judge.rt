@@ -18,7 +18,7 @@ use lookups::{compatible, is_zero_literal, numeric, type_code};
 use refusals::{Done, Refusal};
 use rules::codes;
 
-#[derive(Drop)]
+#[derive(Clone, Copy)]
 pub enum Typed {
     Is(u8),
     Refused(Refusal),

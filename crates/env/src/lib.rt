@@ -1,4 +1,6 @@
 // What is in force where a type is asked, and the judging of types. Nothing here asks a type.
+#![tactic(auto)]
+
 mod call;
 mod env;
 mod judge;

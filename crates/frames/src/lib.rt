@@ -1,8 +1,10 @@
 // Frames of standard input: a header of 24 bytes, four numbers of five digits with a byte behind each, and a sheet behind it.
+#![tactic(auto)]
+
 ghost use Rattle.std.specs.Prelude.{◌≤◌};
 
 // How long the sheet is, and what is lent to it.
-#[derive(Drop)]
+#[derive(Clone, Copy)]
 pub struct Lengths {
     pub sheet: usize,
     pub scratch: usize,
@@ -10,7 +12,7 @@ pub struct Lengths {
     pub message: usize,
 }
 
-#[derive(Drop)]
+#[derive(Clone, Copy)]
 pub enum Frame {
     Lent(Lengths),
     Over,

@@ -1,4 +1,6 @@
 // The records of a sheet: their words, fields and parts, as numbers.
+#![tactic(auto)]
+
 pub mod field_rules;
 pub mod kinds;
 pub mod ops;

@@ -1,4 +1,6 @@
 // Declared types and lookups by name, over loaded lines.
+#![tactic(auto)]
+
 mod event;
 mod lines;
 mod model;

@@ -11,7 +11,7 @@ use grammar::kinds;
 use sheet::{end, field_count, item_count, kind, name};
 use text::is_word;
 
-#[derive(Drop)]
+#[derive(Clone, Copy)]
 pub enum Found {
     At(usize),
     Nothing,

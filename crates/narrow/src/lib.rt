@@ -1,4 +1,6 @@
 // Narrow slots, bool, u8, u16 and u32: their largest numbers, and literals above them.
+#![tactic(auto)]
+
 mod literal;
 mod slot;
 

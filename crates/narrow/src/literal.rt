@@ -4,7 +4,7 @@ ghost use Rattle.narrow.specs.Narrow.{exceeds_of};
 ghost use Rattle.narrow.specs.Wide.{Held, Grown, value_of};
 
 // A number in limbs of 48 bits; it is a u128 where high has 32 bits.
-#[derive(Drop)]
+#[derive(Clone, Copy)]
 struct Wide {
     high: u64,
     mid: u64,

@@ -1,4 +1,6 @@
 // The calls for C and Rust: a slice is a pointer and a length there, and an answer comes back by value.
+#![tactic(auto)]
+
 mod load;
 
 ghost use Rattle.std.specs.Prelude.{◌≡◌, ◌≤◌};

@@ -8,7 +8,7 @@ use sheet::Answer;
 
 // The number of lines of a sheet that is loaded, or a refusal's number and line.
 #[repr(C)]
-#[derive(Drop)]
+#[derive(Clone, Copy)]
 pub struct Load {
     pub number: u32,
     pub line: usize,

@@ -1,7 +1,7 @@
 // Refusals, each with what its message needs: lines and type codes. `refusal_of` of specs/Refusal.antt gives its
 // number, place and text.
 
-#[derive(Drop)]
+#[derive(Clone, Copy)]
 pub enum Refusal {
     // 12, 13, 14: the type
     NameStored(usize),
@@ -124,7 +124,7 @@ pub enum Refusal {
 }
 
 // What a rule answers that gives no value.
-#[derive(Drop)]
+#[derive(Clone, Copy)]
 pub enum Done {
     Fine,
     Refused(Refusal),

@@ -5,6 +5,8 @@
 //
 // `zeros` is how many cells of the scratch are zero from its start on; `scratch`, `types` and `message` are how many cells or
 // bytes still hold the noise up to the buffer's end. TYPES are the bytes of the type table before those, MESSAGE those of the message.
+#![tactic(auto)]
+
 mod noise;
 
 ghost use Rattle.std.specs.Prelude.{◌≤◌};

@@ -1,5 +1,7 @@
 // Reads the stored sheets of standard input, each behind its header, and writes what the sheet reader answers:
 // number and place, or the number of lines and each line's word, depth and end.
+#![tactic(auto)]
+
 use frames::Frame;
 use sheet::Answer;
 

@@ -1,4 +1,6 @@
 // The rules of the type pass are definitions: specs/. Of code there are the type codes, `is_type` and `marked`.
+#![tactic(auto)]
+
 pub mod codes;
 mod table;
 

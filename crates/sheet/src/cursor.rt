@@ -8,18 +8,18 @@ ghost use Rattle.sheet.specs.Field.{Ends, piece_at, is_name_or_text, name_then, 
 use grammar::index_bin;
 use text::{Number, find, index_in, is_name, is_text, number_of};
 
-#[derive(Drop)]
+#[derive(Clone, Copy)]
 pub struct Cursor {
     pub at: usize,
 }
 
-#[derive(Drop)]
+#[derive(Clone, Copy)]
 pub enum NumberRead {
     Value(u32, Cursor),
     BadValue,
 }
 
-#[derive(Drop)]
+#[derive(Clone, Copy)]
 pub enum NameRead {
     Name {
         start: usize,
@@ -29,7 +29,7 @@ pub enum NameRead {
     BadName,
 }
 
-#[derive(Drop)]
+#[derive(Clone, Copy)]
 pub struct IndexRead {
     pub index: usize,
     pub next: Cursor,

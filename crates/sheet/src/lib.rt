@@ -1,4 +1,6 @@
 // The sheet reader: from the bytes of a sheet to loaded lines, or a refusal from 1 to 11.
+#![tactic(auto)]
+
 mod cursor;
 pub mod limits;
 mod line;

@@ -13,7 +13,7 @@ use grammar::{always, field_rules, fields, kind_for, kinds, rule};
 use text::{count, find};
 
 // A line without its spans: where it and its name start in the sheet, and how many parts of each of its record's sorts it has.
-#[derive(Drop)]
+#[derive(Clone, Copy)]
 pub struct Line {
     pub kind: usize,
     pub op: usize,
@@ -25,13 +25,13 @@ pub struct Line {
     pub third: usize,
 }
 
-#[derive(Drop)]
+#[derive(Clone, Copy)]
 pub enum FieldRead {
     Taken(Line, Cursor),
     Wrong,
 }
 
-#[derive(Drop)]
+#[derive(Clone, Copy)]
 pub enum LineRead {
     Good(Line),
     Bad(u32),

@@ -12,7 +12,7 @@ use crate::scan::{Scanned, scan};
 use crate::scratch::{CELLS_PER_LINE, close};
 use text::{count, fill_u16};
 
-#[derive(Drop)]
+#[derive(Clone, Copy)]
 pub enum Answer {
     Lines(usize),
     Refused { number: u32, line: usize },

@@ -9,7 +9,7 @@ use crate::scratch::put_line;
 use grammar::sorts;
 use text::{find, wide_u16};
 
-#[derive(Drop)]
+#[derive(Clone, Copy)]
 pub enum Scanned {
     Read,
     Fault { number: u32, line: usize },

@@ -1,5 +1,7 @@
 // Reads a sheet from standard input and writes one line: `accepted`, or the refusal's number, its place and, from 12 on, its
 // message, parted by commas.
+#![tactic(auto)]
+
 ghost use Rattle.std.specs.Prelude.{◌≤◌, length};
 
 use sheet::{CELLS_PER_LINE, limits};

@@ -1,4 +1,6 @@
 // Types of statements, conditions and defaults.
+#![tactic(auto)]
+
 mod assign;
 mod check;
 

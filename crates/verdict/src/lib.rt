@@ -1,4 +1,6 @@
 // The verdict call: from the bytes of a sheet and lent buffers to the whole answer.
+#![tactic(auto)]
+
 mod judging;
 
 ghost use Rattle.std.specs.Prelude.{◌≡◌, ◌≤◌};
@@ -11,7 +13,7 @@ use sheet::{CELLS_PER_LINE, load};
 // Number is 0 for acceptance. Place is a line from 1 for 6 to 11 and a span from 12 on. Count is how many lines are marked, length
 // how many bytes the message has, whether it fits or not.
 #[repr(C)]
-#[derive(Drop)]
+#[derive(Clone, Copy)]
 pub struct Answer {
     pub number: u32,
     pub place: u32,

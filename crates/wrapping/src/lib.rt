@@ -1,4 +1,6 @@
 // `narrow_wrapping` over loaded lines: wrapping values that reach narrow slots.
+#![tactic(auto)]
+
 mod entry;
 mod marks;
 mod reach;

@@ -6,7 +6,7 @@ ghost use Rattle.writing.specs.Writing.{Adds};
 use crate::write::add;
 
 // Twenty bytes, of which those from start on are the digits.
-#[derive(Drop)]
+#[derive(Clone, Copy)]
 struct Digits {
     text: [u8; 20],
     start: usize,
