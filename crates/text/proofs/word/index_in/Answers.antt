@@ -1,0 +1,26 @@
+use mathlib.Core.Path.{sym, ◌∙◌}
+use native.Mathlib.Omega.{arith}
+use native.Mathlib.Nat.{zero-add}
+use Rattle.text.proofs.Words.{place_hit, place_miss, place_rest, place_end}
+use Rattle.text.proofs.word.index_in.Goals as goal
+
+pub loop-start-init : goal.loop-start-init
+loop-start-init c = (omega arith, omega arith, sym (zero-add _))
+
+pub returns-then-table-end : goal.returns-then-table-end
+returns-then-table-end c =
+    place_rest _ _ _ _ _ _ c.loop-start.invariant.2 c.find-end.ensures c.if-table-end.true
+
+pub returns-then-is_word : goal.returns-then-is_word
+returns-then-is_word c =
+    place_hit _ _ _ _ _ _ c.loop-start.invariant.2 c.find-end.ensures c.if-table-end.false (sym c.is_word.ensures ∙ c.if-is_word.true)
+
+pub loop-start-preserved : goal.loop-start-preserved
+loop-start-preserved c = (
+  omega (arith, c.find-end.ensures),
+  omega arith,
+  place_miss _ _ _ _ _ _ c.loop-start.invariant.2 c.find-end.ensures c.if-table-end.false (sym c.is_word.ensures ∙ c.if-is_word.false),
+)
+
+pub returns : goal.returns
+returns c = place_end _ _ _ _ _ c.loop-start.invariant.2 c.loop-start-test.false
