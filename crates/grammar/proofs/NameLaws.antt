@@ -1,7 +1,6 @@
 -- The names of kinds and operators are those of the tables' words. Assumes nothing.
 use mathlib.Core.Path.{◌≡◌, refl}
 use mathlib.Core.List.{[], ◌∷◌, map}
-use Prim.Native.String.{String}
 use lib.ListN.{length, get_or, take, drop}
 use Rattle.grammar.specs.Kinds as kinds
 use Rattle.grammar.specs.Operators as ops

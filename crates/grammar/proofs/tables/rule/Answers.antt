@@ -1,0 +1,16 @@
+use mathlib.Core.Path.{refl}
+use native.Mathlib.Omega.{arith}
+use Rattle.grammar.proofs.TableLaws.{rule_here}
+use Rattle.grammar.proofs.tables.rule.Goals as goal
+
+pub returns-in-0 : goal.returns-in-0
+returns-in-0 c = rule_here 0 c.args.j c.args.kind _ c.in-0.is refl
+
+pub returns-in-1 : goal.returns-in-1
+returns-in-1 c = rule_here 1 c.args.j c.args.kind _ c.in-1.is refl
+
+pub returns-in-2 : goal.returns-in-2
+returns-in-2 c = rule_here 2 c.args.j c.args.kind _ c.in-2.is refl
+
+pub returns-in_default : goal.returns-in_default
+returns-in_default c = rule_here 3 c.args.j c.args.kind _ (omega arith) refl
