@@ -195,7 +195,7 @@ record Closing (S : List ℕ) (n i : ℕ) (ls : List Line) : Type 0 where
   long : length now ≡ length S
   held : HeldAll now n i n (trees i ls)
 
-closing : {ls : List Line} {S : List ℕ} {n i k : ℕ} → Each (Says S) i ls → Each (λ j. Sound) i ls → Due k ls
+closing : {S : List ℕ} {ls : List Line} {n i k : ℕ} → Each (Says S) i ls → Each (λ j. Sound) i ls → Due k ls
     → i + length ls ≡ n → cells_per_line * n ≤ length S → Closing S n i ls
 unfolding trees closed
 closing {S} {n} {i} no_line no_line done e g =

@@ -31,17 +31,17 @@ module _ {A B : Type 0} {R : A → B → Type 0} where
   split₂ [] zs {ys} h = ([], ys, refl, nil₂, h)
   split₂ (x ∷ xs) zs (cons₂ {b = y} r h) = let q = split₂ xs zs h in (y ∷ q.0, q.1, ap (λ l. y ∷ l) q.2, cons₂ r q.3, q.4)
 
-  pub take₂ : {as' : List A} {bs : List B} (n : ℕ) → Forall₂ R as' bs → Forall₂ R (take n as') (take n bs)
+  pub take₂ : (n : ℕ) {as' : List A} {bs : List B} → Forall₂ R as' bs → Forall₂ R (take n as') (take n bs)
   take₂ zero h = nil₂
   take₂ (suc n) nil₂ = nil₂
   take₂ (suc n) (cons₂ r h) = cons₂ r (take₂ n h)
 
-  pub drop₂ : {as' : List A} {bs : List B} (n : ℕ) → Forall₂ R as' bs → Forall₂ R (drop n as') (drop n bs)
+  pub drop₂ : (n : ℕ) {as' : List A} {bs : List B} → Forall₂ R as' bs → Forall₂ R (drop n as') (drop n bs)
   drop₂ zero h = h
   drop₂ (suc n) nil₂ = nil₂
   drop₂ (suc n) (cons₂ r h) = drop₂ n h
 
-  pub at₂ : {as' : List A} {bs : List B} (i : ℕ) → Forall₂ R as' bs → Opt R (get_elem? as' i) (get_elem? bs i)
+  pub at₂ : (i : ℕ) {as' : List A} {bs : List B} → Forall₂ R as' bs → Opt R (get_elem? as' i) (get_elem? bs i)
   at₂ zero nil₂ = o_none
   at₂ zero (cons₂ r h) = o_some r
   at₂ (suc i) nil₂ = o_none

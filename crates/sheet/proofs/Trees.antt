@@ -38,7 +38,7 @@ trees_behind i ms (next {k = k} {l = l} {ls = ls} h) =
     let b = trees (suc i + length ls) ms in
     rw (trees_behind (suc i) ms h, e, take-before n k (trees (suc i) ls) b z, drop-before n k (trees (suc i) ls) b z)
 
-pub due-same : {Free : Type 0} {n : ℕ} {ls ks : List Line} → Due n ls → Forall₂ (SameRecord Free) ls ks → Due n ks
+pub due-same : {Free : Type 0} {ls ks : List Line} {n : ℕ} → Due n ls → Forall₂ (SameRecord Free) ls ks → Due n ks
 due-same done nil₂ = done
 due-same (next {k = k} d) (cons₂ h r) = next (due-same (rw h.parts at d) r)
 
@@ -79,6 +79,7 @@ first-formed s ss (suc n) (one_due {t = t} f fs) =
 pub formed-parts : (s : Sort) (n : ℕ) (a b : Nodes) → FormedAll (copies n s) (before a b) → FormedAll (copies (tree_count a) s) a × FormedAll (copies (tree_count b) s) b
 unfolding copies before
 formed-parts s n nil b f = (none_due, (all_formed s n f).1)
+formed-parts s zero (more t a) b f = elim f [ ]
 formed-parts s (suc n) (more t a) b (one_due f fs) = let q = formed-parts s n a b fs in (one_due f q.0, q.1)
 
 -- ------------------------------------------------------------ a sheet that is read

@@ -1,0 +1,11 @@
+use Prim.Native.Nat.{◌-◌}
+use lib.ListN.{length}
+use Rattle.sheet.specs.Scan.{Going}
+use Rattle.sheet.proofs.scan.scan.Given as goal
+
+-- Each need is a law of ScanNeeds.antt. Assumes nothing.
+abbrev pub invariant-loop-at : goal.invariant-loop-at
+invariant-loop-at l = Going l.sheet l.initial.lines l.lines l.due l.owner l.depth l.at l.i
+
+abbrev pub decreases-loop-at : goal.decreases-loop-at
+decreases-loop-at l = length l.sheet - l.at
