@@ -84,7 +84,7 @@ exprs_body : (Γ : Env) (ss : List Stmt) → exprs (body_pairs Γ ss) ≡ body_e
 unfolding body_exprs
 exprs_body Γ [] = refl
 exprs_body Γ (guard e ∷ ss) = ap (λ l. e ∷ l) (exprs_body Γ ss)
-exprs_body Γ (bind x v ∷ ss) = ap (λ l. v ∷ l) (exprs_body _ ss)
+exprs_body Γ (bind x v ∷ ss) = ap (λ l. v ∷ l) (exprs_body (bound_r Γ x (fresh (ty_of Γ v)).res (line_after v)) ss)
 exprs_body Γ (emit x es ∷ ss) = exprs_append (with_env Γ es) _ ∙ rw (exprs_with Γ es, exprs_body Γ ss)
 exprs_body Γ (assign s o t v ∷ ss) = ap (λ l. t ∷ v ∷ l) (exprs_body Γ ss)
 exprs_body Γ (do' e ∷ ss) = ap (λ l. e ∷ l) (exprs_body Γ ss)
@@ -142,7 +142,7 @@ plain_body Γ (guard e ∷ ss) fs i j p o = plain_then Γ (e ∷ []) (body_pairs
 plain_body Γ (bind x v ∷ ss) fs i j p o =
     let a = o.0 in
     let b = line_lt_after v o.1 in
-    let r = plain_body _ ss fs (line_after v) j (past_bound Γ x (fresh (ty_of Γ v)).res i (line_after v) p (omega arith)) o.2 in
+    let r = plain_body (bound_r Γ x (fresh (ty_of Γ v)).res (line_after v)) ss fs (line_after v) j (past_bound Γ x (fresh (ty_of Γ v)).res i (line_after v) p (omega arith)) o.2 in
     let c = r.2 in
     ((past_on Γ.ends i (line v) p a, r.0), r.1, omega arith, r.3)
 plain_body Γ (emit x es ∷ ss) fs i j p o = plain_then Γ es (body_pairs Γ ss) (body_exprs ss ++ fs) fs i j p (rw append_assoc at o) (λ k. plain_body Γ ss fs k j)

@@ -15,10 +15,10 @@ or_none (some a) = refl
 pub last_turn : {A : Type 0} (f : A → Name) (x : Name) (a : A) (as' : List A) (o : Option A)
     → or_else (last_named f x (a ∷ as')) o ≡ or_else (last_named f x as') (cond (same x (f a)) (some a) o)
 unfolding last_named or_else
-last_turn f x a as' o = by_cases (last_named f x as') (same x (f a))
+last_turn {A} f x a as' o = by_cases (last_named f x as') (same x (f a))
   where
-    by_cases : (l : Option _) (b : Bool)
-        → or_else (elim l as (λ _. Option _) [ some y ↦ some y | none ↦ elim b as (λ _. Option _) [ true ↦ some a | false ↦ none ] ]) o
+    by_cases : (l : Option A) (b : Bool)
+        → or_else (elim l as (λ _. Option A) [ some y ↦ some y | none ↦ elim b as (λ _. Option A) [ true ↦ some a | false ↦ none ] ]) o
         ≡ or_else l (cond b (some a) o)
     by_cases (some y) b = refl
     by_cases none true = refl

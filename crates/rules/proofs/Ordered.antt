@@ -87,10 +87,10 @@ record Split (S : List ℕ) (n k : ℕ) (s : grammar.Sort) (ss : List grammar.So
   back_formed : FormedAll ss back
   back_held : HeldAll S n mid j back
 
-split : {S : List ℕ} {n : ℕ} {s : grammar.Sort} {ss : List grammar.Sort} {i j : ℕ} {ns : Nodes} (k : ℕ)
+split : {S : List ℕ} {n : ℕ} {s : grammar.Sort} {ss : List grammar.Sort} (k : ℕ) {i j : ℕ} {ns : Nodes}
     → FormedAll (copies k s ++ ss) ns → HeldAll S n i j ns → Split S n k s ss i j ns
 unfolding copies nodes
-split {i = i} {ns = ns} zero f h =
+split zero {i = i} {ns = ns} f h =
     record { mid = i; front = nil; back = ns; taken = refl; dropped = refl; front_formed = none_due; front_held = no_tree; back_formed = f; back_held = h }
 split (suc k) (one_due {t = t} f fs) (tree h hs) =
     let r = split k fs hs in

@@ -13,7 +13,7 @@ use Rattle.sheet.specs.Scratch.{kind_at, op_at, end_at, name_at, skip, line_coun
 use Rattle.sheet.specs.Say.{span_at}
 use Rattle.sheet.specs.Tree.{Node, node, Nodes, nil as done, more as then, take_nodes}
 use Rattle.sheet.proofs.Due.{length-copies}
-use Rattle.rules.specs.Ast.{Set, assign_ops, Expr, Stmt, guard, bind, emit, assign, do', Clause, limits, denies, mints, after, Param, list, nodes, expr_of, exprs_of, stmt_of, clause_of, param_of, field_of, entry_of, event_of}
+use Rattle.rules.specs.Ast.{Set, assign_ops, Stmt, guard, bind, emit, assign, do', Clause, limits, denies, mints, after, list, nodes, expr_of, exprs_of, stmt_of, clause_of, param_of, field_of, entry_of, event_of}
 use Rattle.rules.specs.Standing.{node_name, node_span, named_at, place_at, trees_from, node_at, nodes_at, expr_at, exprs_at, type_at, field_at, param_at, params_at, stmt_at, stmts_at, clause_at, clauses_at, event_at, entry_at, Loaded, Here, Row, stop, next}
 use Rattle.rules.proofs.Parts.{parts, flags}
 use Rattle.rules.proofs.Standing.{Stands, stands, nodes-next, nodes-length, parts_behind, row_behind, row_group, row-second, row-third, row_first, row_rest}

@@ -234,7 +234,7 @@ row_nth (suc k) h (next x r) = row_nth k (omega arith) r
 row_nth k h stop = absurd (omega arith)
 
 -- the first k of them
-pub row-take : {S : List ℕ} {σ : Sort} {m i : ℕ} (k : ℕ) → k ≤ m → Row S σ m i → Row S σ k i
+pub row-take : {S : List ℕ} {σ : Sort} (k : ℕ) {m i : ℕ} → k ≤ m → Row S σ m i → Row S σ k i
 row-take zero h r = stop
 row-take (suc k) h (next x r) = next x (row-take k (omega arith) r)
 row-take (suc k) h stop = absurd (omega arith)

@@ -5,7 +5,7 @@ use Rattle.std.proofs.Math.Option.{Option, none, some}
 use Rattle.text.specs.Text.{same}
 use Rattle.rules.specs.Text.{Name, is, is_one, among, Piece, lit, raw}
 use Rattle.rules.specs.Ast.{Expr, leaf, unary, binary, field, call, wrap, Exprs, nil, more, Param, Clause, limits, denies, mints, after, Entry, Stmt, guard, bind, emit, assign, do', span, type_name}
-use Rattle.rules.specs.Asking.{Rule, ret, ◌>>=◌, ◌>>◌, expect}
+use Rattle.rules.specs.Asking.{Rule, ret, ◌>>◌, expect}
 use Rattle.rules.specs.Model.{Model, field_named}
 use Rattle.rules.specs.Typing.{Dot, ident_of, dot_of}
 use Rattle.rules.specs.Arithmetic.{any}
