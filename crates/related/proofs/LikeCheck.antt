@@ -55,7 +55,7 @@ module _ {S : Setting} where
   unfolding check_local
   a_local t h = rw (span_like h) (a_same (search pure_declared))
 
-  a_body : {Γ Δ : Env} {ss us : List Stmt} → SameEnv S Γ Δ → Forall₂ (StmtLike S) ss us → Alike S (check_body Γ ss) (check_body Δ us)
+  a_body : {ss us : List Stmt} {Γ Δ : Env} → SameEnv S Γ Δ → Forall₂ (StmtLike S) ss us → Alike S (check_body Γ ss) (check_body Δ us)
   unfolding check_body
   a_body e nil₂ = a_ret tt
   a_body e (cons₂ (guard~ h) k) = a_then (a_predicate e h) (a_body e k)

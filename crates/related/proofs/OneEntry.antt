@@ -59,7 +59,7 @@ divided {c} {e} {a} {m} {z} h =
       behind = (formed-parts grammar.Item _ E Z f.1).1;
     }
 
-same-results : {A B C : Type 0} {as' : List A} {bs : List B} (f : A → C) (g : B → C) → Forall₂ (λ a b. f a ≡ g b) as' bs → map f as' ≡ map g bs
+same-results : {A B C : Type 0} (f : A → C) (g : B → C) {as' : List A} {bs : List B} → Forall₂ (λ a b. f a ≡ g b) as' bs → map f as' ≡ map g bs
 same-results f g nil₂ = refl
 same-results f g (cons₂ h r) = ap₂ ◌∷◌ h (same-results f g r)
 
