@@ -17,7 +17,7 @@ use Rattle.sheet.specs.Scratch.{kind_at, end_at, item_count, field_count}
 use Rattle.sheet.specs.Tree.{Node, node, nil, more, take_nodes}
 use Rattle.text.proofs.Words.{same-is}
 use Rattle.rules.specs.Text.{Name, last_named, or_else}
-use Rattle.rules.specs.Ast.{Field, item_of, field_of, param_of, contract_of, nodes}
+use Rattle.rules.specs.Ast.{item_of, field_of, param_of, contract_of, nodes}
 use Rattle.rules.specs.Model.{item_model, joined, build, field_named}
 use Rattle.rules.specs.Verdict.{model_of}
 use Rattle.rules.specs.Standing.{node_name, trees_from, drop_lines, node_at, nodes_at, field_at, model_in, Loaded, Here, Row, stop, next}

@@ -11,9 +11,8 @@ use Rattle.rules.specs.Types.{zero_digit, is_zero_literal}
 use Rattle.rules.specs.Standing.{expr_at}
 use Rattle.rules.proofs.Exprs.{int_at}
 use Rattle.lookups.specs.Lines.{ExprAt}
-use Rattle.lookups.proofs.ty.is_zero_literal.Statement.{statement}
-use Rattle.lookups.proofs.ty.is_zero_literal.Tie as tie
 use Rattle.grammar.specs.Kinds as kinds
+use Rattle.lookups.proofs.ty.is_zero_literal.Goals as goal
 
 module _ (s S : List ℕ) (i k : ℕ) (h : ExprAt s S i) (e : k ≡ kind_at S i) where
   other : (r : Bool) → k ≢ kinds.int → r ≡ false → r ≡ is_zero_literal (expr_at s i)
@@ -24,8 +23,8 @@ module _ (s S : List ℕ) (i k : ℕ) (h : ExprAt s S i) (e : k ≡ kind_at S i)
   unfolding is_zero_literal
   literal x r q n f = f ∙ rw (is_zero_literal, int_at h.loaded h.here, ← e, eq-eqb k kinds.int q, ← n) refl
 
-pub is-zero-literal-spec : {M : Type 1} → statement M
-is-zero-literal-spec =
-    tie.close
-    (tie.spec
-    (λ c κs. search rules) (λ c. search (rules, other)) (λ c κs. search rules) (λ c κs. search rules) (λ c. search (rules, literal)))
+pub returns-then-kind-ne-INT : goal.returns-then-kind-ne-INT
+returns-then-kind-ne-INT c = search (rules, other)
+
+pub returns : goal.returns
+returns c = search (rules, literal)

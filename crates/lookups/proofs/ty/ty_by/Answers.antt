@@ -7,17 +7,10 @@ use Rattle.text.proofs.Words.{same-is}
 use Rattle.rules.specs.Asking.{code}
 use Rattle.rules.specs.Types.{ty_of_name}
 use borrow.Author.Rules.{rules}
-use Rattle.lookups.proofs.ty.ty_by.Statement.{statement}
-use Rattle.lookups.proofs.ty.ty_by.Tie as tie
+use Rattle.lookups.proofs.ty.ty_by.Goals as goal
 
 by_word : (x w : List ℕ) (c : ℕ) (b : Bool) → c ≡ code (ty_of_name w) → b ≡ same x w → b ≡ true → c ≡ code (ty_of_name x)
 by_word x w c b e f g = e ∙ ap (λ y. code (ty_of_name y)) (sym (same-is x w (sym f ∙ g)))
 
-pub ty-by-spec : {M : Type 1} → statement M
-ty-by-spec =
-    tie.close
-    (tie.spec
-    (λ c κs. search rules)  -- is-word-requires
-    (λ c. search (rules, by_word))  -- returns
-    (λ c κs. search rules)  -- ty-in-table-requires
-    (λ c. search rules))  -- returns-2
+pub returns-then-is_word : goal.returns-then-is_word
+returns-then-is_word c = search (rules, by_word)

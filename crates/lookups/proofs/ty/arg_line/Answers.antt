@@ -5,8 +5,7 @@ use Prim.Native.Nat.{ℕ, suc, ◌+◌, ◌<◌}
 use native.Mathlib.Omega.{arith}
 use borrow.Author.Rules.{rules}
 use Rattle.sheet.specs.Scratch.{end_at, skip}
-use Rattle.lookups.proofs.ty.arg_line.Statement.{statement}
-use Rattle.lookups.proofs.ty.arg_line.Tie as tie
+use Rattle.lookups.proofs.ty.arg_line.Goals as goal
 
 first : (S : List ℕ) (i k : ℕ) → k ≡ 0 → i + 1 ≡ skip S k (suc i)
 unfolding skip
@@ -16,7 +15,8 @@ second : (S : List ℕ) (i k r : ℕ) → k < 2 → k ≢ 0 → r ≡ end_at S (
 unfolding skip
 second S i k r h g e = rw (let q : k ≡ 1 = omega arith in q) (e ∙ rw (let q : i + 1 ≡ suc i = omega arith in q) refl)
 
-pub arg-line-spec : {M : Type 1} → statement M
-arg-line-spec =
-    tie.close
-    (tie.spec (λ c. search rules) (λ c. search rules) (λ c κs. search rules) (λ c. search (rules, first)) (λ c. search (rules, second)))
+pub returns-then-index-eq0 : goal.returns-then-index-eq0
+returns-then-index-eq0 c = search (rules, first)
+
+pub returns-else-index-eq0 : goal.returns-else-index-eq0
+returns-else-index-eq0 c = search (rules, second)

@@ -4,8 +4,7 @@ use Prim.Native.Nat.{ℕ}
 use borrow.Author.Rules.{rules}
 use Rattle.lookups.specs.Found.{found_at}
 use Rattle.lookups.specs.declared.model.Found.TheVariants.{At, Nothing}
-use Rattle.lookups.proofs.model.found_at.Statement.{statement}
-use Rattle.lookups.proofs.model.found_at.Tie as tie
+use Rattle.lookups.proofs.model.found_at.Goals as goal
 
 module _ (b : Bool) (i : ℕ) where
   hit : b ≡ true → At i ≡ found_at b i
@@ -16,5 +15,8 @@ module _ (b : Bool) (i : ℕ) where
   unfolding found_at
   miss e = rw e refl
 
-pub found-at-spec : {M : Type 1} → statement M
-found-at-spec = tie.close (tie.spec (λ c. search (rules, hit)) (λ c. search (rules, miss)))
+pub returns-then-hit : goal.returns-then-hit
+returns-then-hit c = search (rules, hit)
+
+pub returns-else-hit : goal.returns-else-hit
+returns-else-hit c = search (rules, miss)

@@ -8,8 +8,7 @@ use borrow.Author.Rules.{rules}
 use borrow.Author.Tests.{eq-eqb, ne_eqb}
 use Rattle.text.specs.Text.{same}
 use Rattle.sheet.specs.Scratch.{kind_at, name_at}
-use Rattle.lookups.proofs.model.is_named.Statement.{statement}
-use Rattle.lookups.proofs.model.is_named.Tie as tie
+use Rattle.lookups.proofs.model.is_named.Goals as goal
 
 module _ (s S : List ℕ) (k : ℕ) (x : List ℕ) (i m : ℕ) (e : m ≡ kind_at S i) where
   other : m ≢ k → false ≡ (eqb (kind_at S i) k && same x (name_at s S i))
@@ -18,7 +17,8 @@ module _ (s S : List ℕ) (k : ℕ) (x : List ℕ) (i m : ℕ) (e : m ≡ kind_a
   named : (y : List ℕ) (b : Bool) → m ≡ k → y ≡ name_at s S i → b ≡ same x y → b ≡ (eqb (kind_at S i) k && same x (name_at s S i))
   named y b h n q = rw (← e, eq-eqb m k h, ← n) q
 
-pub is-named-spec : {M : Type 1} → statement M
-is-named-spec =
-    tie.close
-    (tie.spec (λ c κs. search rules) (λ c. search (rules, other)) (λ c κs. search rules) (λ c κs. search rules) (λ c. search (rules, named)))
+pub returns-then-kind-k : goal.returns-then-kind-k
+returns-then-kind-k c = search (rules, other)
+
+pub returns : goal.returns
+returns c = search (rules, named)

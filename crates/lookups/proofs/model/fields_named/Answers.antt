@@ -1,0 +1,18 @@
+use borrow.Author.Rules.{rules}
+use Rattle.lookups.proofs.Fields.{fields-start, fields-item, fields_turn, fields-skip, fields_over}
+use Rattle.lookups.proofs.model.fields_named.Goals as goal
+
+pub loop-left-init : goal.loop-left-init
+loop-left-init c = search (rules, fields-start)
+
+pub loop-left-preserved-then-kind-ne-STATE : goal.loop-left-preserved-then-kind-ne-STATE
+loop-left-preserved-then-kind-ne-STATE c = search (rules, fields-skip)
+
+pub newest_field-found-requires : goal.newest_field-found-requires
+newest_field-found-requires c = search (rules, fields-item)
+
+pub loop-left-preserved : goal.loop-left-preserved
+loop-left-preserved c = search (rules, fields_turn)
+
+pub returns : goal.returns
+returns c = search (rules, fields_over)
