@@ -14,7 +14,7 @@ use borrow.Author.Tests.{eq-eqb, ne_eqb, not-true, not-false}
 use Rattle.grammar.specs.Grammar as grammar
 use Rattle.sheet.specs.Scratch.{kind_at, op_at, name_at, end_at, skip, clause_count, param_count, body_count}
 use Rattle.rules.specs.Text.{Name, among, get}
-use Rattle.rules.specs.Ast.{AssignOp, Set, assign_ops, Expr, Entry, Stmt, assign}
+use Rattle.rules.specs.Ast.{AssignOp, Set, assign_ops, Expr, Entry, assign}
 use Rattle.rules.specs.Asking.{Ty, Rule, Res, ok, refused, expect, if_some, for_each}
 use Rattle.rules.specs.Arithmetic.{any, acknowledged, addends, bounded, limits_bound, overflow_text, check_sum, check_arithmetic}
 use Rattle.rules.specs.Check.{param_types}

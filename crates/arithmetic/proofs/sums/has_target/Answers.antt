@@ -1,0 +1,26 @@
+use borrow.Author.Rules.{rules}
+use Rattle.rules.proofs.Walks.{walk_less}
+use Rattle.arithmetic.proofs.Walks.{walk_here}
+use Rattle.arithmetic.proofs.Terms.{target_start, target_into, target_found, target_next, target_over}
+use Rattle.arithmetic.proofs.sums.has_target.Goals as goal
+
+pub loop-at-init : goal.loop-at-init
+loop-at-init c = search (rules, target_start)
+
+pub loop-at-preserved-then-is_op : goal.loop-at-preserved-then-is_op
+loop-at-preserved-then-is_op c = search (rules, target_into)
+
+pub same_target-requires : goal.same_target-requires
+same_target-requires c = record { expr_at = search (rules, walk_here); expr_at_2 = search (rules, walk_here) }
+
+pub returns-then-same_target : goal.returns-then-same_target
+returns-then-same_target c = search (rules, target_found)
+
+pub loop-at-smaller : goal.loop-at-smaller
+loop-at-smaller c = search (rules, walk_less)
+
+pub loop-at-preserved : goal.loop-at-preserved
+loop-at-preserved c = search (rules, target_next)
+
+pub returns : goal.returns
+returns c = search (rules, target_over)

@@ -1,0 +1,12 @@
+use Prim.Native.Nat.{◌-◌}
+use Rattle.rules.specs.Arithmetic.{sum_terms, without}
+use Rattle.rules.specs.Standing.{expr_at}
+use Rattle.rules.specs.Typing.{is_some}
+use Rattle.arithmetic.proofs.Terms.{Targeted}
+use Rattle.arithmetic.proofs.sums.has_target.Given as goal
+
+abbrev pub invariant-loop-at : goal.invariant-loop-at
+invariant-loop-at l = Targeted l.sheet l.lines (expr_at l.sheet l.target) (is_some (without (expr_at l.sheet l.target) (sum_terms (expr_at l.sheet l.value)))) l.stop l.at
+
+abbrev pub decreases-loop-at : goal.decreases-loop-at
+decreases-loop-at l = l.stop - l.at

@@ -1,0 +1,23 @@
+use borrow.Author.Rules.{rules}
+use Rattle.env.proofs.Lookups.{found-next, found-typed}
+use Rattle.env.proofs.Methods.{op_nowhere, good-op, bad-op, no_op}
+use Rattle.grammar.specs.Kinds as kinds
+use Rattle.env.proofs.call.expect_keyed_op.Goals as goal
+
+pub returns-then-kind-ne-DOT : goal.returns-then-kind-ne-DOT
+returns-then-kind-ne-DOT c = search (rules, op_nowhere)
+
+pub overflow_add-field : goal.overflow_add-field
+overflow_add-field c = search (rules, found-next kinds.field)
+
+pub keyed_op_fits-requires : goal.keyed_op_fits-requires
+keyed_op_fits-requires c = search (rules, found-typed kinds.field)
+
+pub returns-then-keyed_op_fits : goal.returns-then-keyed_op_fits
+returns-then-keyed_op_fits c = search (rules, good-op)
+
+pub returns-else-keyed_op_fits : goal.returns-else-keyed_op_fits
+returns-else-keyed_op_fits c = search (rules, bad-op)
+
+pub returns-in-Nothing : goal.returns-in-Nothing
+returns-in-Nothing c = search (rules, no_op)

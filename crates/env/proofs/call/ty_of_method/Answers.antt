@@ -1,0 +1,23 @@
+use borrow.Author.Rules.{rules}
+use Rattle.env.proofs.Lookups.{found-next, found-typed}
+use Rattle.env.proofs.Methods.{method_most, by_method, by_get, no_get}
+use Rattle.grammar.specs.Kinds as kinds
+use Rattle.env.proofs.call.ty_of_method.Goals as goal
+
+pub method_code-requires : goal.method_code-requires
+method_code-requires c = search (rules, method_most)
+
+pub returns-then-place-ne2 : goal.returns-then-place-ne2
+returns-then-place-ne2 c = search (rules, by_method)
+
+pub overflow_add-field : goal.overflow_add-field
+overflow_add-field c = search (rules, found-next kinds.field)
+
+pub ty_of_get-requires : goal.ty_of_get-requires
+ty_of_get-requires c = search (rules, found-typed kinds.field)
+
+pub returns-in-At : goal.returns-in-At
+returns-in-At c = search (rules, by_get)
+
+pub returns-in-Nothing : goal.returns-in-Nothing
+returns-in-Nothing c = search (rules, no_get)

@@ -1,0 +1,18 @@
+use borrow.Author.Rules.{rules}
+use Rattle.key_kinds.proofs.Checking.{no_call, key_here, no_use, mark-within, use_fits}
+use Rattle.key_kinds.proofs.check.check_use.Goals as goal
+
+pub returns-then-not-is_keyed_call : goal.returns-then-not-is_keyed_call
+returns-then-not-is_keyed_call c = search (rules, no_call)
+
+pub is_name_key-named-requires : goal.is_name_key-named-requires
+is_name_key-named-requires c = record { entry_at = search (rules, key_here); expr_at = search (rules, key_here) }
+
+pub note-requires : goal.note-requires
+note-requires c = search (rules, mark-within)
+
+pub returns-in-Nothing : goal.returns-in-Nothing
+returns-in-Nothing c = search (rules, no_use)
+
+pub returns-in-At : goal.returns-in-At
+returns-in-At c = search (rules, use_fits)

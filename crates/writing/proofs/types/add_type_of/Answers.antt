@@ -1,0 +1,6 @@
+use borrow.Author.Rules.{rules}
+use Rattle.writing.proofs.FieldTypes.{type_of_lem}
+use Rattle.writing.proofs.types.add_type_of.Goals as goal
+
+pub returns : goal.returns
+returns c = search (rules, type_of_lem)
