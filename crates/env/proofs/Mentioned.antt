@@ -151,6 +151,8 @@ module _ {s S : List ℕ} (d : Loaded s S) (xs : List Name) where
     trees-has : {i j : ℕ} {ps : Nodes} → HeldAll S (line_count S) i j ps → (k : ℕ) → FormedAll (copies k grammar.Expr) ps → (rest : Nodes) → trees_from s i ≡ before ps rest
         → has_any xs (exprs_of ps) ≡ any (hit s S xs) i (j - i)
     trees-has {i} no_tree zero none_due rest e = rw (let z : i - i ≡ 0 = omega arith in z) refl
+    trees-has no_tree (suc k) f rest e = elim f [ ]
+    trees-has (tree h r) zero f rest e = elim f [ ]
     trees-has {i} {j} (tree {t = t} {ns = ns} h r) (suc k) (one_due f fs) rest e =
         let w = within h in
         let st = stands d i w.0 in

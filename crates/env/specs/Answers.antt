@@ -1,5 +1,5 @@
 -- How the code judges types that were asked.
-use Rattle.std.specs.Prelude.{ℕ, Bool, true, false, List, [], ◌∷◌, ◌≡◌}
+use Rattle.std.specs.Prelude.{ℕ, Bool, true, false, List, [], ◌∷◌}
 use Rattle.rules.specs.Ast.{span}
 use Rattle.rules.specs.Asking.{Ty, Int, Asset, Unknown, Res, ok, refused, Rule, expect}
 use Rattle.rules.specs.Types.{is_ty}

@@ -221,7 +221,7 @@ unfolding item_uses uses entry_uses names_at
 item-next {s} {S} m em d {i} h ts = by_cases (eqb (kind_at S i) kinds.entry) refl
   where
     by_cases : (t : Bool) → eqb (kind_at S i) kinds.entry ≡ t → uses m (entries_of (node_at s i ∷ ts)) ≡ item_uses s S i ++ uses m (entries_of ts)
-    by_cases true q = ap (uses m) (entries_next d h ts (eqb-true (kind_at S i) kinds.entry q)) ∙ rw (item_uses, q, em) refl
+    by_cases true q = ap (uses m) (entries_next d h ts (eqb-true (kind_at S i) kinds.entry q)) ∙ rw (item_uses, q, ← em) refl
     by_cases false q = ap (uses m) (entries-other d h ts (eqb-false (kind_at S i) kinds.entry q)) ∙ rw (item_uses, q) refl
 
 -- no use is seen

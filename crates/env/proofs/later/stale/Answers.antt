@@ -1,5 +1,4 @@
 use borrow.Author.Rules.{rules}
-use Prim.Native.Nat.{◌-◌}
 use Rattle.env.proofs.Mentioned.{past_next, look_start, look_over, look_found, look_next}
 use Rattle.env.proofs.later.stale.Goals as goal
 

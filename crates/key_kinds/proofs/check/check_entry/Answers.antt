@@ -1,4 +1,3 @@
-use Prim.Native.Nat.{◌-◌}
 use borrow.Author.Rules.{rules}
 use Rattle.key_kinds.proofs.Checking.{walk_start, walk_over, walk_here, walk_next, walk_refused}
 use Rattle.key_kinds.proofs.check.check_entry.Goals as goal
