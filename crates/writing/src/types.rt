@@ -33,7 +33,7 @@ fn add_closing(buffer: &mut [u8], at: usize, first: bool) -> usize
 }
 
 // Adds the text of the record at line i as a type, whose arguments are its parts.
-#[cycle(add_arg_add_args_add_type)]
+#[cycle(type_text)]
 pub fn add_type(sheet: &[u8], lines: &[u16], buffer: &mut [u8], at: usize, i: usize) -> usize
     requires { Loaded sheet.now lines.now }
     ensures { Adds (render (type_text (type_at sheet.now i))) buffer.old at buffer.new result }
@@ -46,7 +46,7 @@ pub fn add_type(sheet: &[u8], lines: &[u16], buffer: &mut [u8], at: usize, i: us
 }
 
 // Adds the text of the record at line i as an argument: each kind up to that of a type is a type, as `arg_of` has it for any line.
-#[cycle(add_arg_add_args_add_type)]
+#[cycle(type_text)]
 fn add_arg(sheet: &[u8], lines: &[u16], buffer: &mut [u8], at: usize, i: usize) -> usize
     requires { Loaded sheet.now lines.now }
     ensures { Adds (render (arg_text (arg_at sheet.now i))) buffer.old at buffer.new result }
@@ -62,7 +62,7 @@ fn add_arg(sheet: &[u8], lines: &[u16], buffer: &mut [u8], at: usize, i: usize) 
 }
 
 // Adds the arguments from line i on, up to line stop, and what ends them.
-#[cycle(add_arg_add_args_add_type)]
+#[cycle(type_text)]
 fn add_args(
     sheet: &[u8],
     lines: &[u16],

@@ -1,4 +1,3 @@
-use Prim.Native.Nat.{◌-◌}
 use borrow.Author.Rules.{rules}
 use Rattle.writing.proofs.Adding.{adds_same}
 use Rattle.writing.proofs.Literals.{digits-start, digits-skip, digits_add, digits_over}

@@ -1,5 +1,4 @@
 use mathlib.Core.Path.{refl, sym, ◌∙◌}
-use Prim.Native.Nat.{◌-◌}
 use native.Mathlib.Omega.{arith}
 use Rattle.writing.proofs.Literals.{start-stop, start-more, start_over}
 use Rattle.writing.proofs.literal.start_of.Goals as goal

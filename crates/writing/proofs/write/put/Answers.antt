@@ -1,4 +1,3 @@
-use Prim.Native.Nat.{◌-◌}
 use borrow.Author.Rules.{rules}
 use Rattle.writing.proofs.Adding.{put_none, put-more, put_full, put_over, put_same}
 use Rattle.writing.proofs.write.put.Goals as goal
