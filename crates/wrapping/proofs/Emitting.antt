@@ -14,7 +14,7 @@ use Rattle.grammar.specs.Grammar as grammar
 use Rattle.sheet.specs.Scratch.{end_at, name_at, emit_arg_count, param_count}
 use Rattle.sheet.specs.Tree.{take_nodes}
 use Rattle.rules.specs.Text.{Name}
-use Rattle.rules.specs.Ast.{Expr, Param, exprs_of, list, type_name}
+use Rattle.rules.specs.Ast.{Expr, exprs_of, list, type_name}
 use Rattle.rules.specs.Asking.{Res, ok, Rule, ◌>>◌, for_each}
 use Rattle.rules.specs.Types.{narrow_max}
 use Rattle.rules.specs.Typing.{is_some}

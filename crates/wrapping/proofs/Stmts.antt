@@ -1,8 +1,8 @@
 -- The statements of an entry, one behind another. Assumes nothing.
-use mathlib.Core.Path.{◌≡◌, refl, sym, ◌∙◌}
+use mathlib.Core.Path.{ap, ◌≡◌, refl, sym, ◌∙◌}
 use mathlib.Core.Logic.{◌≢◌}
 use mathlib.Core.List.{List, ◌∷◌}
-use mathlib.Core.Bool.{Bool, true, false, cond}
+use mathlib.Core.Bool.{◌&&◌, Bool, true, false, cond}
 use Prim.Native.Nat.{ℕ, zero, suc, ◌+◌, ◌-◌, ◌<◌, ◌≤◌}
 use native.Mathlib.Numerals.{add-one}
 use native.Mathlib.Omega.{arith}
@@ -13,7 +13,7 @@ use borrow.Author.Tests.{ne_eqb}
 use Rattle.grammar.specs.Grammar as grammar
 use Rattle.sheet.specs.Scratch.{kind_at, end_at, name_at, skip, line_count, param_count, body_count, clause_count}
 use Rattle.rules.specs.Text.{Name}
-use Rattle.rules.specs.Ast.{Stmt, list}
+use Rattle.rules.specs.Ast.{list}
 use Rattle.rules.specs.Asking.{Res, ◌>>◌, if_some}
 use Rattle.rules.specs.Assets.{wraps, narrow_set, narrow_stmt, wrapped_after, narrow_stmts, narrow_wrapping}
 use Rattle.rules.specs.Standing.{expr_at, exprs_at, params_at, stmt_at, stmts_at, entry_at, model_in, Loaded, Row, stop, next}
@@ -106,14 +106,24 @@ module _ (s S M : List ℕ) (k body i : ℕ) (a : After grammar.Stmt s S k body 
   d : Loaded s S
   d = a.before.loaded
 
+  marks_of : (m : ℕ) → kind_at S i ≡ m → marks_after s S M k body i ≡ cond (eqb m kinds.let') (set M i (cond (wraps (wrapped_names s S M k body) (expr_at s (suc i))) 1 0)) M
+  unfolding marks_after
+  marks_of m e = rw e refl
+
+  names_of : (N : List ℕ) (m : ℕ) → kind_at S i ≡ m
+      → wrapped_names s S N (suc k) body ≡ cond (eqb m kinds.let' && eqb (get_or N i 0) 1) (name_at s S i ∷ wrapped_names s S N k body) (wrapped_names s S N k body)
+  unfolding wrapped_names is_marked
+  names_of N m e = rw (← z, e) refl
+
   other-names : (m : ℕ) → m ≢ kinds.let' → kind_at S i ≡ m → wrapped_names s S (marks_after s S M k body i) (suc k) body ≡ wrapped_names s S M k body
-  unfolding wrapped_names is_marked marks_after
-  other-names m h e = rw (← z, e, ne_eqb m kinds.let' h) refl
+  other-names m h e =
+      ap (λ N. wrapped_names s S N (suc k) body) (marks_of m e ∙ rw (ne_eqb m kinds.let' h) refl) ∙ names_of M m e ∙ rw (ne_eqb m kinds.let' h) refl
 
   let_names : kind_at S i ≡ kinds.let' → wrapped_names s S (marks_after s S M k body i) (suc k) body ≡ wrapped_after (wrapped_names s S M k body) (stmt_at s i)
-  unfolding wrapped_names is_marked marks_after wrapped_after
+  unfolding wrapped_after
   let_names e =
-      rw ((let_at d a.here e).0, ← z, e) (by_cases (wraps (wrapped_names s S M k body) (expr_at s (suc i))))
+      let w = wraps (wrapped_names s S M k body) (expr_at s (suc i)) in
+      rw (let_at d a.here e).0 (ap (λ N. wrapped_names s S N (suc k) body) (marks_of kinds.let' e) ∙ names_of (set M i (cond w 1 0)) kinds.let' e ∙ by_cases w)
     where
       by_cases : (b : Bool) → cond (eqb (get_or (set M i (cond b 1 0)) i 0) 1) (name_at s S i ∷ wrapped_names s S (set M i (cond b 1 0)) k body) (wrapped_names s S (set M i (cond b 1 0)) k body)
           ≡ cond b (name_at s S i ∷ wrapped_names s S M k body) (wrapped_names s S M k body)

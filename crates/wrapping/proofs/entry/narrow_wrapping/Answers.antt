@@ -1,4 +1,3 @@
-use Prim.Native.Nat.{◌-◌}
 use borrow.Author.Rules.{rules}
 use Rattle.wrapping.proofs.Stmts.{entry-within, no_body, go_start, go_stmt, go_refused, go_next, go_over}
 use Rattle.wrapping.proofs.entry.narrow_wrapping.Goals as goal

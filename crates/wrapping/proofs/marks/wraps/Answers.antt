@@ -1,5 +1,4 @@
 use borrow.Author.Rules.{rules}
-use Prim.Native.Nat.{◌-◌}
 use Rattle.wrapping.proofs.Wrapped.{walk_start, walk_line, walk_found, walk_less, walk_next, walk_over}
 use Rattle.wrapping.proofs.marks.wraps.Goals as goal
 

@@ -1,0 +1,6 @@
+use borrow.Author.Rules.{rules}
+use Rattle.message.proofs.Told.{name_said}
+use Rattle.message.proofs.between.say_name.Goals as goal
+
+pub returns : goal.returns
+returns c = search (rules, name_said)
