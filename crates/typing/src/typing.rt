@@ -59,7 +59,7 @@ fn mark(a: Typed) -> u8
 }
 
 // The type of line i. Every rule asks a type through this function, and none but this and `ty_again`, its part for the exception, marks a line.
-#[cycle(ask_each_check_amount_check_keyed_call_check_keys_ty_again_ty_of_ty_of_binary_ty_of_unary_type_args_type_call_type_keyed_typing)]
+#[cycle(expression_types)]
 pub fn ty_of(sheet: &[u8], lines: &[u16], env: Env, table: &mut [u8], i: usize) -> Typed
     requires { Asks sheet.now lines.now env table.old i }
     ensures { Types sheet.now (ty_of (env_of sheet.now table.old env) (expr_at sheet.now i)) table.old result table.new }
@@ -77,7 +77,7 @@ pub fn ty_of(sheet: &[u8], lines: &[u16], env: Env, table: &mut [u8], i: usize) 
 }
 
 // Types line i again, which keeps its first type, or is marked as refused.
-#[cycle(ask_each_check_amount_check_keyed_call_check_keys_ty_again_ty_of_ty_of_binary_ty_of_unary_type_args_type_call_type_keyed_typing)]
+#[cycle(expression_types)]
 fn ty_again(sheet: &[u8], lines: &[u16], env: Env, table: &mut [u8], i: usize) -> Typed
     requires { AsksAgain sheet.now lines.now env table.old i }
     ensures { Types sheet.now (ty_of (env_of sheet.now table.old env) (expr_at sheet.now i)) table.old result table.new }
@@ -92,7 +92,7 @@ fn ty_again(sheet: &[u8], lines: &[u16], env: Env, table: &mut [u8], i: usize) -
 }
 
 // `ty_of` without the asking itself: the type of line i by its kind.
-#[cycle(ask_each_check_amount_check_keyed_call_check_keys_ty_again_ty_of_ty_of_binary_ty_of_unary_type_args_type_call_type_keyed_typing)]
+#[cycle(expression_types)]
 fn typing(sheet: &[u8], lines: &[u16], env: Env, table: &mut [u8], i: usize) -> Typed
     requires { Asks sheet.now lines.now env table.old i }
     ensures { Types sheet.now (typing_of (env_of sheet.now table.old env) (expr_at sheet.now i)) table.old result table.new }
@@ -116,7 +116,7 @@ fn typing(sheet: &[u8], lines: &[u16], env: Env, table: &mut [u8], i: usize) -> 
     ty_of(sheet, lines, env, table, i + 1)
 }
 
-#[cycle(ask_each_check_amount_check_keyed_call_check_keys_ty_again_ty_of_ty_of_binary_ty_of_unary_type_args_type_call_type_keyed_typing)]
+#[cycle(expression_types)]
 fn ty_of_unary(sheet: &[u8], lines: &[u16], env: Env, table: &mut [u8], i: usize) -> Typed
     requires { AsksAt kinds.un sheet.now lines.now env table.old i }
     ensures { Types sheet.now (typing_of (env_of sheet.now table.old env) (expr_at sheet.now i)) table.old result table.new }
@@ -128,7 +128,7 @@ fn ty_of_unary(sheet: &[u8], lines: &[u16], env: Env, table: &mut [u8], i: usize
 }
 
 // Both sides are typed before either is judged.
-#[cycle(ask_each_check_amount_check_keyed_call_check_keys_ty_again_ty_of_ty_of_binary_ty_of_unary_type_args_type_call_type_keyed_typing)]
+#[cycle(expression_types)]
 fn ty_of_binary(sheet: &[u8], lines: &[u16], env: Env, table: &mut [u8], i: usize) -> Typed
     requires { AsksAt kinds.bin sheet.now lines.now env table.old i }
     ensures { Types sheet.now (typing_of (env_of sheet.now table.old env) (expr_at sheet.now i)) table.old result table.new }
@@ -146,7 +146,7 @@ fn ty_of_binary(sheet: &[u8], lines: &[u16], env: Env, table: &mut [u8], i: usiz
 }
 
 // The type of a call: its receiver and its operation are judged first.
-#[cycle(ask_each_check_amount_check_keyed_call_check_keys_ty_again_ty_of_ty_of_binary_ty_of_unary_type_args_type_call_type_keyed_typing)]
+#[cycle(expression_types)]
 fn type_call(sheet: &[u8], lines: &[u16], env: Env, table: &mut [u8], i: usize) -> Typed
     requires { AsksAt kinds.call sheet.now lines.now env table.old i }
     ensures { Types sheet.now (typing_of (env_of sheet.now table.old env) (expr_at sheet.now i)) table.old result table.new }
@@ -162,7 +162,7 @@ fn type_call(sheet: &[u8], lines: &[u16], env: Env, table: &mut [u8], i: usize) 
 }
 
 // ... then its arguments are typed
-#[cycle(ask_each_check_amount_check_keyed_call_check_keys_ty_again_ty_of_ty_of_binary_ty_of_unary_type_args_type_call_type_keyed_typing)]
+#[cycle(expression_types)]
 fn type_args(
     sheet: &[u8],
     lines: &[u16],
@@ -188,7 +188,7 @@ fn type_args(
 }
 
 // ... and its keyed use is checked
-#[cycle(ask_each_check_amount_check_keyed_call_check_keys_ty_again_ty_of_ty_of_binary_ty_of_unary_type_args_type_call_type_keyed_typing)]
+#[cycle(expression_types)]
 fn type_keyed(
     sheet: &[u8],
     lines: &[u16],
@@ -207,7 +207,7 @@ fn type_keyed(
 }
 
 // Types `left` expressions, the first of which stands at line at.
-#[cycle(ask_each_check_amount_check_keyed_call_check_keys_ty_again_ty_of_ty_of_binary_ty_of_unary_type_args_type_call_type_keyed_typing)]
+#[cycle(expression_types)]
 pub fn ask_each(
     sheet: &[u8],
     lines: &[u16],
@@ -229,7 +229,7 @@ pub fn ask_each(
 }
 
 // `check_keyed_call` of the call at line i, whose callee uses `keyed`.
-#[cycle(ask_each_check_amount_check_keyed_call_check_keys_ty_again_ty_of_ty_of_binary_ty_of_unary_type_args_type_call_type_keyed_typing)]
+#[cycle(expression_types)]
 pub fn check_keyed_call(
     sheet: &[u8],
     lines: &[u16],
@@ -265,7 +265,7 @@ pub fn check_keyed_call(
 }
 
 // The amount that `credit` and `debit` move.
-#[cycle(ask_each_check_amount_check_keyed_call_check_keys_ty_again_ty_of_ty_of_binary_ty_of_unary_type_args_type_call_type_keyed_typing)]
+#[cycle(expression_types)]
 fn check_amount(sheet: &[u8], lines: &[u16], env: Env, table: &mut [u8], i: usize) -> Done
     requires { AsksMethod sheet.now lines.now env table.old i }
     ensures { Does sheet.now (amount_rule (env_of sheet.now table.old env) (method_at sheet.now lines.now i) (args_at sheet.now lines.now i)) table.old result table.new }
@@ -285,7 +285,7 @@ fn check_amount(sheet: &[u8], lines: &[u16], env: Env, table: &mut [u8], i: usiz
 
 // The arguments from line at on, as far as the Map or Registry at line field declares what they must be: those from
 // place index on, up to place wants.
-#[cycle(ask_each_check_amount_check_keyed_call_check_keys_ty_again_ty_of_ty_of_binary_ty_of_unary_type_args_type_call_type_keyed_typing)]
+#[cycle(expression_types)]
 fn check_keys(
     sheet: &[u8],
     lines: &[u16],

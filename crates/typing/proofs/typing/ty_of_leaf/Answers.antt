@@ -17,9 +17,8 @@ use Rattle.env.specs.Answers.{typed_of}
 use Rattle.env.specs.Force.{env_of, Ready}
 use Rattle.env.specs.declared.env.Env.{Env}
 use Rattle.typing.specs.Asks.{leaf_codes, AsksLeaf, TypesLeaf}
-use Rattle.typing.proofs.typing.ty_of_leaf.Statement.{statement}
-use Rattle.typing.proofs.typing.ty_of_leaf.Tie as tie
 use Rattle.grammar.specs.Kinds as kinds
+use Rattle.typing.proofs.typing.ty_of_leaf.Goals as goal
 
 module _ (s S : List ℕ) (env : Env) (T : Table) (i : ℕ) (h : AsksLeaf s S env T i) where
   ready : Ready s S env T
@@ -64,14 +63,17 @@ module _ (s S : List ℕ) (env : Env) (T : Table) (i : ℕ) (h : AsksLeaf s S en
         also stop)
         low (omega (arith, e, h.kind)) q)
 
-pub ty-of-leaf-spec : {M : Type 1} → statement M
-ty-of-leaf-spec =
-    tie.close
-    (tie.spec
-    (λ c κs. search rules)
-    (λ c κs. search rules)
-    (λ c κs. search (rules, ready))
-    (λ c. search (rules, named))
-    (λ c. search (rules, low))
-    (λ c κs. search (rules, few))
-    (λ c. search (rules, other)))
+pub ty_of_ident-requires : goal.ty_of_ident-requires
+ty_of_ident-requires c = search (rules, ready)
+
+pub returns-then-k-eq-ID : goal.returns-then-k-eq-ID
+returns-then-k-eq-ID c = search (rules, named)
+
+pub overflow_sub-k : goal.overflow_sub-k
+overflow_sub-k c = search (rules, low)
+
+pub leaf_code-requires : goal.leaf_code-requires
+leaf_code-requires c = search (rules, few)
+
+pub returns : goal.returns
+returns c = search (rules, other)
