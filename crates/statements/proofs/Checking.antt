@@ -14,7 +14,7 @@ use Rattle.grammar.specs.Grammar as grammar
 use Rattle.sheet.specs.Scratch.{kind_at, op_at, end_at, name_at}
 use Rattle.rules.specs.Text.{Name, is_one}
 use Rattle.rules.specs.Ast.{Set, id, leaf, Field, span, leaf_of, assign, do', type_name}
-use Rattle.rules.specs.Asking.{Ty, Boolean, Unknown, code, ◌>>=◌, ◌>>◌, if_some}
+use Rattle.rules.specs.Asking.{Boolean, Unknown, code, ◌>>=◌, ◌>>◌, if_some}
 use Rattle.rules.specs.Kept.{Table, Kept, kept, ty_from}
 use Rattle.rules.specs.Types.{eq_ty, is_ty}
 use Rattle.rules.specs.Typing as typing
