@@ -15,7 +15,7 @@ use Rattle.grammar.specs.Grammar as grammar
 use Rattle.sheet.specs.Scratch.{kind_at, end_at, name_at, line_count, emit_arg_count, param_count}
 use Rattle.sheet.specs.Tree.{take_nodes}
 use Rattle.rules.specs.Text.{Name}
-use Rattle.rules.specs.Ast.{Expr, Exprs, nil, more, Param, list, span, exprs_of}
+use Rattle.rules.specs.Ast.{Expr, Exprs, nil, more, list, span, exprs_of}
 use Rattle.rules.specs.Asking.{Ty, code, ok, Rule, ret, ◌>>=◌, ◌>>◌, expect, if_some, for_each}
 use Rattle.rules.specs.Kept.{Table, kept, ty_from}
 use Rattle.rules.specs.Types.{eq_ty, is_ty, one_word, ty_of_decl}

@@ -154,19 +154,19 @@ first_ones (suc (suc zero)) l f (a ∷ []) T = refl
 first_ones (suc (suc zero)) l f (a ∷ b ∷ es) T = refl
 first_ones (suc (suc (suc n))) l f es T = absurd (omega arith)
 
-take-list : {s S : List ℕ} {m i : ℕ} (n : ℕ) → Loaded s S → Row S grammar.Expr m i → n ≤ m → take n (list (exprs_at s m i)) ≡ list (exprs_at s n i)
+take-list : {s S : List ℕ} (n : ℕ) {m i : ℕ} → Loaded s S → Row S grammar.Expr m i → n ≤ m → take n (list (exprs_at s m i)) ≡ list (exprs_at s n i)
 unfolding exprs_at take_nodes exprs_of list
 take-list zero d r l = refl
 take-list (suc n) d stop l = absurd (omega arith)
-take-list {s} {m = suc m} {i} (suc n) d (next h r) l =
+take-list {s} (suc n) {m = suc m} {i} d (next h r) l =
     rw (exprs_next d m i h.within, exprs_next d n i h.within) (ap (λ es. expr_at s i ∷ es) (take-list n d r (omega arith)))
 
-take_all : {s S : List ℕ} {m i : ℕ} (n : ℕ) → Loaded s S → Row S grammar.Expr m i → m ≤ n → take n (list (exprs_at s m i)) ≡ list (exprs_at s m i)
+take_all : {s S : List ℕ} (n : ℕ) {m i : ℕ} → Loaded s S → Row S grammar.Expr m i → m ≤ n → take n (list (exprs_at s m i)) ≡ list (exprs_at s m i)
 unfolding exprs_at take_nodes exprs_of list
 take_all zero d stop l = refl
 take_all (suc n) d stop l = refl
 take_all zero d (next h r) l = absurd (omega arith)
-take_all {s} {m = suc m} {i} (suc n) d (next h r) l =
+take_all {s} (suc n) {m = suc m} {i} d (next h r) l =
     rw (exprs_next d m i h.within) (ap (λ es. expr_at s i ∷ es) (take_all n d r (omega arith)))
 
 module _ (s S : List ℕ) (env : Env) (T : Table) (i : ℕ) (h : Asks s S env T i) (k : ℕ) (ek : k ≡ kind_at S i) where

@@ -1,0 +1,21 @@
+use borrow.Author.Rules.{rules}
+use Rattle.emits.proofs.Recipients.{no_call, callee_there, few-asks, few-done, due-asks, due-done}
+use Rattle.emits.proofs.recipient.refuse_name_recipient.Goals as goal
+
+pub returns-then-kind-ne-CALL : goal.returns-then-kind-ne-CALL
+returns-then-kind-ne-CALL c = search (rules, no_call)
+
+pub recipients-due-requires : goal.recipients-due-requires
+recipients-due-requires c = search (rules, callee_there)
+
+pub check_recipients-requires : goal.check_recipients-requires
+check_recipients-requires c = search (rules, few-asks)
+
+pub returns-then-args-due : goal.returns-then-args-due
+returns-then-args-due c = search (rules, few-done)
+
+pub check_recipients-requires-2 : goal.check_recipients-requires-2
+check_recipients-requires-2 c = search (rules, due-asks)
+
+pub returns : goal.returns
+returns c = search (rules, due-done)
