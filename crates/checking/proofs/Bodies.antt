@@ -13,7 +13,7 @@ use borrow.Author.Tests.{eq-eqb, ne_eqb, eqb-true, eqb-false}
 use Rattle.grammar.specs.Grammar as grammar
 use Rattle.sheet.specs.Scratch.{kind_at, name_at, end_at, skip, emit_arg_count}
 use Rattle.sheet.specs.Tree.{Node, node}
-use Rattle.rules.specs.Ast.{Expr, Stmt, guard, bind, emit, assign, do', line, line_after, list}
+use Rattle.rules.specs.Ast.{Stmt, guard, bind, emit, assign, do', line, line_after, list}
 use Rattle.rules.specs.Asking.{Ty, code, code_r, Res, ok, refused, ◌>>=◌, ◌>>◌}
 use Rattle.rules.specs.Kept.{Table, kept, ty_from}
 use Rattle.rules.specs.Types.{eq_ty}

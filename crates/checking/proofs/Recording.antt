@@ -28,7 +28,7 @@ use Rattle.rules.proofs.Standing.{stands, nodes-next, row_first, row_rest}
 use Rattle.rules.proofs.Records.{no_nodes, limits_at, denies_at, mints_at, after_at, param_at_lem, field_at_lem}
 use Rattle.rules.proofs.Binding.{kept_assoc, kept_both}
 use Rattle.refusals.specs.Answers.{Answers}
-use Rattle.refusals.proofs.Answers.{gives, answers_then, answers-cut}
+use Rattle.refusals.proofs.Answers.{answers_then, answers-cut}
 use Rattle.lookups.specs.Lines.{TypeAt, RecordAt}
 use Rattle.refusals.specs.Refusal.{done_of}
 use Rattle.refusals.specs.declared.refusal.Refusal.{Refusal}

@@ -1,0 +1,16 @@
+use borrow.Author.Rules.{rules}
+use Rattle.typing.proofs.Calls.{does-length}
+use Rattle.checking.proofs.Recording.{clause_other, clause_asks, clause_does}
+use Rattle.checking.proofs.records.clause_predicate.Goals as goal
+
+pub expect_predicate-requires : goal.expect_predicate-requires
+expect_predicate-requires c = search (rules, clause_asks)
+
+pub shape_of-table-then-k : goal.shape_of-table-then-k
+shape_of-table-then-k c = search (rules, does-length)
+
+pub returns-then-k : goal.returns-then-k
+returns-then-k c = search (rules, clause_does)
+
+pub returns : goal.returns
+returns c = search (rules, clause_other)
