@@ -1,0 +1,18 @@
+use borrow.Author.Rules.{rules}
+use Rattle.verdict.proofs.Telling.{exact_sheet, count_fits, judges_accepted, judges_refused}
+use Rattle.verdict.proofs.judging.judge.Goals as goal
+
+pub check-requires : goal.check-requires
+check-requires c = search (rules, exact_sheet)
+
+pub overflow_cast-result : goal.overflow_cast-result
+overflow_cast-result c = search (rules, count_fits)
+
+pub overflow_cast-result-in-Refused : goal.overflow_cast-result-in-Refused
+overflow_cast-result-in-Refused c = search (rules, count_fits)
+
+pub returns-in-Fine : goal.returns-in-Fine
+returns-in-Fine c = search (rules, judges_accepted)
+
+pub returns-in-Refused : goal.returns-in-Refused
+returns-in-Refused c = search (rules, judges_refused)
