@@ -1,3 +1,4 @@
+-- The invariants: no word is found yet, and the answer is what the words and places that are left say. Assumes nothing.
 use mathlib.Core.Path.{◌≡◌}
 use mathlib.Core.Bool.{false}
 use Prim.Native.Nat.{◌-◌, ◌≤◌, ◌<◌}

@@ -1,3 +1,4 @@
+-- The invariant: the number so far and the digits that are left. Assumes nothing.
 use mathlib.Core.Path.{◌≡◌}
 use Prim.Native.Nat.{◌-◌, ◌≤◌}
 use lib.ListN.{length}

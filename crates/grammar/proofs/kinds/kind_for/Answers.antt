@@ -1,3 +1,4 @@
+-- `grammar::kinds::kind_for` meets its contract: each arm looks the word up among those of its sort. Assumes nothing.
 use Rattle.grammar.specs.Grammar.{Contract, Item, Field, Param, Ty, Arg, Clause, Stmt, Expr}
 use Rattle.grammar.proofs.KindLaws.{kind_at, kind_arm, other-sort}
 use Rattle.grammar.proofs.kinds.kind_for.Goals as goal

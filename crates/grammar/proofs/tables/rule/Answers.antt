@@ -1,3 +1,4 @@
+-- `grammar::tables::rule` meets its contract: each arm reads the table of its field. Assumes nothing.
 use mathlib.Core.Path.{refl}
 use native.Mathlib.Omega.{arith}
 use Rattle.grammar.proofs.TableLaws.{rule_here}

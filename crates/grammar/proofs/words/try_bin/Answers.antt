@@ -1,3 +1,4 @@
+-- `grammar::words::try_bin` meets its contract: the word that is tried stands at its place. Assumes nothing.
 use native.Mathlib.Omega.{arith}
 use Rattle.grammar.specs.Operators as ops
 use Rattle.grammar.proofs.KindLaws.{tried_bin}

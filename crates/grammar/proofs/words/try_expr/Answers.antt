@@ -1,3 +1,4 @@
+-- `grammar::words::try_expr` meets its contract: the word that is tried stands at its place. Assumes nothing.
 use native.Mathlib.Omega.{arith}
 use Rattle.grammar.proofs.KindLaws.{tried_expr}
 use Rattle.grammar.proofs.words.try_expr.Goals as goal

@@ -1,3 +1,5 @@
+-- `sheet::line::read_fields` meets its contract. The invariant: the answer is what the rules left make of the fields left.
+-- Assumes nothing.
 use mathlib.Core.List.{[]}
 use Prim.Native.Nat.{◌+◌, ◌-◌, ◌≤◌}
 use lib.ListN.{drop}

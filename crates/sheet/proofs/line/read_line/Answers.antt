@@ -1,3 +1,4 @@
+-- `sheet::line::read_line` meets its contract: each answer is that of a law of `Told.antt`. Assumes nothing.
 use mathlib.Core.Path.{sym}
 use native.Mathlib.Omega.{arith}
 use lib.Seq.{length-take-le}

@@ -1,3 +1,4 @@
+-- `sheet::loader::too_many` meets its contract: each return has the tests that led there. Assumes nothing.
 use borrow.Author.Tests.{lt-ltb, le-ltb}
 use Rattle.sheet.specs.Load.{first_true}
 use Rattle.sheet.proofs.loader.too_many.Goals as goal

@@ -1,3 +1,4 @@
+-- `sheet::loader::unended` meets its contract: where there is no byte, the last one counts as 0. Assumes nothing.
 use Rattle.sheet.proofs.Loading.{none_unended}
 use Rattle.sheet.proofs.loader.unended.Goals as goal
 

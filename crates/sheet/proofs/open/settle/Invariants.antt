@@ -1,3 +1,4 @@
+-- `sheet::open::settle` meets its contract. The invariant: what is left of the depths settles to the answer. Assumes nothing.
 use mathlib.Core.Path.{◌≡◌}
 use Prim.Native.Nat.{◌≤◌}
 use Rattle.sheet.specs.Open.{settled}

@@ -1,3 +1,5 @@
+-- `sheet::scan::scan` meets its contract. The invariant is `Going`: the lines so far are read and written, and the counts say what is due.
+-- Each need is a law of ScanNeeds.antt. Assumes nothing.
 use Prim.Native.Nat.{◌-◌}
 use lib.ListN.{length}
 use Rattle.sheet.specs.Scan.{Going}

@@ -1,3 +1,5 @@
+-- `sheet::scratch::close` meets its contract. The invariant: closing the lines that are left closes all.
+-- Assumes nothing.
 use mathlib.Core.Path.{◌≡◌}
 use Prim.Native.Nat.{◌≤◌, ◌*◌}
 use lib.ListN.{length}

@@ -1,3 +1,5 @@
+-- `sheet::scratch::put_line` meets its contract. The seventh put is too far from the first for `search`: what keeps the length
+-- is told step by step. Assumes nothing.
 use native.Mathlib.Omega.{arith}
 use Rattle.sheet.specs.Scratch.{put_line}
 use Rattle.sheet.proofs.scratch.put_line.Goals as goal

@@ -1,3 +1,5 @@
+-- `sheet::scratch::skip` meets its contract. The invariant: what is left to skip, from the line that is reached, ends where
+-- all does. Assumes nothing.
 use mathlib.Core.Path.{◌≡◌}
 use Prim.Native.Nat.{◌<◌}
 use Rattle.sheet.specs.Scratch.{skip}

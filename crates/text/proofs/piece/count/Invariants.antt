@@ -1,3 +1,4 @@
+-- `text::piece::count` meets its contract. The invariant: the pieces passed, and those of what is left. Assumes nothing.
 use mathlib.Core.Path.{◌≡◌}
 use mathlib.Core.List.{[]}
 use Prim.Native.Nat.{◌+◌, ◌-◌, ◌≤◌}

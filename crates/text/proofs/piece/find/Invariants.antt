@@ -1,3 +1,4 @@
+-- `text::piece::find` meets its contract. The invariant: what is left of the piece at i ends where the piece ends. Assumes nothing.
 use mathlib.Core.Path.{◌≡◌}
 use Prim.Native.Nat.{◌+◌, ◌-◌}
 use lib.ListN.{length, drop}

@@ -1,3 +1,5 @@
+-- `text::word::index_in` meets its contract. The invariant: the place is the words passed and the place in what is left.
+-- Assumes nothing.
 use mathlib.Core.Path.{◌≡◌}
 use Prim.Native.Nat.{◌+◌, ◌≤◌, ◌-◌}
 use lib.ListN.{length, drop}

@@ -1,3 +1,5 @@
+-- `text::word::is_word` meets its contract. The invariant: what is left of the two says whether the whole are the same.
+-- Assumes nothing.
 use mathlib.Core.Path.{◌≡◌}
 use Prim.Native.Nat.{◌≤◌, ◌-◌}
 use lib.ListN.{length, drop}

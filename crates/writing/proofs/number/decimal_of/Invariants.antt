@@ -1,3 +1,4 @@
+-- `writing::number::decimal_of` meets its contract. The invariant: the digits of what is left, and then those in the array. Assumes nothing.
 use mathlib.Core.Path.{◌≡◌}
 use mathlib.Core.List.{◌++◌}
 use Prim.Native.Nat.{◌≤◌}

@@ -1,3 +1,4 @@
+-- `sheet::line::Line::with_field` meets its contract: its tests are those of `step_of`. Assumes nothing.
 use borrow.Author.Tests.{lt-ltb, le-ltb}
 use Rattle.sheet.specs.Step.{step_of}
 use Rattle.sheet.proofs.line.Line.with_field.Goals as goal

@@ -1,3 +1,4 @@
+-- `sheet::line::Line::with_plain` meets its contract: each arm is the step of its number. Assumes nothing.
 use Rattle.grammar.proofs.KindLaws.{assign-words, un-words}
 use Rattle.sheet.proofs.Steps.{other_rule}
 use Rattle.sheet.proofs.line.Line.with_plain.Goals as goal
