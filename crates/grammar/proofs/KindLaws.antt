@@ -115,7 +115,7 @@ within-most k n p h = by_cases (ltb p n) refl
     by_cases true e = omega (arith, ltb-true p n e)
     by_cases false e = omega arith
 
--- a kind that isn't `no_kind_lem` is a record's
+-- a kind that isn't `no_kind` is a record's
 pub kind-known : (s : Sort) (w : List ℕ) (k : ℕ) → k ≡ kind_for s w → k ≢ no_kind → k < no_kind
 unfolding kind_for
 kind-known s w k e h = omega (arith, rw (← e) at (within-most (first_kind s) (length (records_for s)) (index_in w (words_of (records_for s))) (room s)))

@@ -13,7 +13,7 @@ pub kinds_named :
     ≡ ("contract" ∷ "state" ∷ "event" ∷ "invariant" ∷ "genesis" ∷ "entry" ∷ "field" ∷ "param" ∷ "type" ∷ "num" ∷ "mofn" ∷ "limits" ∷ "denies" ∷ "mints" ∷ "after" ∷ "guard" ∷ "let" ∷ "emit" ∷ "assign" ∷ "do" ∷ "int" ∷ "id" ∷ "date" ∷ "str" ∷ "caller" ∷ "native" ∷ "inasset" ∷ "now" ∷ "un" ∷ "bin" ∷ "dot" ∷ "call" ∷ "checked" ∷ "wrapping" ∷ [])
 kinds_named = refl
 
--- there are as many records as kinds below `no_kind_lem`
+-- there are as many records as kinds below `no_kind`
 pub all_kinds : length records ≡ no_kind
 all_kinds = refl
 

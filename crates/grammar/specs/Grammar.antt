@@ -114,7 +114,7 @@ no_kind = 34
 abbrev pub record_of : ℕ → Record
 record_of k = get_or records k (form "" [] [])
 
--- the kind of the record at place p of n, where the first of them has kind k; `no_kind_lem` where p is not below n
+-- the kind of the record at place p of n, where the first of them has kind k; `no_kind` where p is not below n
 abbrev pub within : ℕ → ℕ → ℕ → ℕ
 within k n p = cond (ltb p n) (k + p) no_kind
 
@@ -122,6 +122,6 @@ abbrev pub words_of : List Record → List (List ℕ)
 words_of [] = []
 words_of (r ∷ rs) = bytes r.word ∷ words_of rs
 
--- the kind of the record with the word w where the sort s is due, or `no_kind_lem`
+-- the kind of the record with the word w where the sort s is due, or `no_kind`
 unfoldable pub kind_for : Sort → List ℕ → ℕ
 kind_for s w = within (first_kind s) (length (records_for s)) (index_in w (words_of (records_for s)))

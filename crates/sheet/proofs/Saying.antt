@@ -54,7 +54,7 @@ pub word_none : (s S : List ℕ) (i : ℕ) → line_count S ≤ i → [] ≡ wor
 unfolding word_at
 word_none s S i h = rw (le-ltb i (line_count S) h)
 
--- whether a record has a span: no record has the kind `no_kind_lem` or a greater one
+-- whether a record has a span: no record has the kind `no_kind` or a greater one
 pub kind_none : (k : ℕ) → no_kind ≤ k → false ≡ span_first k
 kind_none k h = rw (get_or-eq_default records _ h)
 
