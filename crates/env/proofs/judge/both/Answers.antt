@@ -4,12 +4,12 @@ use Rattle.env.proofs.judge.both.Goals as goal
 
 pub returns-then-not-l : goal.returns-then-not-l
 unfolding both_of
-returns-then-not-l c = rw (not-true c.args.l c.if-not-l.true-raw)
+returns-then-not-l c = rw (c.if-not-l.true)
 
 pub returns-then-not-r : goal.returns-then-not-r
 unfolding both_of
-returns-then-not-r c = rw (not-false c.args.l c.if-not-l.false-raw, not-true c.args.r c.if-not-r.true-raw)
+returns-then-not-r c = rw (c.if-not-l.false, c.if-not-r.true)
 
 pub returns : goal.returns
 unfolding both_of
-returns c = rw (not-false c.args.l c.if-not-l.false-raw, not-false c.args.r c.if-not-r.false-raw)
+returns c = rw (c.if-not-l.false, c.if-not-r.false)
