@@ -1,7 +1,12 @@
-// Frames of standard input: a header of 24 bytes, four numbers of five digits with a byte behind each, and a sheet behind it.
+// Frames of an input: a header of 24 bytes, four numbers of five digits with a byte behind each, and a sheet behind it.
 #![tactic(auto)]
 
-ghost use Rattle.std.specs.Prelude.{◌≤◌};
+ghost use Rattle.std.specs.Prelude.{◌≡◌, ◌<◌, ◌≤◌, IfOk, length, take};
+ghost use Rattle.std.specs.Io.KnownBytes.{Consumes, IsAtEnd};
+ghost use Rattle.frames.specs.Frame.{digit_of, number_of, TakesHeader, TakesSheet};
+
+use std::io;
+use std::io::Read;
 
 // How long the sheet is, and what is lent to it.
 #[derive(Clone, Copy)]
@@ -19,7 +24,8 @@ pub enum Frame {
 }
 
 fn digit(b: u8) -> usize
-    ensures { result ≤ 9 }
+    ensures upper_bound { result ≤ 9 }
+    ensures value { result ≡ digit_of b }
 {
     if b < 48 {
         return 0;
@@ -33,6 +39,7 @@ fn digit(b: u8) -> usize
 // Five digits of the header, from a position on.
 fn number(head: &[u8; 24], at: usize) -> usize
     requires { at ≤ 19 }
+    ensures { result ≡ number_of head.now at }
 {
     digit(head[at]) * 10000
         + digit(head[at + 1]) * 1000
@@ -41,23 +48,42 @@ fn number(head: &[u8; 24], at: usize) -> usize
         + digit(head[at + 4])
 }
 
-// Reads the next header.
-pub fn header() -> Frame {
-    let mut head = [0u8; 24];
-    let got = io::read_full(0, &mut head);
-    if got != 24 {
-        return Frame::Over;
+// Reads until the bytes are full or the input ends; how many bytes of it there were.
+pub fn read_full<R: Read>(input: &mut R, bytes: &mut [u8]) -> io::Result<usize>
+    ensures bound { IfOk result (λ n. n ≤ length bytes.new) }
+    ensures consumed { IfOk result (λ n. Consumes (R.remaining input.old) (R.remaining input.new) (take n bytes.new)) }
+    ensures ended { IfOk result (λ n. n < length bytes.new → IsAtEnd (R.remaining input.new)) }
+{
+    let mut count = 0;
+    while count < bytes.len() {
+        let n = input.read(&mut bytes[count..])?;
+        if n == 0 {
+            return Ok(count);
+        }
+        count += n;
     }
-    Frame::Lent(Lengths {
+    Ok(count)
+}
+
+// Reads the next header.
+pub fn header<R: Read>(input: &mut R) -> io::Result<Frame>
+    ensures { IfOk result (TakesHeader (R.remaining input.old) (R.remaining input.new)) }
+{
+    let mut head = [0u8; 24];
+    if read_full(input, &mut head)? < head.len() {
+        return Ok(Frame::Over);
+    }
+    Ok(Frame::Lent(Lengths {
         sheet: number(&head, 0),
         scratch: number(&head, 6),
         types: number(&head, 12),
         message: number(&head, 18),
-    })
+    }))
 }
 
 // Fills the sheet; whether there was as much.
-pub fn filled(sheet: &mut [u8]) -> bool {
-    let got = io::read_full(0, &mut sheet[..]);
-    got == sheet.len()
+pub fn filled<R: Read>(input: &mut R, sheet: &mut [u8]) -> io::Result<bool>
+    ensures { IfOk result (TakesSheet (R.remaining input.old) (R.remaining input.new) sheet.new) }
+{
+    Ok(read_full(input, sheet)? == sheet.len())
 }

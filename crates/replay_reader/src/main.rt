@@ -2,98 +2,131 @@
 // number and place, or the number of lines and each line's word, depth and end.
 #![tactic(auto)]
 
+ghost use Rattle.std.specs.Prelude.{◌≡◌, length, IfOk, OnOk};
+ghost use Rattle.std.specs.Bool.{OnTrue};
+ghost use Rattle.std.specs.Io.KnownBytes.{Appends};
+ghost use Rattle.frames.specs.Frame.{TakesSheet};
+ghost use Rattle.sheet.specs.Load.{load};
+ghost use Rattle.sheet.specs.Promise.{answer, scratch_after};
+ghost use Rattle.replay_reader.specs.Written.{answer_of, depth_of, from_one_of, line_of, lines_of};
+
 use frames::Frame;
 use sheet::Answer;
+use std::io;
+use std::io::{Read, Write};
 
 // A line's number, counted from 1.
-fn from_one(i: usize) -> u64 {
+fn from_one(i: usize) -> u64
+    ensures { result ≡ from_one_of i }
+{
     if i < 65536 { i as u64 + 1 } else { 0 }
 }
 
 // How many lines before line i have not ended.
-fn depth(lines: &[u16], i: usize) -> usize {
-    let mut d = 0;
-    let mut j = 0;
-    while j < i {
-        if sheet::end(lines, j) <= i {
-            j += 1;
-            continue;
-        }
-        d += 1;
-        j += 1;
+fn depth(lines: &[u16], i: usize) -> usize
+    ensures { result ≡ depth_of lines.now i }
+{
+    (0..i).filter(|j| i < sheet::end(lines, *j)).count()
+}
+
+fn write_line<W: Write>(out: &mut W, text: &[u8], lines: &[u16], i: usize) -> io::Result<()>
+    ensures { OnOk result (Appends (W.contents out.old) (W.contents out.new) (line_of text.now lines.now i)) }
+{
+    out.write_all(sheet::word(text, lines, i))?;
+    let depth = depth(lines, i);
+    let end = from_one(sheet::end(lines, i));
+    write!(out, ":{depth}:{end}")
+}
+
+fn write_lines<W: Write>(out: &mut W, text: &[u8], lines: &[u16], n: usize) -> io::Result<()>
+    ensures { OnOk result (Appends (W.contents out.old) (W.contents out.new) (lines_of text.now lines.now n)) }
+{
+    if n == 0 {
+        return Ok(());
     }
-    d
-}
-
-fn write_line(text: &[u8], lines: &[u16], i: usize) {
-    io::write_all(1, sheet::word(text, lines, i));
-    io::write_all(1, b":");
-    io::print_decimal(1, depth(lines, i) as u64);
-    io::write_all(1, b":");
-    io::print_decimal(1, from_one(sheet::end(lines, i)));
-}
-
-fn write_lines(text: &[u8], lines: &[u16], n: usize) {
-    let mut i = 0;
-    while i < n {
-        if 0 < i {
-            io::write_all(1, b" ");
-        }
-        write_line(text, lines, i);
-        i += 1;
+    write_line(out, text, lines, 0)?;
+    for i in 1..n {
+        out.write_all(b" ")?;
+        write_line(out, text, lines, i)?;
     }
+    Ok(())
 }
 
-fn write_answer(text: &[u8], scratch: &mut [u16], types: usize) {
+fn write_answer<W: Write>(
+    out: &mut W,
+    text: &[u8],
+    scratch: &mut [u16],
+    types: usize,
+) -> io::Result<()>
+    ensures written { OnOk result (Appends (W.contents out.old) (W.contents out.new)
+        (answer_of text.now scratch.new (answer (load text.now types (length scratch.old))))) }
+    ensures scratch_after { scratch.new ≡ scratch_after text.now types scratch.old }
+{
     match sheet::load(text, scratch, types) {
         Answer::Lines(n) => {
-            io::write_all(1, b"0,");
-            io::print_decimal(1, n as u64);
-            io::write_all(1, b";");
-            write_lines(text, scratch, n);
+            write!(out, "0,{n};")?;
+            write_lines(out, text, scratch, n)?;
         }
-        Answer::Refused { number, line } => {
-            io::print_decimal(1, number as u64);
-            io::write_all(1, b",");
-            io::print_decimal(1, line as u64);
-        }
+        Answer::Refused { number, line } => write!(out, "{number},{line}")?,
     }
-    io::write_all(1, b"\n");
+    out.write_all(b"\n")
 }
 
 // Fills the sheet and writes its answer; whether there was as much.
-fn one(text: &mut [u8], scratch: &mut [u16], types: usize) -> bool {
-    if !frames::filled(text) {
-        return false;
+fn one<R: Read, W: Write>(
+    input: &mut R,
+    out: &mut W,
+    text: &mut [u8],
+    scratch: &mut [u16],
+    types: usize,
+) -> io::Result<bool>
+    ensures taken { IfOk result (TakesSheet (R.remaining input.old) (R.remaining input.new) text.new) }
+    ensures written { IfOk result (λ full. OnTrue full (Appends (W.contents out.old) (W.contents out.new)
+        (answer_of text.new scratch.new (answer (load text.new types (length scratch.old)))))) }
+{
+    if !frames::filled(input, text)? {
+        return Ok(false);
     }
-    write_answer(&text[..], scratch, types);
-    true
+    write_answer(out, text, scratch, types)?;
+    Ok(true)
 }
 
 // One sheet with its header; whether there was one.
-fn turn(text: &mut [u8], scratch: &mut [u16]) -> bool {
-    let Frame::Lent(lent) = frames::header() else {
-        return false;
+fn turn<R: Read, W: Write>(
+    input: &mut R,
+    out: &mut W,
+    text: &mut [u8],
+    scratch: &mut [u16],
+) -> io::Result<bool> {
+    let Frame::Lent(lent) = frames::header(input)? else {
+        return Ok(false);
     };
     let bytes = lent.sheet;
     let cells = lent.scratch;
     if text.len() < bytes {
-        return false;
+        return Ok(false);
     }
     if scratch.len() < cells {
-        return false;
+        return Ok(false);
     }
-    one(&mut text[..bytes], &mut scratch[..cells], lent.types)
+    one(
+        input,
+        out,
+        &mut text[..bytes],
+        &mut scratch[..cells],
+        lent.types,
+    )
 }
 
-fn main() {
+fn main(rt: HostRuntime) -> io::Result<()> {
+    let mut input = rt.stdin();
+    let mut out = rt.stdout();
     let mut text = [0u8; 32768];
     let mut scratch = [0u16; 32768];
-    let mut left: u32 = 100000;
-    while 0 < left {
-        if !turn(&mut text, &mut scratch) {
-            return;
+    for _ in 0..100000 {
+        if !turn(&mut input, &mut out, &mut text, &mut scratch)? {
+            break;
         }
-        left -= 1;
     }
+    Ok(())
 }

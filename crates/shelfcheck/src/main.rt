@@ -2,45 +2,49 @@
 // message, parted by commas.
 #![tactic(auto)]
 
-ghost use Rattle.std.specs.Prelude.{◌≤◌, length};
+ghost use Rattle.std.specs.Prelude.{◌≤◌, length, OnOk};
+ghost use Rattle.std.specs.Io.KnownBytes.{Appends};
+ghost use Rattle.shelfcheck.specs.Line.{line_of, message_part};
 
+use frames::read_full;
 use sheet::{CELLS_PER_LINE, limits};
+use std::io;
+use std::io::Write;
 use verdict::Answer;
 
 // The message has n bytes, and all of them are there.
-fn write_message(message: &[u8], n: usize)
+fn write_message<W: Write>(out: &mut W, message: &[u8], n: usize) -> io::Result<()>
     requires { n ≤ length message.now }
+    ensures { OnOk result (Appends (W.contents out.old) (W.contents out.new) (message_part message.now n)) }
 {
-    io::write_all(1, b",");
-    io::write_all(1, &message[..n]);
+    out.write_all(b",")?;
+    out.write_all(&message[..n])
 }
 
-fn write_answer(answer: Answer, message: &[u8])
+fn write_answer<W: Write>(out: &mut W, answer: Answer, message: &[u8]) -> io::Result<()>
     requires { answer.length ≤ length message.now }
+    ensures { OnOk result (Appends (W.contents out.old) (W.contents out.new) (line_of answer message.now)) }
 {
     if answer.number == 0 {
-        io::write_all(1, b"accepted\n");
-        return;
+        return out.write_all(b"accepted\n");
     }
-    io::print_decimal(1, answer.number as u64);
-    io::write_all(1, b",");
-    io::print_decimal(1, answer.place as u64);
+    write!(out, "{},{}", answer.number, answer.place)?;
     if 11 < answer.number {
-        write_message(message, answer.length as usize);
+        write_message(out, message, answer.length as usize)?;
     }
-    io::write_all(1, b"\n");
+    out.write_all(b"\n")
 }
 
 // No message is longer: the promise of `verdict`.
 const LONGEST: usize = 16384;
 
-fn main() {
+fn main(rt: HostRuntime) -> io::Result<()> {
     // A byte more than a sheet may have, so that a longer one is refused as too long.
     let mut sheet = [0u8; limits::MOST_BYTES + 1];
     let mut scratch = [0u16; CELLS_PER_LINE * limits::MOST_LINES];
     let mut types = [0u8; limits::MOST_LINES];
     let mut message = [0u8; LONGEST];
-    let got = io::read_full(0, &mut sheet);
+    let got = read_full(&mut rt.stdin(), &mut sheet)?;
     let answer = verdict::verdict(&sheet[..got], &mut scratch, &mut types, &mut message);
-    write_answer(answer, &message);
+    write_answer(&mut rt.stdout(), answer, &message)
 }

@@ -1,0 +1,27 @@
+-- What is written of a sheet that was read.
+use Rattle.std.specs.Prelude.{ℕ, List, ◌+◌, ◌++◌, cond, ltb, count_by, codes, decimal}
+use Rattle.std.specs.List.{join_by, range_with_len}
+use Rattle.sheet.specs.Scratch.{end_at}
+use Rattle.sheet.specs.Say.{word_at}
+use Rattle.sheet.specs.declared.loader.Answer.{Answer}
+use Rattle.sheet.specs.declared.loader.Answer.TheVariants.{Lines, Refused}
+
+-- a line's number, counted from 1, and 0 of a line that no sheet has
+abbrev pub from_one_of : ℕ → ℕ
+from_one_of i = cond (ltb i 65536) (i + 1) 0
+
+-- how many lines before line i have not ended
+abbrev pub depth_of : List ℕ → ℕ → ℕ
+depth_of S i = count_by (λ j. ltb i (end_at S j)) (range_with_len 0 i)
+
+-- the word, depth and end of line i of the sheet s, whose lines are loaded in S
+abbrev pub line_of : (s S : List ℕ) → ℕ → List ℕ
+line_of s S i = word_at s S i ++ codes ":" ++ decimal (depth_of S i) ++ codes ":" ++ decimal (from_one_of (end_at S i))
+
+-- the first n lines, parted by spaces
+abbrev pub lines_of : (s S : List ℕ) → ℕ → List ℕ
+lines_of s S n = join_by (line_of s S) (codes " ") (range_with_len 0 n)
+
+abbrev pub answer_of : (s S : List ℕ) → Answer → List ℕ
+answer_of s S (Lines n) = codes "0," ++ decimal n ++ codes ";" ++ lines_of s S n ++ codes "\n"
+answer_of s S (Refused number line) = decimal number ++ codes "," ++ decimal line ++ codes "\n"
