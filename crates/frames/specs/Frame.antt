@@ -1,5 +1,5 @@
 -- What a header says, and what reading it and its sheet does to the bytes of an input where those are known.
-use Rattle.std.specs.Prelude.{ℕ, Bool, true, false, List, length, slice_index, cond, ltb, ◌&&◌, ◌≡◌, ◌+◌, ◌-◌, ◌*◌, ◌<◌, Option}
+use Rattle.std.specs.Prelude.{ℕ, Bool, true, false, List, length, slice_index, cond, ltb, ◌&&◌, ◌≡◌, ◌++◌, ◌+◌, ◌-◌, ◌*◌, ◌<◌, Option}
 use Rattle.std.specs.Io.KnownBytes.{Consumes, IsAtEnd}
 use Rattle.frames.specs.declared.Frame.{Frame}
 use Rattle.frames.specs.declared.Frame.TheVariants.{Lent, Over}
@@ -35,3 +35,7 @@ TakesHeader old new Over = (part : List ℕ) × (length part < 24) × Consumes o
 abbrev pub TakesSheet : (old new : Option (List ℕ)) → List ℕ → Bool → Type 0
 TakesSheet old new sheet true = Consumes old new sheet
 TakesSheet old new sheet false = (part : List ℕ) × (length part < length sheet) × Consumes old new part × IsAtEnd new
+
+-- a header and the sheet behind it were taken from the bytes
+abbrev pub TakesFrame : (old new : Option (List ℕ)) → Lengths → List ℕ → Type 0
+TakesFrame old new lengths sheet = (head : List ℕ) × (length head ≡ 24) × (lengths ≡ lengths_of head) × Consumes old new (head ++ sheet)

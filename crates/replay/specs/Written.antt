@@ -1,7 +1,10 @@
 -- What is written of an answer and of what the lent buffers hold.
-use Rattle.std.specs.Prelude.{ℕ, List, ◌-◌, ◌++◌, ◌==◌, length, take, codes, decimal}
+use Rattle.std.specs.Prelude.{ℕ, List, Option, ◌≡◌, ◌-◌, ◌++◌, ◌==◌, min, length, take, codes, decimal}
 use Rattle.std.specs.List.{join_by, prefix_len, suffix_len}
+use Rattle.std.specs.Io.KnownBytes.{Appends}
 use Rattle.text.specs.Text.{copies}
+use Rattle.frames.specs.Frame.{TakesFrame}
+use Rattle.frames.specs.declared.Lengths.{Lengths}
 use Rattle.verdict.specs.Outcome.{outcome}
 use Rattle.verdict.specs.declared.Answer.{Answer}
 use Rattle.replay.specs.declared.noise.TheConstants.{BYTE, CELL}
@@ -38,3 +41,10 @@ unfoldable pub line_for : (s : List ℕ) (cells types room : ℕ) → List ℕ
 line_for s cells types room =
     let o = outcome s (copies cells CELL) (copies types BYTE) (copies room BYTE) in
     line_of o.answer o.scratch o.types o.message
+
+-- a frame was taken from the input, its sheet as far as there was room for it, and the line for it written, with at most so many
+-- cells and bytes lent
+abbrev pub AnswersFrame : (input input' out out' : Option (List ℕ)) (bytes cells types room : ℕ) → Type 0
+AnswersFrame input input' out out' bytes cells types room =
+    (lengths : Lengths) × (s : List ℕ) × (length s ≡ min lengths.sheet bytes) × TakesFrame input input' lengths s
+    × Appends out out' (line_for s (min lengths.scratch cells) (min lengths.types types) (min lengths.message room))

@@ -9,11 +9,11 @@
 
 mod noise;
 
-ghost use Rattle.std.specs.Prelude.{◌≡◌, ◌≤◌, length, IfOk, OnOk};
-ghost use Rattle.std.specs.Io.KnownBytes.{Appends};
-ghost use Rattle.std.specs.Bool.{OnTrue};
+ghost use Rattle.std.specs.Prelude.{◌≡◌, ◌≤◌, min, length, IfOk, OnOk};
+ghost use Rattle.std.specs.Io.KnownBytes.{Appends, IsAtEnd};
+ghost use Rattle.std.specs.Bool.{OnFalse, OnTrue};
 ghost use Rattle.frames.specs.Frame.{TakesSheet};
-ghost use Rattle.replay.specs.Written.{four_of, held_of, line_for, line_of, types_of};
+ghost use Rattle.replay.specs.Written.{AnswersFrame, four_of, held_of, line_for, line_of, types_of};
 
 use frames::Frame;
 use noise::{BYTE, CELL, before_noise, before_noise_u16, zeros};
@@ -123,7 +123,8 @@ fn one<R: Read, W: Write>(
 }
 
 fn at_most(n: usize, most: usize) -> usize
-    ensures { result ≤ most }
+    ensures upper_bound { result ≤ most }
+    ensures value { result ≡ min n most }
 {
     if most < n { most } else { n }
 }
@@ -136,7 +137,12 @@ fn turn<R: Read, W: Write>(
     scratch: &mut [u16],
     types: &mut [u8],
     message: &mut [u8],
-) -> io::Result<bool> {
+) -> io::Result<bool>
+    ensures answered { IfOk result (λ there. OnTrue there (AnswersFrame (R.remaining input.old) (R.remaining input.new)
+        (W.contents out.old) (W.contents out.new)
+        (length sheet.old) (length scratch.old) (length types.old) (length message.old))) }
+    ensures ended { IfOk result (λ there. OnFalse there (IsAtEnd (R.remaining input.new))) }
+{
     let Frame::Lent(lent) = frames::header(input)? else {
         return Ok(false);
     };

@@ -1,6 +1,11 @@
 -- What is written of a sheet that was read.
-use Rattle.std.specs.Prelude.{ℕ, List, ◌+◌, ◌++◌, cond, ltb, count_by, codes, decimal}
+use Rattle.std.specs.Prelude.{ℕ, List, Option, ◌≡◌, ◌≤◌, ◌+◌, ◌++◌, length, take, cond, ltb, count_by, codes, decimal}
 use Rattle.std.specs.List.{join_by, range_with_len}
+use Rattle.std.specs.Io.KnownBytes.{Appends}
+use Rattle.frames.specs.Frame.{TakesFrame}
+use Rattle.frames.specs.declared.Lengths.{Lengths}
+use Rattle.sheet.specs.Load.{load}
+use Rattle.sheet.specs.Promise.{answer, scratch_after}
 use Rattle.sheet.specs.Scratch.{end_at}
 use Rattle.sheet.specs.Say.{word_at}
 use Rattle.sheet.specs.declared.loader.Answer.{Answer}
@@ -22,6 +27,17 @@ line_of s S i = word_at s S i ++ codes ":" ++ decimal (depth_of S i) ++ codes ":
 abbrev pub lines_of : (s S : List ℕ) → ℕ → List ℕ
 lines_of s S n = join_by (line_of s S) (codes " ") (range_with_len 0 n)
 
+-- an answer, and the lines if the sheet was read
 abbrev pub answer_of : (s S : List ℕ) → Answer → List ℕ
 answer_of s S (Lines n) = codes "0," ++ decimal n ++ codes ";" ++ lines_of s S n ++ codes "\n"
 answer_of s S (Refused number line) = decimal number ++ codes "," ++ decimal line ++ codes "\n"
+
+-- what is written of the sheet s, read with the scratch S and a type table of so many bytes
+unfoldable pub text_for : (s S : List ℕ) (types : ℕ) → List ℕ
+text_for s S types = answer_of s (scratch_after s types S) (answer (load s types (length S)))
+
+-- a frame was taken from the input, and what its sheet gives with the scratch S was written
+abbrev pub AnswersFrame : (input input' out out' : Option (List ℕ)) (S : List ℕ) → Type 0
+AnswersFrame input input' out out' S =
+    (lengths : Lengths) × (s : List ℕ) × (length s ≡ lengths.sheet) × (lengths.scratch ≤ length S) × TakesFrame input input' lengths s
+    × Appends out out' (text_for s (take lengths.scratch S) lengths.types)

@@ -2,13 +2,11 @@
 // number and place, or the number of lines and each line's word, depth and end.
 #![tactic(auto)]
 
-ghost use Rattle.std.specs.Prelude.{◌≡◌, length, IfOk, OnOk};
+ghost use Rattle.std.specs.Prelude.{◌≡◌, IfOk, OnOk};
 ghost use Rattle.std.specs.Bool.{OnTrue};
 ghost use Rattle.std.specs.Io.KnownBytes.{Appends};
 ghost use Rattle.frames.specs.Frame.{TakesSheet};
-ghost use Rattle.sheet.specs.Load.{load};
-ghost use Rattle.sheet.specs.Promise.{answer, scratch_after};
-ghost use Rattle.replay_reader.specs.Written.{answer_of, depth_of, from_one_of, line_of, lines_of};
+ghost use Rattle.replay_reader.specs.Written.{answer_of, AnswersFrame, depth_of, from_one_of, line_of, lines_of, text_for};
 
 use frames::Frame;
 use sheet::Answer;
@@ -52,24 +50,31 @@ fn write_lines<W: Write>(out: &mut W, text: &[u8], lines: &[u16], n: usize) -> i
     Ok(())
 }
 
+// The lines are those of a sheet that was read.
+fn write_loaded<W: Write>(out: &mut W, text: &[u8], lines: &[u16], answer: Answer) -> io::Result<()>
+    ensures { OnOk result (Appends (W.contents out.old) (W.contents out.new) (answer_of text.now lines.now answer)) }
+{
+    match answer {
+        Answer::Lines(n) => {
+            write!(out, "0,{n};")?;
+            write_lines(out, text, lines, n)?;
+        }
+        Answer::Refused { number, line } => write!(out, "{number},{line}")?,
+    }
+    out.write_all(b"\n")
+}
+
+#[tactic(auto, unfolding(crate::specs::Written::text_for))]
 fn write_answer<W: Write>(
     out: &mut W,
     text: &[u8],
     scratch: &mut [u16],
     types: usize,
 ) -> io::Result<()>
-    ensures written { OnOk result (Appends (W.contents out.old) (W.contents out.new)
-        (answer_of text.now scratch.new (answer (load text.now types (length scratch.old))))) }
-    ensures scratch_after { scratch.new ≡ scratch_after text.now types scratch.old }
+    ensures { OnOk result (Appends (W.contents out.old) (W.contents out.new) (text_for text.now scratch.old types)) }
 {
-    match sheet::load(text, scratch, types) {
-        Answer::Lines(n) => {
-            write!(out, "0,{n};")?;
-            write_lines(out, text, scratch, n)?;
-        }
-        Answer::Refused { number, line } => write!(out, "{number},{line}")?,
-    }
-    out.write_all(b"\n")
+    let answer = sheet::load(text, scratch, types);
+    write_loaded(out, text, scratch, answer)
 }
 
 // Fills the sheet and writes its answer; whether there was as much.
@@ -82,7 +87,7 @@ fn one<R: Read, W: Write>(
 ) -> io::Result<bool>
     ensures taken { IfOk result (TakesSheet (R.remaining input.old) (R.remaining input.new) text.new) }
     ensures written { IfOk result (λ full. OnTrue full (Appends (W.contents out.old) (W.contents out.new)
-        (answer_of text.new scratch.new (answer (load text.new types (length scratch.old)))))) }
+        (text_for text.new scratch.old types))) }
 {
     if !frames::filled(input, text)? {
         return Ok(false);
@@ -97,7 +102,10 @@ fn turn<R: Read, W: Write>(
     out: &mut W,
     text: &mut [u8],
     scratch: &mut [u16],
-) -> io::Result<bool> {
+) -> io::Result<bool>
+    ensures { IfOk result (λ there. OnTrue there (AnswersFrame (R.remaining input.old) (R.remaining input.new)
+        (W.contents out.old) (W.contents out.new) scratch.old)) }
+{
     let Frame::Lent(lent) = frames::header(input)? else {
         return Ok(false);
     };

@@ -4,12 +4,12 @@
 
 ghost use Rattle.std.specs.Prelude.{◌≤◌, length, OnOk};
 ghost use Rattle.std.specs.Io.KnownBytes.{Appends};
-ghost use Rattle.shelfcheck.specs.Line.{line_of, message_part};
+ghost use Rattle.shelfcheck.specs.Line.{AnswersSheet, line_of, message_part};
 
 use frames::read_full;
 use sheet::{CELLS_PER_LINE, limits};
 use std::io;
-use std::io::Write;
+use std::io::{Read, Write};
 use verdict::Answer;
 
 // The message has n bytes, and all of them are there.
@@ -38,13 +38,21 @@ fn write_answer<W: Write>(out: &mut W, answer: Answer, message: &[u8]) -> io::Re
 // No message is longer: the promise of `verdict`.
 const LONGEST: usize = 16384;
 
-fn main(rt: HostRuntime) -> io::Result<()> {
+// Judges the sheet that the input holds.
+#[tactic(auto, unfolding(crate::specs::Line::line_for))]
+fn judge<R: Read, W: Write>(input: &mut R, out: &mut W) -> io::Result<()>
+    ensures { OnOk result (AnswersSheet (R.remaining input.old) (R.remaining input.new) (W.contents out.old) (W.contents out.new)) }
+{
     // A byte more than a sheet may have, so that a longer one is refused as too long.
     let mut sheet = [0u8; limits::MOST_BYTES + 1];
     let mut scratch = [0u16; CELLS_PER_LINE * limits::MOST_LINES];
     let mut types = [0u8; limits::MOST_LINES];
     let mut message = [0u8; LONGEST];
-    let got = read_full(&mut rt.stdin(), &mut sheet)?;
+    let got = read_full(input, &mut sheet)?;
     let answer = verdict::verdict(&sheet[..got], &mut scratch, &mut types, &mut message);
-    write_answer(&mut rt.stdout(), answer, &message)
+    write_answer(out, answer, &message)
+}
+
+fn main(rt: HostRuntime) -> io::Result<()> {
+    judge(&mut rt.stdin(), &mut rt.stdout())
 }
