@@ -3,8 +3,8 @@
 
 usage: python3 tools/respell.py [--look]     at the top of the repository; --look writes nothing
 
-A definition in camel case, as `valueFrom`, is `value_from`. In the name of a lemma a dash stays where both of the words
-beside it are names of definitions, as in `length-copies`; elsewhere it is `_`. A lemma that would have the name of a
+A definition in camel case, as `valueFrom`, is `value_from`. In the name of a lemma a dash stays where names of two definitions
+meet, as in `length-copies`; elsewhere, and in members of records and data, it is `_`. A lemma that would have the name of a
 definition ends in `_lem`. Types, modules and constructors keep their names, as do all names of Rattle source: functions,
 constants, fields and variants, what is exported to C, texts and inputs. Names of the library and those that the prover
 makes are not touched.
@@ -22,6 +22,16 @@ STRING = re.compile(r'"(?:[^"\\]|\\.)*"')
 WORDS = set("length append take drop map cond replicate sum reverse set get_or".split())
 # definitions whose names are everyday words, which a lemma's name has as such
 PLAIN = set("all any none at one".split())
+# definitions that proofs/ makes for itself, which were in camel case
+OWN = set(
+    """
+    all_exprs all_pairs arg_of_kind arity_by asset_of bind_res body_pairs bound_r bytes_upto calls_in caps_any cells_of dot_types
+    ends_behind entries_of entry_in event_in event_name exprs_in field_in fourteen_more in_body in_clauses in_fields in_first in_items
+    item_exprs item_pairs items_of last_put leaf_at left_uses literal_rule map_told method_types name_of name_rule of_literal of_slot
+    one_key out_at out_of outs_at param_ty parts_of places_from plain_tags setting_of starts_any target_in terms_any terms_of
+    type_most unbounded_in values_in with_env words_in wrap_rule
+    """.split()
+)
 # names that the prover reads in a function's folder, and names of operators
 KEPT = re.compile(r"^[^A-Za-z]|^(?:returns|loop|invariant|decreases)(?:-|$)|◌|^[A-Z]")
 
@@ -51,21 +61,30 @@ def own_room(path, root):
 
 
 def declared(root):
-    specs, proofs = set(), set()
+    """The definitions of specs/, the names that proofs/ declares, and the members of records and data."""
+    specs, proofs, members = set(), set(), set()
     for path in files(root):
         if not own_room(path, root):
             continue
         into = specs if os.sep + "specs" + os.sep in path else proofs
+        inside = None
         for line in open(path, encoding="utf-8"):
             line = line.split("--")[0].rstrip()
+            if not line:
+                continue
+            indent = len(line) - len(line.lstrip())
+            if inside is not None and indent <= inside:
+                inside = None
             m = NAMED.match(line)
             if m:
                 into.add(m.group(1))
+                if not re.match(r"\s*(?:(?:abbrev|unfoldable|pub) )*ruleset", line):
+                    inside = indent
                 continue
             m = HEAD.match(line)
             if m and m.group(3) not in ("where", "in", "→"):
-                into.add(m.group(3))
-    return specs, proofs
+                (into if inside is None else members).add(m.group(3))
+    return specs, proofs, members
 
 
 def spoken(root):
@@ -79,21 +98,37 @@ def spoken(root):
     return found
 
 
+def joined(name, words):
+    """The name with a dash where two definitions' names meet, and `_` elsewhere."""
+    parts = name.split("-")
+    whole = []
+    while parts:
+        n = next((k for k in range(len(parts), 1, -1) if "_".join(parts[:k]) in words), 1)
+        whole.append("_".join(parts[:n]))
+        parts = parts[n:]
+    out = whole[0]
+    for a, b in zip(whole, whole[1:]):
+        out += ("-" if a in words and b in words else "_") + b
+    return out
+
+
 def table(root):
-    specs, proofs = declared(root)
-    taken = {snake(n) for n in specs if "-" not in n}
-    words = {n for n in taken if len(n) > 1 and n not in PLAIN} | WORDS
-    taken |= {snake(n) for n in proofs if snake(n) != n and "-" not in n}
+    specs, proofs, members = declared(root)
+    defined = {snake(n) for n in specs if "-" not in n}
+    words = {n for n in defined if len(n) > 1 and n not in PLAIN} | WORDS
+    taken = defined | OWN
     turned = {}
-    for n in sorted(specs | proofs):
+    for n in sorted(specs | proofs | members):
         if KEPT.search(n):
             continue
-        parts = snake(n).split("-")
-        new = parts[0]
-        for a, b in zip(parts, parts[1:]):
-            new += ("-" if a in words and b in words else "_") + b
-        if n in proofs and n not in specs and new in taken and snake(n) == n:
-            new += "_lem"
+        plain = snake(n).replace("-", "_")
+        lemma = n in proofs and n not in specs and snake(n) == n
+        if lemma and plain in taken and n not in OWN:
+            new = plain + "_lem"
+        elif n in members:
+            new = plain
+        else:
+            new = joined(snake(n), words)
         if new != n:
             turned[n] = new
     return turned
@@ -131,6 +166,39 @@ def clause_only(line, turned):
     return TOKEN.sub(lambda t: spoken.get(t.group(0), t.group(0)), line)
 
 
+# Lemmas that have the name of a definition which their files do not see: the file, and the name as port.py leaves it
+ALONE = {
+    "lookups/proofs/Codes.antt": ["code-of"],
+    "grammar/proofs/KindLaws.antt": ["kind-at"],
+    "grammar/proofs/TableLaws.antt": ["number-at"],
+    "rules/proofs/Forest.antt": ["left-at"],
+    "rules/proofs/Standing.antt": ["first-of"],
+    "arithmetic/proofs/Rows.antt": ["parts-of"],
+    "arithmetic/proofs/Adding.antt": ["is-set"],
+    "refusals/proofs/Tags.antt": ["number-of"],
+}
+
+
+def alone(root):
+    """Renames each such lemma in its file and in those that import it from there."""
+    for where, names in ALONE.items():
+        crate, _, file = where.split("/")
+        module = f"Rattle.{crate}.proofs.{file[:-5]}"
+        for path in files(root):
+            if not path.endswith(".antt"):
+                continue
+            text = open(path, encoding="utf-8").read()
+            new = text
+            for n in names:
+                u = n.replace("-", "_")
+                imports = re.search(r"(?m)^use " + re.escape(module) + r"\.\{[^}]*(?<![\w-])" + re.escape(u) + r"(?![\w-])", new)
+                if path.endswith(os.path.join("crates", *where.split("/"))) or imports:
+                    new = re.sub(r"(?<![\w.\-])" + re.escape(u) + r"(?![\w\-])", u + "_lem", new)
+            if new != text:
+                with open(path, "w", encoding="utf-8") as f:
+                    f.write(new)
+
+
 def main(argv):
     root = os.getcwd()
     turned = table(root)
@@ -162,6 +230,8 @@ def main(argv):
             if "--look" not in argv:
                 with open(path, "w", encoding="utf-8") as f:
                     f.write(new)
+    if "--look" not in argv:
+        alone(root)
     for n in sorted(both):
         for olds, where in both[n].items():
             print("together:", n, olds, " ".join(where[:4]))

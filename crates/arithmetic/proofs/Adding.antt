@@ -18,7 +18,7 @@ use Rattle.rules.proofs.Exprs.{by_kind}
 use Rattle.text.proofs.Tests.{or_parts}
 use Rattle.lookups.specs.Lines.{ExprAt}
 use Rattle.arithmetic.specs.Tests.{others, added, adds_unbounded}
-use Rattle.arithmetic.proofs.Ops.{op-place}
+use Rattle.arithmetic.proofs.Ops.{op_place_lem}
 use Rattle.grammar.specs.Kinds as kinds
 use Rattle.grammar.specs.Operators as ops
 
@@ -29,16 +29,16 @@ module _ (s S : List ℕ) (i : ℕ) (h : ExprAt s S i) where
   unfolding is_sum is_op op_place
   sum_at =
       by_kind h.loaded h.here (λ k e. is_sum e ≡ (eqb k kinds.bin && eqb (op_at S i) ops.bin_add))
-      (λ k _ b. rw (ne_eqb k kinds.bin (omega arith)) refl) refl (op-place (op_at S i) ops.bin_add (omega arith)) refl refl (λ k w a. rw (ne_eqb k kinds.bin (omega arith)) refl)
+      (λ k _ b. rw (ne_eqb k kinds.bin (omega arith)) refl) refl (op_place_lem (op_at S i) ops.bin_add (omega arith)) refl refl (λ k w a. rw (ne_eqb k kinds.bin (omega arith)) refl)
 
 -- ------------------------------------------------------------ adds_unbounded
 
 -- any other operator's number is that of `set`
-set-op : (o : ℕ) → o ≢ ops.assign_add → o ≢ ops.assign_sub → get_or assign_ops o Set ≡ Set
-set-op zero m n = refl
-set-op (suc zero) m n = absurd (m refl)
-set-op (suc (suc zero)) m n = absurd (n refl)
-set-op (suc (suc (suc o))) m n = refl
+set_op : (o : ℕ) → o ≢ ops.assign_add → o ≢ ops.assign_sub → get_or assign_ops o Set ≡ Set
+set_op zero m n = refl
+set_op (suc zero) m n = absurd (m refl)
+set_op (suc (suc zero)) m n = absurd (n refl)
+set_op (suc (suc (suc o))) m n = refl
 
 module _ (E : Entry) (op : AssignOp) (T W : Expr) where
   pub adds_acknowledged : acknowledged W ≡ true → adds_unbounded E op T W ≡ false
@@ -79,18 +79,18 @@ module _ (s S : List ℕ) (E : Entry) (T : Expr) (o i : ℕ) (h : ExprAt s S i) 
     adds_all r q g = g ∙ sym (by_addends ∙ rw q refl)
 
     module _ (n : o ≢ ops.assign_add) (b : Bool) (t : b ≡ (eqb (kind_at S i) kinds.bin && eqb (op_at S i) ops.bin_add)) where
-      is_set : adds_unbounded E (get_or assign_ops o Set) T (expr_at s i) ≡ added E (elim b [ true ↦ without T (sum_terms (expr_at s i)) | false ↦ none ])
+      is_set_lem : adds_unbounded E (get_or assign_ops o Set) T (expr_at s i) ≡ added E (elim b [ true ↦ without T (sum_terms (expr_at s i)) | false ↦ none ])
       unfolding addends
-      is_set = by_addends ∙ rw (set-op o n (eqb-false o ops.assign_sub both.0), addends, sum_at s S i h, ← t) refl
+      is_set_lem = by_addends ∙ rw (set_op o n (eqb-false o ops.assign_sub both.0), addends, sum_at s S i h, ← t) refl
 
       pub adds_no_sum : not b ≡ true → false ≡ adds_unbounded E (get_or assign_ops o Set) T (expr_at s i)
       unfolding added
-      adds_no_sum q = sym (is_set ∙ rw (not-true b q) refl)
+      adds_no_sum q = sym (is_set_lem ∙ rw (not-true b q) refl)
 
       module _ (q : not b ≡ false) (c : Bool) (g : c ≡ is_some (without T (sum_terms (expr_at s i)))) where
         pub adds_no_target : not c ≡ true → false ≡ adds_unbounded E (get_or assign_ops o Set) T (expr_at s i)
         unfolding added is_some
-        adds_no_target u = sym (is_set ∙ rw (not-false b q) (by_cases (without T (sum_terms (expr_at s i))) (sym g ∙ not-true c u)))
+        adds_no_target u = sym (is_set_lem ∙ rw (not-false b q) (by_cases (without T (sum_terms (expr_at s i))) (sym g ∙ not-true c u)))
           where
             by_cases : (x : Option (List Expr)) → is_some x ≡ false → added E x ≡ false
             by_cases none y = refl
@@ -98,7 +98,7 @@ module _ (s S : List ℕ) (E : Entry) (T : Expr) (o i : ℕ) (h : ExprAt s S i) 
 
         pub adds_others : (r : Bool) → not c ≡ false → r ≡ any (λ t. not (bounded E t)) (others true T (sum_terms (expr_at s i))) → r ≡ adds_unbounded E (get_or assign_ops o Set) T (expr_at s i)
         unfolding added is_some others
-        adds_others r u v = v ∙ sym (is_set ∙ rw (not-false b q, others) (by_cases (without T (sum_terms (expr_at s i))) (sym g ∙ not-false c u)))
+        adds_others r u v = v ∙ sym (is_set_lem ∙ rw (not-false b q, others) (by_cases (without T (sum_terms (expr_at s i))) (sym g ∙ not-false c u)))
           where
             by_cases : (x : Option (List Expr)) → is_some x ≡ true
                 → added E x ≡ any (λ t. not (bounded E t)) (elim x as (λ _. List Expr) [ none ↦ sum_terms (expr_at s i) | some us ↦ us ])

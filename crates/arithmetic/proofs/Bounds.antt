@@ -36,7 +36,7 @@ use Rattle.lookups.proofs.Finding.{among_last}
 use Rattle.lookups.proofs.Types.{named_word}
 use Rattle.arithmetic.specs.Tests.{names, amount_bounded}
 use Rattle.arithmetic.proofs.Ops.{fits_next}
-use Rattle.arithmetic.proofs.Rows.{parts_of}
+use Rattle.arithmetic.proofs.Rows.{parts_of_lem}
 use Rattle.grammar.specs.Kinds as kinds
 
 both_not : (a b : Bool) → b ≡ false → (a && b) ≡ false
@@ -49,15 +49,15 @@ both_yes false b e = refl
 
 -- ------------------------------------------------------------ is_param
 
-some-map : {A B : Type 0} (f : A → B) (o : Option A) → is_some (Option.map f o) ≡ is_some o
+some_map : {A B : Type 0} (f : A → B) (o : Option A) → is_some (Option.map f o) ≡ is_some o
 unfolding is_some
-some-map f none = refl
-some-map f (some a) = refl
+some_map f none = refl
+some_map f (some a) = refl
 
 -- a parameter of the name has a type
-pub typed-names : (x : Name) (ps : List Param) → is_some (get x (param_types ps)) ≡ among x (names ps)
+pub typed_names : (x : Name) (ps : List Param) → is_some (get x (param_types ps)) ≡ among x (names ps)
 unfolding get param_types is_some
-typed-names x ps =
+typed_names x ps =
     rw (get, last_map {B = Name × Ty} (λ p. (p.name, ty_of_decl p.ty)) (λ e. e.0) (λ p. p.name) x (λ p. refl) ps)
     (by_cases (last_named (λ p. p.name) x ps) ∙ sym (among_last (λ p. p.name) x ps))
   where
@@ -69,19 +69,19 @@ typed-names x ps =
 -- What `is_param` meets: m parameters.
 module _ (s S : List ℕ) (i m : ℕ) (h : EntryAt s S i) (c : m ≡ param_count S i) where
   pub params_stretch : Stretch s S m (i + 1)
-  params_stretch = rw (c, add-one i) (record { loaded = h.loaded; sort = grammar.Param; row = (parts_of s S i h).params })
+  params_stretch = rw (c, add-one i) (record { loaded = h.loaded; sort = grammar.Param; row = (parts_of_lem s S i h).params })
 
   module _ (x : Name) (r : Found) (l : Last s S kinds.param x m (i + 1) r) where
     by_search : among x (names (entry_at s i).params) ≡ is_some (found_node s r)
     unfolding params_at
     by_search =
-        let q = parts_of s S i h in
+        let q = parts_of_lem s S i h in
         let ns = nodes_at s (param_count S i) (suc i) in
         let all : of_kind kinds.param ns ≡ ns = all_kind kinds.param (λ i a. omega (arith, a.kind.0, a.kind.1)) h.loaded q.params in
         rw q.is
         (among_last (λ p. p.name) x (map param_of ns)
         ∙ ap is_some (last_map param_of (λ p. p.name) node_name x param-name ns)
-        ∙ some-map param_of (last_named node_name x ns)
+        ∙ some_map param_of (last_named node_name x ns)
         ∙ rw (l.found, c, add-one i, all) refl)
 
     pub a_param : (j : ℕ) → r ≡ At j → true ≡ among x (names (entry_at s i).params)
@@ -101,8 +101,8 @@ module _ (s S : List ℕ) (i : ℕ) (x n : Name) (b : Bool) (h : RecordAt gramma
       let p = param_at_lem h.loaded h.here.within (omega (arith, h.here.kind.0, h.here.kind.1)) in
       (p.0, record { loaded = h.loaded; here = p.1 })
 
-  pub asset-next : length S < 18446744073709551616 → Fits w64 (i + 1)
-  asset-next l = fits_next S i h.here.within l
+  pub asset_next : length S < 18446744073709551616 → Fits w64 (i + 1)
+  asset_next l = fits_next S i h.here.within l
 
   pub other_name : not b ≡ true → false ≡ (is_asset_param (param_at s i) && same x (param_at s i).name)
   other_name f = sym (both_not (is_asset_param (param_at s i)) (same x (param_at s i).name) (rw (the_param.0, ← e, ← q) (not-true b f)))

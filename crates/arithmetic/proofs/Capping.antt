@@ -26,7 +26,7 @@ use Rattle.rules.proofs.Records.{limits_at}
 use Rattle.text.proofs.Tests.{or_parts}
 use Rattle.lookups.specs.Lines.{ExprAt, RecordAt}
 use Rattle.arithmetic.specs.Tests.{compares}
-use Rattle.arithmetic.proofs.Ops.{op-place, either, fits_next, the_bin, the_op}
+use Rattle.arithmetic.proofs.Ops.{op_place_lem, either, fits_next, the_bin, the_op}
 use Rattle.arithmetic.proofs.Rows.{no_limits}
 use Rattle.arithmetic.proofs.Walks.{walk_here}
 use Rattle.grammar.specs.Kinds as kinds
@@ -40,7 +40,7 @@ module _ (s S : List ℕ) (i : ℕ) (x : Name) (h : ExprAt s S i) (b : Bool) (t 
   unfolding subtracts is_op op_place
   no_difference q =
       by_kind h.loaded h.here (λ k e. (eqb k kinds.bin && eqb (op_at S i) ops.bin_sub) ≡ false → false ≡ subtracts e x)
-      (λ k _ _ _. refl) (λ _. refl) (λ e. rw (op-place (op_at S i) ops.bin_sub (omega arith), e) refl) (λ _. refl) (λ _. refl) (λ k w _ _. refl)
+      (λ k _ _ _. refl) (λ _. refl) (λ e. rw (op_place_lem (op_at S i) ops.bin_sub (omega arith), e) refl) (λ _. refl) (λ _. refl) (λ k w _ _. refl)
       (sym t ∙ not-true b q)
 
   module _ (q : not b ≡ false) (j : ℕ) (f : j ≡ end_at S (i + 1)) (m : Bool) (r : m ≡ mentions (expr_at s j) x) where
@@ -91,9 +91,9 @@ module _ (s S : List ℕ) (i : ℕ) (x : Name) (h : ExprAt s S i) (k : ℕ) (e :
         u ∙ sym (by_op ∙ either (λ o. compares (binary i (span_at s S i) (get_or bin_ops o Shr) a b) x ≡ upper_bounds a b x) o ops.bin_le ops.bin_lt t (or-false _) (or-false _))
 
     module _ (t : (eqb o ops.bin_le || eqb o ops.bin_lt) ≡ false) where
-      pub compares-above : (r : Bool) → (eqb o ops.bin_ge || eqb o ops.bin_gt) ≡ true → r ≡ upper_bounds (expr_at s j) (expr_at s (i + 1)) x → r ≡ compares (expr_at s i) x
+      pub compares_above : (r : Bool) → (eqb o ops.bin_ge || eqb o ops.bin_gt) ≡ true → r ≡ upper_bounds (expr_at s j) (expr_at s (i + 1)) x → r ≡ compares (expr_at s i) x
       unfolding compares is_op op_place
-      compares-above r v u =
+      compares_above r v u =
           u ∙ sym (by_op ∙ either (λ o. compares (binary i (span_at s S i) (get_or bin_ops o Shr) a b) x ≡ upper_bounds b a x) o ops.bin_ge ops.bin_gt v refl refl)
 
       pub compares_not : (eqb o ops.bin_ge || eqb o ops.bin_gt) ≡ false → false ≡ compares (expr_at s i) x
@@ -102,7 +102,7 @@ module _ (s S : List ℕ) (i : ℕ) (x : Name) (h : ExprAt s S i) (k : ℕ) (e :
           let y = or_parts (eqb o ops.bin_le) (eqb o ops.bin_lt) t in
           let z = or_parts (eqb o ops.bin_ge) (eqb o ops.bin_gt) v in
           sym (by_op
-          ∙ rw (op-place o ops.bin_le (omega arith), op-place o ops.bin_lt (omega arith), op-place o ops.bin_ge (omega arith), op-place o ops.bin_gt (omega arith), y.0, y.1, z.0, z.1) refl)
+          ∙ rw (op_place_lem o ops.bin_le (omega arith), op_place_lem o ops.bin_lt (omega arith), op_place_lem o ops.bin_ge (omega arith), op_place_lem o ops.bin_gt (omega arith), y.0, y.1, z.0, z.1) refl)
 
 -- ------------------------------------------------------------ caps_from_above
 
@@ -135,7 +135,7 @@ module _ (s S : List ℕ) (i : ℕ) (x : Name) (h : ExprAt s S i) (b : Bool) (t 
   unfolding caps_from_above compares is_op op_place
   caps_other q =
       by_kind h.loaded h.here (λ k e. (eqb k kinds.bin && eqb (op_at S i) ops.bin_and) ≡ false → caps_from_above e x ≡ compares e x)
-      (λ k _ _ _. refl) (λ _. refl) (λ e. rw (op-place (op_at S i) ops.bin_and (omega arith), e) refl) (λ _. refl) (λ _. refl) (λ k w _ _. refl)
+      (λ k _ _ _. refl) (λ _. refl) (λ e. rw (op_place_lem (op_at S i) ops.bin_and (omega arith), e) refl) (λ _. refl) (λ _. refl) (λ k w _ _. refl)
       (sym t ∙ q)
 
 module _ (s S : List ℕ) (x : Name) (whole : Bool) (end at : ℕ) (w : Caps s S x whole end at) where
@@ -171,8 +171,8 @@ module _ (s S : List ℕ) (i k : ℕ) (h : RecordAt grammar.Clause s S i) (e : k
   other_clause x n = sym (no_limits h.loaded h.here x (rw (← e) n))
 
   module _ (q : k ≡ kinds.limits) where
-    pub limits-expr : ExprAt s S (i + 1)
-    limits-expr = rw (add-one i) (record { loaded = h.loaded; here = row_first (limits_at h.loaded h.here (sym e ∙ q)).1 })
+    pub limits_expr : ExprAt s S (i + 1)
+    limits_expr = rw (add-one i) (record { loaded = h.loaded; here = row_first (limits_at h.loaded h.here (sym e ∙ q)).1 })
 
     pub limits_clause : (x : Name) (r : Bool) → r ≡ caps_from_above (expr_at s (i + 1)) x → r ≡ limits_cap x (clause_at s i)
     unfolding limits_cap

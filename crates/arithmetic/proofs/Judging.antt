@@ -34,8 +34,8 @@ use Rattle.lookups.proofs.Rows.{Turn}
 use Rattle.refusals.proofs.Answers.{gives, fits, misfits}
 use Rattle.arithmetic.specs.Tests.{names, added, adds_unbounded}
 use Rattle.arithmetic.proofs.Ops.{fits_next}
-use Rattle.arithmetic.proofs.Rows.{parts_of}
-use Rattle.arithmetic.proofs.Bounds.{typed-names}
+use Rattle.arithmetic.proofs.Rows.{parts_of_lem}
+use Rattle.arithmetic.proofs.Bounds.{typed_names}
 use Rattle.grammar.specs.Kinds as kinds
 
 -- ------------------------------------------------------------ an assignment
@@ -57,10 +57,10 @@ module _ (E : Entry) (ps : List (Name × Ty)) (at : ℕ) where
   judge_none (some ts) = gives tt
 
   module _ (x : Name) where
-    judge-fine : (o : Option (List Expr)) → ((is_some (get x ps) || not (added E o)) || limits_bound E x) ≡ true → Answers (judge (some x) o) (ok tt)
+    judge_fine : (o : Option (List Expr)) → ((is_some (get x ps) || not (added E o)) || limits_bound E x) ≡ true → Answers (judge (some x) o) (ok tt)
     unfolding if_some added
-    judge-fine none e = gives tt
-    judge-fine (some ts) e = fits _ 45 at (overflow_text x) e
+    judge_fine none e = gives tt
+    judge_fine (some ts) e = fits _ 45 at (overflow_text x) e
 
     judge-refused : (o : Option (List Expr)) → added E o ≡ true → is_some (get x ps) ≡ false → limits_bound E x ≡ false
         → Answers (judge (some x) o) (refused (record { number = 45; place = at; text = overflow_text x }))
@@ -84,24 +84,24 @@ or_true false = refl
 
 -- The target and the value of an assignment, a statement of the kind k at line i.
 module _ (s S : List ℕ) (i k : ℕ) (h : RecordAt grammar.Stmt s S i) (e : k ≡ kind_at S i) where
-  pub stmt-next : length S < 18446744073709551616 → Fits w64 (i + 1)
-  stmt-next l = fits_next S i h.here.within l
+  pub stmt_next : length S < 18446744073709551616 → Fits w64 (i + 1)
+  stmt_next l = fits_next S i h.here.within l
 
   module _ (q : k ≡ kinds.assign) where
     pub target_expr : ExprAt s S (i + 1)
     target_expr = rw (add-one i) (record { loaded = h.loaded; here = row_first (assign_at h.loaded h.here (sym e ∙ q)).1 })
 
-    pub value-expr : (j : ℕ) → j ≡ end_at S (i + 1) → ExprAt s S j
-    value-expr j f = rw (f, add-one i) (record { loaded = h.loaded; here = row_first (row_rest (assign_at h.loaded h.here (sym e ∙ q)).1) })
+    pub value_expr : (j : ℕ) → j ≡ end_at S (i + 1) → ExprAt s S j
+    value_expr j f = rw (f, add-one i) (record { loaded = h.loaded; here = row_first (row_rest (assign_at h.loaded h.here (sym e ∙ q)).1) })
 
 -- What `check_sum` meets: such a statement.
 module _ (s S : List ℕ) (E : Entry) (i k : ℕ) (h : RecordAt grammar.Stmt s S i) (e : k ≡ kind_at S i) where
   abbrev Judged : Done → Type 0
   Judged r = Answers (check_sum E (param_types E.params) (stmt_at s i)) (done_of s r)
 
-  pub other-stmt : k ≢ kinds.assign → Answers (check_sum E (param_types E.params) (stmt_at s i)) (done_of s Fine)
+  pub other_stmt : k ≢ kinds.assign → Answers (check_sum E (param_types E.params) (stmt_at s i)) (done_of s Fine)
   unfolding check_sum done_of
-  other-stmt n =
+  other_stmt n =
       pick {P = λ k. k ≢ kinds.assign → kind_at S i ≡ k → Judged Fine} {i = kinds.guard} {n = 5} (kind_at S i)
       ((λ _ q. rw (guard_at h.loaded h.here q).0 (gives tt))
       also (λ _ q. rw (let_at h.loaded h.here q).0 (gives tt))
@@ -147,24 +147,24 @@ module _ (s S : List ℕ) (E : Entry) (i k : ℕ) (h : RecordAt grammar.Stmt s S
         unfolding done_of
         fine m =
             the_sum (some (name_at s S (i + 1))) (ok tt) the_name
-            (judge-fine E (param_types E.params) (place_at s i) (name_at s S (i + 1)) (terms_of op T W) (rw adds m))
+            (judge_fine E (param_types E.params) (place_at s i) (name_at s S (i + 1)) (terms_of op T W) (rw adds m))
 
         pub adds_fine : not b ≡ true → Answers (check_sum E (param_types E.params) (stmt_at s i)) (done_of s Fine)
         adds_fine n = fine (rw (not-true b n, or_true) refl)
 
         module _ (n : not b ≡ false) (x : Name) (u : x ≡ name_at s S (i + 1)) (p : Bool) (v : p ≡ among x (names E.params)) where
           is-param : is_some (get (name_at s S (i + 1)) (param_types E.params)) ≡ p
-          is-param = typed-names (name_at s S (i + 1)) E.params ∙ rw (← u) (sym v)
+          is-param = typed_names (name_at s S (i + 1)) E.params ∙ rw (← u) (sym v)
 
-          pub param-fine : p ≡ true → Answers (check_sum E (param_types E.params) (stmt_at s i)) (done_of s Fine)
-          param-fine c = fine (rw (is-param, c) refl)
+          pub param_fine : p ≡ true → Answers (check_sum E (param_types E.params) (stmt_at s i)) (done_of s Fine)
+          param_fine c = fine (rw (is-param, c) refl)
 
           module _ (c : p ≡ false) (m : Bool) (z : m ≡ limits_bound E x) where
             is_bound : limits_bound E (name_at s S (i + 1)) ≡ m
             is_bound = rw (← u) (sym z)
 
-            pub limits-fine : m ≡ true → Answers (check_sum E (param_types E.params) (stmt_at s i)) (done_of s Fine)
-            limits-fine d = fine (rw (is_bound, d) (or_true (is_some (get (name_at s S (i + 1)) (param_types E.params)) || not b)))
+            pub limits_fine : m ≡ true → Answers (check_sum E (param_types E.params) (stmt_at s i)) (done_of s Fine)
+            limits_fine d = fine (rw (is_bound, d) (or_true (is_some (get (name_at s S (i + 1)) (param_types E.params)) || not b)))
 
             pub overflow : m ≡ false → Answers (check_sum E (param_types E.params) (stmt_at s i)) (done_of s (Refused (Overflow i)))
             unfolding done_of refusal_of
@@ -179,6 +179,6 @@ pub sums_start : (s S : List ℕ) (i left at : ℕ) → EntryAt s S i → at ≡
     → Turn grammar.Stmt stmts_at (check_sum (entry_at s i) (param_types (entry_at s i).params)) (check_arithmetic (entry_at s i) (param_types (entry_at s i).params)) s S left at
 unfolding check_arithmetic
 sums_start s S i left at h e l =
-    let q = parts_of s S i h in
+    let q = parts_of_lem s S i h in
     let b : (entry_at s i).body ≡ stmts_at s left at = rw (q.is, e, l) refl in
     record { loaded = h.loaded; row = rw (e, l) q.body; known = λ r a. subst (λ ss. Answers (for_each ss (check_sum (entry_at s i) (param_types (entry_at s i).params))) (done_of s r)) (sym b) a }

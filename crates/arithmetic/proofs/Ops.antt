@@ -35,9 +35,9 @@ last_one d (suc n) zero (x ∷ y ∷ xs) e h = absurd (let z : ◌≡◌ {A = �
 last_one d (suc n) (suc m) (x ∷ xs) e h = last_one d n m xs e (omega arith)
 
 -- the operator of number n stands at place n, but from the last on it is the last
-pub op-place : (n p : ℕ) → p < ops.bin_shr → eqb (op_place (get_or bin_ops n Shr)) p ≡ eqb n p
+pub op_place_lem : (n p : ℕ) → p < ops.bin_shr → eqb (op_place (get_or bin_ops n Shr)) p ≡ eqb n p
 unfolding op_place
-op-place n p h = by_cases (ltb n ops.bin_shr) refl
+op_place_lem n p h = by_cases (ltb n ops.bin_shr) refl
   where
     by_cases : (b : Bool) → ltb n ops.bin_shr ≡ b → eqb (op_place (get_or bin_ops n Shr)) p ≡ eqb n p
     by_cases true e =
@@ -48,8 +48,8 @@ op-place n p h = by_cases (ltb n ops.bin_shr) refl
         let q = ltb-false n ops.bin_shr e in
         rw (last_one Shr n ops.bin_shr bin_ops refl q, ne_eqb n p (omega arith), ne_eqb ops.bin_shr p (omega arith)) refl
 
-pub op-told : (S : List ℕ) (i o k p : ℕ) → k ≡ kind_at S i → p ≡ op_at S i → (eqb k kinds.bin && eqb p o) ≡ (eqb (kind_at S i) kinds.bin && eqb (op_at S i) o)
-op-told S i o k p e f = rw (e, f) refl
+pub op_told : (S : List ℕ) (i o k p : ℕ) → k ≡ kind_at S i → p ≡ op_at S i → (eqb k kinds.bin && eqb p o) ≡ (eqb (kind_at S i) kinds.bin && eqb (op_at S i) o)
+op_told S i o k p e f = rw (e, f) refl
 
 -- a number that is one of two
 pub either : (P : ℕ → Type 0) (n a b : ℕ) → (eqb n a || eqb n b) ≡ true → P a → P b → P n
@@ -81,8 +81,8 @@ acknowledged_at s S i k h e =
 pub fits_next : (S : List ℕ) (i : ℕ) → i < line_count S → length S < 18446744073709551616 → Fits w64 (i + 1)
 fits_next S i w h = record { fits = omega (arith, w) }
 
-pub expr-next : (s S : List ℕ) (i : ℕ) → ExprAt s S i → length S < 18446744073709551616 → Fits w64 (i + 1)
-expr-next s S i h l = fits_next S i h.here.within l
+pub expr_next : (s S : List ℕ) (i : ℕ) → ExprAt s S i → length S < 18446744073709551616 → Fits w64 (i + 1)
+expr_next s S i h l = fits_next S i h.here.within l
 
 -- ------------------------------------------------------------ a `bin`
 
@@ -92,11 +92,11 @@ module _ (s S : List ℕ) (i : ℕ) (h : ExprAt s S i) where
     pub the_bin : expr_at s i ≡ binary i (span_at s S i) (get_or bin_ops (op_at S i) Shr) (expr_at s (i + 1)) (expr_at s (end_at S (i + 1)))
     the_bin = rw (add-one i) (bin_at h.loaded h.here (sym e ∙ q)).0
 
-    pub bin-left : ExprAt s S (i + 1)
-    bin-left = rw (add-one i) (record { loaded = h.loaded; here = row_first (bin_at h.loaded h.here (sym e ∙ q)).1 })
+    pub bin_left : ExprAt s S (i + 1)
+    bin_left = rw (add-one i) (record { loaded = h.loaded; here = row_first (bin_at h.loaded h.here (sym e ∙ q)).1 })
 
-    pub bin-right : (j : ℕ) → j ≡ end_at S (i + 1) → ExprAt s S j
-    bin-right j f =
+    pub bin_right : (j : ℕ) → j ≡ end_at S (i + 1) → ExprAt s S j
+    bin_right j f =
         rw (f, add-one i) (record { loaded = h.loaded; here = row_first (row_rest (bin_at h.loaded h.here (sym e ∙ q)).1) })
 
   -- ... and by the test of its operator.
@@ -111,8 +111,8 @@ module _ (s S : List ℕ) (i : ℕ) (h : ExprAt s S i) where
     pub the_op : b ≡ true → expr_at s i ≡ binary i (span_at s S i) (get_or bin_ops o Shr) (expr_at s (i + 1)) (expr_at s (end_at S (i + 1)))
     the_op q = rw (← eqb-true (op_at S i) o (both q).1) (the_bin (kind_at S i) refl (is-bin q))
 
-    pub op-left : not b ≡ false → ExprAt s S (i + 1)
-    op-left q = bin-left (kind_at S i) refl (is-bin (not-false b q))
+    pub op_left : not b ≡ false → ExprAt s S (i + 1)
+    op_left q = bin_left (kind_at S i) refl (is-bin (not-false b q))
 
-    pub op-right : (j : ℕ) → not b ≡ false → j ≡ end_at S (i + 1) → ExprAt s S j
-    op-right j q f = bin-right (kind_at S i) refl (is-bin (not-false b q)) j f
+    pub op_right : (j : ℕ) → not b ≡ false → j ≡ end_at S (i + 1) → ExprAt s S j
+    op_right j q f = bin_right (kind_at S i) refl (is-bin (not-false b q)) j f

@@ -26,8 +26,8 @@ use Rattle.arithmetic.proofs.Ops.{fits_next}
 use Rattle.grammar.specs.Kinds as kinds
 
 -- the parts of an entry
-pub parts_of : (s S : List ℕ) (i : ℕ) → EntryAt s S i → EntryParts s S i (param_count S i) (clause_count S i) (body_count S i)
-parts_of s S i h = entry_at_lem h.loaded h.within h.kind
+pub parts_of_lem : (s S : List ℕ) (i : ℕ) → EntryAt s S i → EntryParts s S i (param_count S i) (clause_count S i) (body_count S i)
+parts_of_lem s S i h = entry_at_lem h.loaded h.within h.kind
 
 pub entry_next : (s S : List ℕ) (i : ℕ) → EntryAt s S i → length S < 18446744073709551616 → Fits w64 (i + 1)
 entry_next s S i h l = fits_next S i h.within l
@@ -38,25 +38,25 @@ abbrev pub Clauses : (s S : List ℕ) → (Clause → Bool) → Bool → ℕ →
 Clauses s S p whole left at = Seeking grammar.Clause clauses_at p whole s S left at
 
 -- those of an entry
-clauses-from : (s S : List ℕ) (i : ℕ) (p : Clause → Bool) (left at : ℕ) → EntryAt s S i → at ≡ skip S (param_count S i) (suc i) → left ≡ clause_count S i
+clauses_from : (s S : List ℕ) (i : ℕ) (p : Clause → Bool) (left at : ℕ) → EntryAt s S i → at ≡ skip S (param_count S i) (suc i) → left ≡ clause_count S i
     → Clauses s S p (any p (entry_at s i).clauses) left at
-clauses-from s S i p left at h e f =
-    let q = parts_of s S i h in rw (e, f) (record { loaded = h.loaded; row = q.clauses; known = rw q.is refl })
+clauses_from s S i p left at h e f =
+    let q = parts_of_lem s S i h in rw (e, f) (record { loaded = h.loaded; row = q.clauses; known = rw q.is refl })
 
-pub limits-start : (s S : List ℕ) (i left at : ℕ) (x : Name) → EntryAt s S i → at ≡ skip S (param_count S i) (suc i) → left ≡ clause_count S i
+pub limits_start : (s S : List ℕ) (i left at : ℕ) (x : Name) → EntryAt s S i → at ≡ skip S (param_count S i) (suc i) → left ≡ clause_count S i
     → Clauses s S (limits_cap x) (limits_bound (entry_at s i) x) left at
 unfolding limits_bound
-limits-start s S i left at x h e f = clauses-from s S i (limits_cap x) left at h e f
+limits_start s S i left at x h e f = clauses_from s S i (limits_cap x) left at h e f
 
-pub mints-start : (s S : List ℕ) (i left at : ℕ) → EntryAt s S i → at ≡ skip S (param_count S i) (suc i) → left ≡ clause_count S i
+pub mints_start : (s S : List ℕ) (i left at : ℕ) → EntryAt s S i → at ≡ skip S (param_count S i) (suc i) → left ≡ clause_count S i
     → Clauses s S is_mints (any is_mints (entry_at s i).clauses) left at
-mints-start s S i left at h e f = clauses-from s S i is_mints left at h e f
+mints_start s S i left at h e f = clauses_from s S i is_mints left at h e f
 
 -- a clause by its kind
 module _ {s S : List ℕ} (d : Loaded s S) {i : ℕ} (h : Here S grammar.Clause i) where
-  is-mints : is_mints (clause_at s i) ≡ eqb (kind_at S i) kinds.mints
+  is_mints_lem : is_mints (clause_at s i) ≡ eqb (kind_at S i) kinds.mints
   unfolding is_mints
-  is-mints =
+  is_mints_lem =
       pick {P = λ k. kind_at S i ≡ k → is_mints (clause_at s i) ≡ eqb k kinds.mints} {i = kinds.limits} {n = 4} (kind_at S i)
       ((λ e. rw (limits_at d h e).0 refl) also (λ e. rw (denies_at d h e).0 refl) also (λ e. rw (mints_at d h e).0 refl) also (λ e. rw (after_at d h e).0 refl) also stop)
       h.kind.0 h.kind.1 refl
@@ -70,13 +70,13 @@ module _ {s S : List ℕ} (d : Loaded s S) {i : ℕ} (h : Here S grammar.Clause 
 
 module _ (s S : List ℕ) (whole : Bool) (left at : ℕ) (g : Clauses s S is_mints whole left at) (h : 0 < left) (k : ℕ) (e : k ≡ kind_at S at) where
   by_clause : (b : Bool) → eqb k kinds.mints ≡ b → b ≡ is_mints (clause_at s at)
-  by_clause b q = sym (is-mints g.loaded (row_here g h) ∙ rw (← e) q)
+  by_clause b q = sym (is_mints_lem g.loaded (row_here g h) ∙ rw (← e) q)
 
-  pub mints-found : k ≡ kinds.mints → true ≡ whole
-  mints-found q = seek_found grammar.Clause clauses_at s S is_mints whole left at g clause_at clauses h true (by_clause true (eq-eqb k kinds.mints q)) refl
+  pub mints_found : k ≡ kinds.mints → true ≡ whole
+  mints_found q = seek_found grammar.Clause clauses_at s S is_mints whole left at g clause_at clauses h true (by_clause true (eq-eqb k kinds.mints q)) refl
 
-  pub mints-next : (at' : ℕ) → k ≢ kinds.mints → at' ≡ end_at S at → Clauses s S is_mints whole (left - 1) at'
-  mints-next at' q f = seek_next grammar.Clause clauses_at s S is_mints whole left at g clause_at clauses h false (by_clause false (ne_eqb k kinds.mints q)) at' refl f
+  pub mints_next : (at' : ℕ) → k ≢ kinds.mints → at' ≡ end_at S at → Clauses s S is_mints whole (left - 1) at'
+  mints_next at' q f = seek_next grammar.Clause clauses_at s S is_mints whole left at g clause_at clauses h false (by_clause false (ne_eqb k kinds.mints q)) at' refl f
 
 -- ------------------------------------------------------------ parameters
 
@@ -91,7 +91,7 @@ pub assets_start : (s S : List ℕ) (i left at : ℕ) (x : Name) → EntryAt s S
     → Params s S x (among x (asset_params (entry_at s i).params)) left at
 unfolding asset_params
 assets_start s S i left at x h e f =
-    let q = parts_of s S i h in
+    let q = parts_of_lem s S i h in
     rw (e, f, add-one i)
     (record {
       loaded = h.loaded;

@@ -20,7 +20,7 @@ use Rattle.rules.proofs.Forest.{joined, parts_of}
 use Rattle.rules.proofs.Walks.{Walk, walk_one, walk_over, walk_found, walk_inside, walk_behind}
 use Rattle.lookups.specs.Lines.{ExprAt}
 use Rattle.arithmetic.specs.Tests.{others}
-use Rattle.arithmetic.proofs.Ops.{op-place, the_op}
+use Rattle.arithmetic.proofs.Ops.{op_place_lem, the_op}
 use Rattle.arithmetic.proofs.Walks.{walk_here}
 use Rattle.grammar.specs.Kinds as kinds
 use Rattle.grammar.specs.Operators as ops
@@ -66,7 +66,7 @@ module _ (s S : List ℕ) (i : ℕ) (h : ExprAt s S i) (b : Bool) (t : b ≡ (eq
   unfolding terms_any sum_terms is_op op_place
   one_term q es =
       by_kind h.loaded h.here (λ k e. (eqb k kinds.bin && eqb (op_at S i) ops.bin_add) ≡ false → sum_terms e ++ terms_any es ≡ e ∷ terms_any es)
-      (λ k _ _ _. refl) (λ _. refl) (λ e. rw (sum_terms, op-place (op_at S i) ops.bin_add (omega arith), e) refl) (λ _. refl) (λ _. refl) (λ k w _ _. refl)
+      (λ k _ _ _. refl) (λ _. refl) (λ e. rw (sum_terms, op_place_lem (op_at S i) ops.bin_add (omega arith), e) refl) (λ _. refl) (λ _. refl) (λ k w _ _. refl)
       (sym t ∙ q)
 
 -- a walk over the terms: f of those that are left is what is wanted
@@ -86,11 +86,11 @@ module _ (s S : List ℕ) (f : List Expr → Bool) (whole : Bool) (end at : ℕ)
     sum_into q = walk_inside w h (λ es z. z ∙ ap f (sum_terms_lem s S at here b t q es))
 
     module _ (q : b ≡ false) where
-      sum-found : (c : Bool) → ((ts : List Expr) → f (expr_at s at ∷ ts) ≡ c) → c ≡ whole
-      sum-found c e = walk_found w h (λ es z. sym (z ∙ ap f (one_term s S at here b t q es) ∙ e (terms_any es)))
+      sum_found : (c : Bool) → ((ts : List Expr) → f (expr_at s at ∷ ts) ≡ c) → c ≡ whole
+      sum_found c e = walk_found w h (λ es z. sym (z ∙ ap f (one_term s S at here b t q es) ∙ e (terms_any es)))
 
-      sum-next : (g : List Expr → Bool) (at' : ℕ) → at' ≡ end_at S at → ((ts : List Expr) → f (expr_at s at ∷ ts) ≡ g ts) → Sum s S g whole end at'
-      sum-next g at' u e = walk_behind w h at' u (λ es z. z ∙ ap f (one_term s S at here b t q es) ∙ e (terms_any es))
+      sum_next : (g : List Expr → Bool) (at' : ℕ) → at' ≡ end_at S at → ((ts : List Expr) → f (expr_at s at ∷ ts) ≡ g ts) → Sum s S g whole end at'
+      sum_next g at' u e = walk_behind w h at' u (λ es z. z ∙ ap f (one_term s S at here b t q es) ∙ e (terms_any es))
 
 -- ------------------------------------------------------------ has_target
 
@@ -120,11 +120,11 @@ module _ (s S : List ℕ) (target : Expr) (whole : Bool) (end at : ℕ) (w : Tar
     module _ (q : b ≡ false) (c : Bool) (e : c ≡ same_target target (expr_at s at)) where
       pub target_found : c ≡ true → true ≡ whole
       unfolding without is_some
-      target_found f = sum-found s S (target_in target) whole end at w h b t q true (λ ts. rw (without, ← e, f) refl)
+      target_found f = sum_found s S (target_in target) whole end at w h b t q true (λ ts. rw (without, ← e, f) refl)
 
       pub target_next : (at' : ℕ) → c ≡ false → at' ≡ end_at S at → Targeted s S target whole end at'
       unfolding without
-      target_next at' f u = sum-next s S (target_in target) whole end at w h b t q (target_in target) at' u (λ ts. rw (without, ← e, f) (some_more (without target ts) (expr_at s at)))
+      target_next at' f u = sum_next s S (target_in target) whole end at w h b t q (target_in target) at' u (λ ts. rw (without, ← e, f) (some_more (without target ts) (expr_at s at)))
 
 -- ------------------------------------------------------------ has_unbounded
 
@@ -173,14 +173,14 @@ module _ (s S : List ℕ) (E : Entry) (target : Expr) (due whole : Bool) (end at
     module _ (q : b ≡ false) (c : Bool) (e : c ≡ same_target target (expr_at s at)) where
       pub unbounded_own : (at' : ℕ) → (due && c) ≡ true → at' ≡ end_at S at → Unbounded s S E target false whole end at'
       unbounded_own at' f u =
-          sum-next s S (unbounded_in E target due) whole end at w h b t q (unbounded_in E target false) at' u (λ ts. rw (left_out target (expr_at s at) ts due (rw (← e) f)) refl)
+          sum_next s S (unbounded_in E target due) whole end at w h b t q (unbounded_in E target false) at' u (λ ts. rw (left_out target (expr_at s at) ts due (rw (← e) f)) refl)
 
       module _ (f : (due && c) ≡ false) (r : Bool) (g : r ≡ bounded E (expr_at s at)) where
         pub unbounded_found : not r ≡ true → true ≡ whole
         unfolding any
-        unbounded_found u = sum-found s S (unbounded_in E target due) whole end at w h b t q true (λ ts. rw (stays target (expr_at s at) ts due (rw (← e) f), ← g, not-true r u) refl)
+        unbounded_found u = sum_found s S (unbounded_in E target due) whole end at w h b t q true (λ ts. rw (stays target (expr_at s at) ts due (rw (← e) f), ← g, not-true r u) refl)
 
         pub unbounded_next : (at' : ℕ) → not r ≡ false → at' ≡ end_at S at → Unbounded s S E target due whole end at'
         unfolding any
         unbounded_next at' u v =
-            sum-next s S (unbounded_in E target due) whole end at w h b t q (unbounded_in E target due) at' v (λ ts. rw (stays target (expr_at s at) ts due (rw (← e) f), ← g, not-false r u) refl)
+            sum_next s S (unbounded_in E target due) whole end at w h b t q (unbounded_in E target due) at' v (λ ts. rw (stays target (expr_at s at) ts due (rw (← e) f), ← g, not-false r u) refl)

@@ -38,14 +38,14 @@ mentions_self s S i x h =
     (λ _. sym (or-false _)) (λ _. rw or-false refl) (λ _. sym (or-false _)) (λ _. refl)
     (λ k w a b. absurd (true≢false b))
 
-mentions-wrap : (e : Expr) (x : Name) → acknowledged e ≡ true → mentions e x ≡ false
+mentions_wrap : (e : Expr) (x : Name) → acknowledged e ≡ true → mentions e x ≡ false
 unfolding mentions acknowledged
-mentions-wrap (leaf l s k) x q = absurd (true≢false (sym q))
-mentions-wrap (unary l s o e) x q = absurd (true≢false (sym q))
-mentions-wrap (binary l s o a b) x q = absurd (true≢false (sym q))
-mentions-wrap (field l s e n m) x q = absurd (true≢false (sym q))
-mentions-wrap (call l s c es) x q = absurd (true≢false (sym q))
-mentions-wrap (wrap l s w e) x q = refl
+mentions_wrap (leaf l s k) x q = absurd (true≢false (sym q))
+mentions_wrap (unary l s o e) x q = absurd (true≢false (sym q))
+mentions_wrap (binary l s o a b) x q = absurd (true≢false (sym q))
+mentions_wrap (field l s e n m) x q = absurd (true≢false (sym q))
+mentions_wrap (call l s c es) x q = absurd (true≢false (sym q))
+mentions_wrap (wrap l s w e) x q = refl
 
 abbrev pub Mention : (s S : List ℕ) → Name → Bool → ℕ → ℕ → Type 0
 Mention s S x whole end at = Walk s S (λ es. whole ≡ mentions_any es x) end at
@@ -63,7 +63,7 @@ module _ (s S : List ℕ) (x : Name) (whole : Bool) (end at : ℕ) (w : Mention 
     pub mention_past : (at' : ℕ) → a ≡ true → at' ≡ end_at S at → Mention s S x whole end at'
     unfolding mentions_any
     mention_past at' l q =
-        walk_behind w h at' q (λ es z. z ∙ rw (mentions-wrap (expr_at s at) x (sym e ∙ l)) refl)
+        walk_behind w h at' q (λ es z. z ∙ rw (mentions_wrap (expr_at s at) x (sym e ∙ l)) refl)
 
     module _ (l : a ≡ false) (b : Bool) (t : b ≡ (eqb (kind_at S at) kinds.id && same (name_at s S at) x)) where
       self : (es : Exprs) → mentions_any (more (expr_at s at) es) x ≡ (b || mentions_any (joined (parts_of (expr_at s at)) es) x)
@@ -79,8 +79,8 @@ module _ (s S : List ℕ) (x : Name) (whole : Bool) (end at : ℕ) (w : Mention 
 
 -- What `is_named` meets: a line of the kind k.
 module _ (s S : List ℕ) (i k : ℕ) (x : Name) (e : k ≡ kind_at S i) where
-  pub other-kind : k ≢ kinds.id → false ≡ (eqb (kind_at S i) kinds.id && same (name_at s S i) x)
-  other-kind n = rw (← e, ne_eqb k kinds.id n) refl
+  pub other_kind : k ≢ kinds.id → false ≡ (eqb (kind_at S i) kinds.id && same (name_at s S i) x)
+  other_kind n = rw (← e, ne_eqb k kinds.id n) refl
 
   pub named_kind : (n : Name) (r : Bool) → k ≡ kinds.id → n ≡ name_at s S i → r ≡ same n x → r ≡ (eqb (kind_at S i) kinds.id && same (name_at s S i) x)
   named_kind n r q f g = rw (← e, eq-eqb k kinds.id q, ← f) g

@@ -17,7 +17,7 @@ use sheet::{body_count, end, kind, name, op};
 // The statement at line stmt of an entry.
 fn check_sum(sheet: &[u8], lines: &[u16], entry: usize, stmt: usize) -> Done
     requires entry_at { EntryAt sheet.now lines.now entry }
-    requires record_at { RecordAt Stmt sheet.now lines.now stmt }
+    requires stmt_at { RecordAt Stmt sheet.now lines.now stmt }
     ensures { Answers (check_sum (entry_at sheet.now entry) (param_types (entry_at sheet.now entry).params) (stmt_at sheet.now stmt)) (done_of sheet.now result) }
 {
     if kind(lines, stmt) != kinds::ASSIGN {

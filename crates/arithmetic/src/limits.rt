@@ -61,8 +61,8 @@ fn subtracts(sheet: &[u8], lines: &[u16], i: usize, x: &[u8]) -> bool
 }
 
 fn upper_bounds(sheet: &[u8], lines: &[u16], small: usize, large: usize, x: &[u8]) -> bool
-    requires expr_at { ExprAt sheet.now lines.now small }
-    requires expr_at_2 { ExprAt sheet.now lines.now large }
+    requires small_at { ExprAt sheet.now lines.now small }
+    requires large_at { ExprAt sheet.now lines.now large }
     ensures { result ≡ upper_bounds (expr_at sheet.now small) (expr_at sheet.now large) x.now }
 {
     if mentions(sheet, lines, small, x) {

@@ -119,8 +119,8 @@ fn bounded(sheet: &[u8], lines: &[u16], entry: usize, i: usize) -> bool
 
 // Whether the lines a and b are the same bare name.
 fn same_target(sheet: &[u8], lines: &[u16], a: usize, b: usize) -> bool
-    requires expr_at { ExprAt sheet.now lines.now a }
-    requires expr_at_2 { ExprAt sheet.now lines.now b }
+    requires left_at { ExprAt sheet.now lines.now a }
+    requires right_at { ExprAt sheet.now lines.now b }
     ensures { result ≡ same_target (expr_at sheet.now a) (expr_at sheet.now b) }
 {
     if kind(lines, a) != kinds::ID {
@@ -134,8 +134,8 @@ fn same_target(sheet: &[u8], lines: &[u16], a: usize, b: usize) -> bool
 
 // Whether the target is a term of the sum at line value.
 fn has_target(sheet: &[u8], lines: &[u16], target: usize, value: usize) -> bool
-    requires expr_at { ExprAt sheet.now lines.now target }
-    requires expr_at_2 { ExprAt sheet.now lines.now value }
+    requires target_at { ExprAt sheet.now lines.now target }
+    requires value_at { ExprAt sheet.now lines.now value }
     ensures { result ≡ is_some (without (expr_at sheet.now target) (sum_terms (expr_at sheet.now value))) }
 {
     let stop = end(lines, value);
@@ -163,8 +163,8 @@ fn has_unbounded(
     own: bool,
 ) -> bool
     requires entry_at { EntryAt sheet.now lines.now entry }
-    requires expr_at { ExprAt sheet.now lines.now target }
-    requires expr_at_2 { ExprAt sheet.now lines.now value }
+    requires target_at { ExprAt sheet.now lines.now target }
+    requires value_at { ExprAt sheet.now lines.now value }
     ensures { result ≡ any (λ t. not (bounded_of (entry_at sheet.now entry) t)) (others own (expr_at sheet.now target) (sum_terms (expr_at sheet.now value))) }
 {
     let stop = end(lines, value);
@@ -198,8 +198,8 @@ pub fn adds_unbounded(
     value: usize,
 ) -> bool
     requires entry_at { EntryAt sheet.now lines.now entry }
-    requires expr_at { ExprAt sheet.now lines.now target }
-    requires expr_at_2 { ExprAt sheet.now lines.now value }
+    requires target_at { ExprAt sheet.now lines.now target }
+    requires value_at { ExprAt sheet.now lines.now value }
     ensures { result ≡ adds_unbounded (entry_at sheet.now entry) (get_or assign_ops op Set) (expr_at sheet.now target) (expr_at sheet.now value) }
 {
     if (op == ops::ASSIGN_SUB) | acknowledged(sheet, lines, value) {

@@ -27,7 +27,7 @@ use Rattle.rules.specs.Check.{clause_assets}
 use Rattle.rules.specs.Standing.{trees_from, nodes_at, expr_at, exprs_at, stmt_at, clause_at, Row}
 use Rattle.rules.proofs.Exprs.{call_at_lem, is-call_at}
 use Rattle.rules.proofs.Records.{exprs_list, nodes_join, guard_at, let_at, emit_at, assign_at, do_at, limits_at, denies_at, mints_at, after_at}
-use Rattle.rules.proofs.Standing.{row_first, row_rest, row-take}
+use Rattle.rules.proofs.Standing.{row_first, row_rest, row_take}
 use Rattle.refusals.specs.Answers.{Answers}
 use Rattle.lookups.specs.Lines.{RecordAt, RecordsAt}
 use Rattle.refusals.specs.Refusal.{refusal_of, done_of}
@@ -68,9 +68,9 @@ does = record { is = λ e r a. a }
 
 -- What meets the expression at line i, of the kind k.
 module _ {rule f : Expr → Rule Unit} (c : Calls rule f) (s S : List ℕ) (i k : ℕ) (h : RecordAt grammar.Expr s S i) (e : k ≡ kind_at S i) where
-  pub other-walked : (r : Done) → k ≢ kinds.call → Answers (no_asset_call (expr_at s i)) (done_of s r) → Answers (rule (expr_at s i)) (done_of s r)
+  pub other_walked : (r : Done) → k ≢ kinds.call → Answers (no_asset_call (expr_at s i)) (done_of s r) → Answers (rule (expr_at s i)) (done_of s r)
   unfolding if_some_else
-  other-walked r q a = c.is (expr_at s i) _ (rw (is-call_at h.loaded h.here, ← e, ne_eqb k kinds.call q) a)
+  other_walked r q a = c.is (expr_at s i) _ (rw (is-call_at h.loaded h.here, ← e, ne_eqb k kinds.call q) a)
 
   module _ (q : k ≡ kinds.call) where
     called : (r : Res Unit) → Answers (no_asset_call (expr_at s (suc i)) >> for_each (list (exprs_at s (call_arg_count S i) (end_at S (suc i)))) f) r → Answers (rule (expr_at s i)) r
@@ -81,13 +81,13 @@ module _ {rule f : Expr → Rule Unit} (c : Calls rule f) (s S : List ℕ) (i k 
     call-args m j x y = rw (x, y, add-one) (record { loaded = h.loaded; row = row_rest (call_at_lem h.loaded h.here (sym e ∙ q)).1 })
 
     module _ (r : Done) (a : Answers (no_asset_call (expr_at s (i + 1))) (done_of s r)) where
-      pub callee-refused : (why : Refusal) → r ≡ Refused why → Answers (rule (expr_at s i)) (done_of s (Refused why))
+      pub callee_refused : (why : Refusal) → r ≡ Refused why → Answers (rule (expr_at s i)) (done_of s (Refused why))
       unfolding done_of
-      callee-refused why z = called _ (then_refused _ _ (refusal_of s why) (rw (z, add-one) at a))
+      callee_refused why z = called _ (then_refused _ _ (refusal_of s why) (rw (z, add-one) at a))
 
-      pub args-walked : (m j : ℕ) (r' : Done) → r ≡ Fine → m ≡ call_arg_count S i → j ≡ end_at S (i + 1) → Answers (for_each (list (exprs_at s m j)) f) (done_of s r') → Answers (rule (expr_at s i)) (done_of s r')
+      pub args_walked : (m j : ℕ) (r' : Done) → r ≡ Fine → m ≡ call_arg_count S i → j ≡ end_at S (i + 1) → Answers (for_each (list (exprs_at s m j)) f) (done_of s r') → Answers (rule (expr_at s i)) (done_of s r')
       unfolding done_of
-      args-walked m j r' z x y b = called _ (then_fine _ _ tt _ (rw (z, add-one) at a) (rw (x, y, add-one) at b))
+      args_walked m j r' z x y b = called _ (then_fine _ _ tt _ (rw (z, add-one) at a) (rw (x, y, add-one) at b))
 
 -- ------------------------------------------------------------ statements
 
@@ -95,9 +95,9 @@ module _ {rule f : Expr → Rule Unit} (c : Calls rule f) (s S : List ℕ) (i k 
 one_behind : (s S : List ℕ) (i : ℕ) {σ : grammar.Sort} → RecordAt σ s S i → Row S grammar.Expr 1 (suc i) → RecordAt grammar.Expr s S (i + 1)
 one_behind s S i h r = record { loaded = h.loaded; here = rw add-one (row_first r) }
 
-two-walked : (a b : Expr) (T : Table) → kept (for_each (a ∷ b ∷ []) no_asset_call) T ≡ kept (no_asset_call a >> no_asset_call b) T
+two_walked : (a b : Expr) (T : Table) → kept (for_each (a ∷ b ∷ []) no_asset_call) T ≡ kept (no_asset_call a >> no_asset_call b) T
 unfolding for_each ◌>>◌
-two-walked a b T = kept_behind (no_asset_call a) (λ _. no_asset_call b >> ret tt) (λ _. no_asset_call b) T (λ _. kept_unit (no_asset_call b))
+two_walked a b T = kept_behind (no_asset_call a) (λ _. no_asset_call b >> ret tt) (λ _. no_asset_call b) T (λ _. kept_unit (no_asset_call b))
 
 -- What `asset_calls_consumed` meets: a statement of kind k.
 module _ (s S : List ℕ) (i k : ℕ) (h : RecordAt grammar.Stmt s S i) (e : k ≡ kind_at S i) where
@@ -112,21 +112,21 @@ module _ (s S : List ℕ) (i k : ℕ) (h : RecordAt grammar.Stmt s S i) (e : k �
     pub emit-args : RecordsAt grammar.Expr s S m (i + 1)
     emit-args = rw (c, add-one) (record { loaded = h.loaded; row = (emit_at h.loaded h.here (sym e ∙ q)).1 })
 
-    pub emit-walked : (r : Done) → Answers (for_each (list (exprs_at s m (i + 1))) no_asset_call) (done_of s r) → Answers (asset_calls_consumed (stmt_at s i)) (done_of s r)
+    pub emit_walked : (r : Done) → Answers (for_each (list (exprs_at s m (i + 1))) no_asset_call) (done_of s r) → Answers (asset_calls_consumed (stmt_at s i)) (done_of s r)
     unfolding asset_calls_consumed
-    emit-walked r a = rw ((emit_at h.loaded h.here (sym e ∙ q)).0, ← c, ← add-one i) a
+    emit_walked r a = rw ((emit_at h.loaded h.here (sym e ∙ q)).0, ← c, ← add-one i) a
 
   pub assign_sides : k ≡ kinds.assign → RecordsAt grammar.Expr s S 2 (i + 1)
   assign_sides q = rw add-one (record { loaded = h.loaded; row = (assign_at h.loaded h.here (sym e ∙ q)).1 })
 
-  pub assign-walked : (r : Done) → k ≡ kinds.assign → Answers (for_each (list (exprs_at s 2 (i + 1))) no_asset_call) (done_of s r) → Answers (asset_calls_consumed (stmt_at s i)) (done_of s r)
+  pub assign_walked : (r : Done) → k ≡ kinds.assign → Answers (for_each (list (exprs_at s 2 (i + 1))) no_asset_call) (done_of s r) → Answers (asset_calls_consumed (stmt_at s i)) (done_of s r)
   unfolding asset_calls_consumed
-  assign-walked r q a =
+  assign_walked r q a =
       let p = assign_at h.loaded h.here (sym e ∙ q) in
       let two : list (exprs_at s 2 (suc i)) ≡ expr_at s (suc i) ∷ expr_at s (end_at S (suc i)) ∷ [] =
       exprs.first h.loaded 1 (row_first p.1).within
       ∙ ap (λ es. expr_at s (suc i) ∷ es) (exprs.first h.loaded 0 (row_first (row_rest p.1)).within ∙ ap (λ es. expr_at s (end_at S (suc i)) ∷ es) (exprs.empty s _)) in
-      rw p.0 (record { answers = λ T. sym (two-walked _ _ T) ∙ (rw (add-one, two) at a).answers T })
+      rw p.0 (record { answers = λ T. sym (two_walked _ _ T) ∙ (rw (add-one, two) at a).answers T })
 
   pub do_value : k ≡ kinds.do' → RecordAt grammar.Expr s S (i + 1)
   do_value q = one_behind s S i h (do_at h.loaded h.here (sym e ∙ q)).1
@@ -138,18 +138,18 @@ module _ (s S : List ℕ) (i k : ℕ) (h : RecordAt grammar.Stmt s S i) (e : k �
     guards : kind_at S i ≡ kinds.guard
     guards = omega (arith, h.here.kind.0, h.here.kind.1)
 
-    pub guard-value : RecordAt grammar.Expr s S (i + 1)
-    guard-value = one_behind s S i h (guard_at h.loaded h.here guards).1
+    pub guard_value : RecordAt grammar.Expr s S (i + 1)
+    guard_value = one_behind s S i h (guard_at h.loaded h.here guards).1
 
-    pub guard-walked : (r : Done) → Answers (no_asset_call (expr_at s (i + 1))) (done_of s r) → Answers (asset_calls_consumed (stmt_at s i)) (done_of s r)
+    pub guard_walked : (r : Done) → Answers (no_asset_call (expr_at s (i + 1))) (done_of s r) → Answers (asset_calls_consumed (stmt_at s i)) (done_of s r)
     unfolding asset_calls_consumed
-    guard-walked r x = rw ((guard_at h.loaded h.here guards).0, ← add-one i) x
+    guard_walked r x = rw ((guard_at h.loaded h.here guards).0, ← add-one i) x
 
 -- ------------------------------------------------------------ clauses
 
-nodes-few : (s : List ℕ) (k i : ℕ) → length (nodes_at s k i) ≤ k
+nodes_few : (s : List ℕ) (k i : ℕ) → length (nodes_at s k i) ≤ k
 unfolding nodes_at nodes take_nodes
-nodes-few s k i = by_cases k (trees_from s i)
+nodes_few s k i = by_cases k (trees_from s i)
   where
     by_cases : (k : ℕ) (ns : Nodes) → length (nodes (take_nodes k ns)) ≤ k
     by_cases zero ns = omega arith
@@ -161,16 +161,16 @@ unfolding exprs_at nodes_at
 exprs_nodes s k i = sym (exprs_list (take_nodes k (trees_from s i)))
 
 -- of two rows of at most one expression each
-after-walked : (f : Expr → Rule Unit) (ns ms : List Node) → length ns ≤ 1 → length ms ≤ 1 → (T : Table)
+after_walked : (f : Expr → Rule Unit) (ns ms : List Node) → length ns ≤ 1 → length ms ≤ 1 → (T : Table)
     → kept (for_each (map expr_of (ns ++ ms)) f) T ≡ kept (if_some (Option.map expr_of (get_elem? ns 0)) f >> if_some (Option.map expr_of (get_elem? ms 0)) f) T
 unfolding for_each if_some ◌>>◌ ◌>>=◌
-after-walked f [] [] a b T = refl
-after-walked f [] (m ∷ []) a b T = kept_unit (f (expr_of m)) T
-after-walked f (n ∷ []) [] a b T = refl
-after-walked f (n ∷ []) (m ∷ []) a b T = kept_behind (f (expr_of n)) (λ _. f (expr_of m) >> ret tt) (λ _. f (expr_of m)) T (λ _. kept_unit (f (expr_of m)))
-after-walked f [] (m ∷ m' ∷ ms) a b T = absurd (omega arith)
-after-walked f (n ∷ []) (m ∷ m' ∷ ms) a b T = absurd (omega arith)
-after-walked f (n ∷ n' ∷ ns) ms a b T = absurd (omega arith)
+after_walked f [] [] a b T = refl
+after_walked f [] (m ∷ []) a b T = kept_unit (f (expr_of m)) T
+after_walked f (n ∷ []) [] a b T = refl
+after_walked f (n ∷ []) (m ∷ []) a b T = kept_behind (f (expr_of n)) (λ _. f (expr_of m) >> ret tt) (λ _. f (expr_of m)) T (λ _. kept_unit (f (expr_of m)))
+after_walked f [] (m ∷ m' ∷ ms) a b T = absurd (omega arith)
+after_walked f (n ∷ []) (m ∷ m' ∷ ms) a b T = absurd (omega arith)
+after_walked f (n ∷ n' ∷ ns) ms a b T = absurd (omega arith)
 
 -- What `clause_assets` meets: a clause of kind k.
 module _ (s S : List ℕ) (i k : ℕ) (h : RecordAt grammar.Clause s S i) (e : k ≡ kind_at S i) where
@@ -190,10 +190,10 @@ module _ (s S : List ℕ) (i k : ℕ) (h : RecordAt grammar.Clause s S i) (e : k
         let ts = nodes_at s m (suc i) in
         let us = nodes_at s n (skip S m (suc i)) in
         let both : list (exprs_at s (m + n) (suc i)) ≡ map expr_of (ts ++ us) =
-        exprs_nodes s (m + n) (suc i) ∙ ap (map expr_of) (nodes_join n h.loaded (row-take m (omega arith) p.1)) in
-        let u : length ts ≤ 1 = omega (arith, nodes-few s m (suc i), p.3) in
-        let v : length us ≤ 1 = omega (arith, nodes-few s n (skip S m (suc i)), p.4) in
-        rw p.0 (record { answers = λ T. sym (after-walked no_asset_call ts us u v T) ∙ (rw (x, y, add-one, both) at g).answers T })
+        exprs_nodes s (m + n) (suc i) ∙ ap (map expr_of) (nodes_join n h.loaded (row_take m (omega arith) p.1)) in
+        let u : length ts ≤ 1 = omega (arith, nodes_few s m (suc i), p.3) in
+        let v : length us ≤ 1 = omega (arith, nodes_few s n (skip S m (suc i)), p.4) in
+        rw p.0 (record { answers = λ T. sym (after_walked no_asset_call ts us u v T) ∙ (rw (x, y, add-one, both) at g).answers T })
 
   -- `limits` and `denies`
   module _ (c : (eqb k kinds.limits || eqb k kinds.denies) ≡ true) where
@@ -213,9 +213,9 @@ module _ (s S : List ℕ) (i k : ℕ) (h : RecordAt grammar.Clause s S i) (e : k
     condition_walked r x = condition.1 _ (rw add-one at x)
 
   -- a clause with no expression
-  pub bare-walked : (eqb k kinds.limits || eqb k kinds.denies) ≡ false → k ≢ kinds.after → Answers (clause_assets (clause_at s i)) (done_of s Fine)
+  pub bare_walked : (eqb k kinds.limits || eqb k kinds.denies) ≡ false → k ≢ kinds.after → Answers (clause_assets (clause_at s i)) (done_of s Fine)
   unfolding clause_assets done_of
-  bare-walked c n = rw (mints_at h.loaded h.here only).0 (gives tt)
+  bare_walked c n = rw (mints_at h.loaded h.here only).0 (gives tt)
     where
       no : (eqb k kinds.limits ≡ false) × (eqb k kinds.denies ≡ false)
       no = or_parts (eqb k kinds.limits) (eqb k kinds.denies) c

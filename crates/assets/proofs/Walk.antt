@@ -38,11 +38,11 @@ use Rattle.grammar.specs.Kinds as kinds
 
 -- ------------------------------------------------------------ expressions one behind another
 
-joined-walked : (es fs : Exprs) (T : Table) → kept (no_asset_calls (joined es fs)) T ≡ kept (no_asset_calls es >> no_asset_calls fs) T
+joined_walked : (es fs : Exprs) (T : Table) → kept (no_asset_calls (joined es fs)) T ≡ kept (no_asset_calls es >> no_asset_calls fs) T
 unfolding joined no_asset_calls ◌>>◌ ◌>>=◌
-joined-walked nil fs T = refl
-joined-walked (more e es) fs T =
-    kept_behind (no_asset_call e) (λ _. no_asset_calls (joined es fs)) (λ _. no_asset_calls es >> no_asset_calls fs) T (λ _. joined-walked es fs)
+joined_walked nil fs T = refl
+joined_walked (more e es) fs T =
+    kept_behind (no_asset_call e) (λ _. no_asset_calls (joined es fs)) (λ _. no_asset_calls es >> no_asset_calls fs) T (λ _. joined_walked es fs)
     ∙ sym (kept_assoc (λ _. no_asset_calls es) (λ _. no_asset_calls fs) (no_asset_call e) T)
 
 -- what is walked behind an expression that is no asset call: its parts, and then the rest
@@ -54,7 +54,7 @@ walked_in (binary l s o a b) rest h T = kept_assoc (λ _. no_asset_call b) (λ _
 walked_in (field l s e n m) rest h T = refl
 walked_in (call l s c es) rest h T =
     rw h (kept_assoc (λ _. no_asset_calls es) (λ _. no_asset_calls rest) (no_asset_call c) T
-    ∙ kept_behind (no_asset_call c) (λ _. no_asset_calls es >> no_asset_calls rest) (λ _. no_asset_calls (joined es rest)) T (λ _ U. sym (joined-walked es rest U)))
+    ∙ kept_behind (no_asset_call c) (λ _. no_asset_calls es >> no_asset_calls rest) (λ _. no_asset_calls (joined es rest)) T (λ _ U. sym (joined_walked es rest U)))
 walked_in (wrap l s w e) rest h T = refl
 
 dropped : (l s : ℕ) (c : Expr) (es : Exprs) → makes_asset c ≡ true → Answers (no_asset_call (call l s c es)) (refused (record { number = 44; place = s; text = dropped_text }))
@@ -84,17 +84,17 @@ module _ (s S : List ℕ) (i k : ℕ) (h : RecordAt grammar.Expr s S i) (e : k �
   unfolding is_asset_call
   no_call q = rw (is_asset_call, is-call_at h.loaded h.here, ← e, ne_eqb k kinds.call q) refl
 
-  pub callee-here : k ≡ kinds.call → RecordAt grammar.Expr s S (i + 1)
-  callee-here q = record { loaded = h.loaded; here = rw add-one (row_first (call_at_lem h.loaded h.here (sym e ∙ q)).1) }
+  pub callee_here : k ≡ kinds.call → RecordAt grammar.Expr s S (i + 1)
+  callee_here q = record { loaded = h.loaded; here = rw add-one (row_first (call_at_lem h.loaded h.here (sym e ∙ q)).1) }
 
   pub a_call : (r : Bool) → k ≡ kinds.call → r ≡ makes_asset (expr_at s (i + 1)) → r ≡ is_asset_call (expr_at s i)
   unfolding is_asset_call
   a_call r q f = f ∙ rw (is_asset_call, is-call_at h.loaded h.here, ← e, q, add-one) refl
 
 -- an asset call is refused, and is a `call` record
-refused-here : (s S : List ℕ) (i : ℕ) → RecordAt grammar.Expr s S i → is_asset_call (expr_at s i) ≡ true → Answers (no_asset_call (expr_at s i)) (done_of s (Refused (Dropped i)))
+refused_here : (s S : List ℕ) (i : ℕ) → RecordAt grammar.Expr s S i → is_asset_call (expr_at s i) ≡ true → Answers (no_asset_call (expr_at s i)) (done_of s (Refused (Dropped i)))
 unfolding done_of refusal_of is_asset_call call_of
-refused-here s S i h q = by_cases (eqb (kind_at S i) kinds.call) refl
+refused_here s S i h q = by_cases (eqb (kind_at S i) kinds.call) refl
   where
     by_cases : (b : Bool) → eqb (kind_at S i) kinds.call ≡ b → Answers (no_asset_call (expr_at s i)) (done_of s (Refused (Dropped i)))
     by_cases true f =
@@ -127,7 +127,7 @@ module _ (s S : List ℕ) (i end at : ℕ) (w : Walking s S i end at) where
       unfolding no_asset_calls done_of
       walk_found q =
           walks.walk_found w h
-          (λ es z. record { answers = λ T. z T ∙ (then_refused _ (no_asset_calls es) (refusal_of s (Dropped at)) (refused-here s S at walk_here (sym e ∙ q))).answers T })
+          (λ es z. record { answers = λ T. z T ∙ (then_refused _ (no_asset_calls es) (refusal_of s (Dropped at)) (refused_here s S at walk_here (sym e ∙ q))).answers T })
 
       pub walk_next : b ≡ false → Walking s S i end (at + 1)
       walk_next q = walk_inside w h (λ es z T. z T ∙ walked_in (expr_at s at) es (sym e ∙ q) T)

@@ -11,18 +11,18 @@ use Rattle.rules.specs.Kept.{Table, marks}
 use Rattle.rules.specs.Check.{check}
 use Rattle.rules.specs.Standing.{read_lines, lines_in, model_in}
 use Rattle.rules.specs.Verdict.{model_of}
-use Rattle.rules.proofs.Checked.{sheet-kept}
+use Rattle.rules.proofs.Checked.{sheet_kept}
 use Rattle.refusals.specs.Refusal.{done_of}
 use Rattle.refusals.specs.declared.refusal.Done.{Done}
 use Rattle.typing.specs.Asks.{Does}
 
-model-read : (s S : List ℕ) (types : ℕ) (ls : List Line) → load s types (length S) ≡ lines ls → model_in s ≡ model_of ls
+model_read : (s S : List ℕ) (types : ℕ) (ls : List Line) → load s types (length S) ≡ lines ls → model_in s ≡ model_of ls
 unfolding model_in lines_in read_lines
-model-read s S types ls e = rw (whole s types S ls e).1 refl
+model_read s S types ls e = rw (whole s types S ls e).1 refl
 
 pub afresh : (s S : List ℕ) (types : ℕ) (ls : List Line) (r : Done) (U : Table) → load s types (length S) ≡ lines ls
     → Does s (check (model_in s)) (replicate (length ls) 0) r U
     → ((fresh (check (model_in s))).res ≡ done_of s r) × (marks (replicate (length ls) 0) (fresh (check (model_in s))).log ≡ U)
 afresh s S types ls r U h d =
-    let k = rw (← model-read s S types ls h) at (sheet-kept s types (length S) ls h) in
+    let k = rw (← model_read s S types ls h) at (sheet_kept s types (length S) ls h) in
     (sym k.0 ∙ ap (λ o. o.res) d.gives, sym k.1 ∙ ap (λ o. o.table) d.gives)

@@ -22,13 +22,13 @@ use Rattle.rules.specs.Typing.{ty_of, typing, bound}
 use Rattle.rules.specs.Statements.{check_stmt_types, expect_predicate, refuse_name_recipient}
 use Rattle.rules.specs.Check.{check_local, check_body}
 use Rattle.rules.specs.Standing.{node_at, nodes_at, expr_at, exprs_at, stmt_at, stmts_at, Loaded, Here, Row}
-use Rattle.rules.proofs.AnyTable.{from-table, first-time}
+use Rattle.rules.proofs.AnyTable.{from_table, first_time}
 use Rattle.rules.proofs.Binding.{kept-length, then_ok, then_refused, kept_assoc, refused_behind}
 use Rattle.rules.proofs.Parts.{stop as end', ◌also◌, pick}
 use Rattle.rules.proofs.Records.{guard_at, let_at, emit_at, assign_at, do_at, no_stmts, stmts_next}
-use Rattle.rules.proofs.Standing.{Stands, stands, row_first, row_nth, row-take, skip-next, nodes_last}
+use Rattle.rules.proofs.Standing.{Stands, stands, row_first, row_nth, row_take, skip_next, nodes_last}
 use Rattle.refusals.proofs.Answers.{fits, misfits}
-use Rattle.lookups.proofs.Codes.{code_of, code_is, from-code, code-from, untold}
+use Rattle.lookups.proofs.Codes.{code_of_lem, code_is, from_code, code_from, untold}
 use Rattle.lookups.specs.Found.{node_kind, of_kind}
 use Rattle.refusals.specs.Refusal.{refusal_of, done_of}
 use Rattle.refusals.specs.declared.refusal.Refusal.{Refusal}
@@ -42,10 +42,10 @@ use Rattle.env.specs.declared.env.Env.{Env}
 use Rattle.env.specs.declared.judge.Typed.{Typed}
 use Rattle.env.specs.declared.judge.Typed.TheVariants.{Is, Refused as No}
 use Rattle.typing.specs.Asks.{Asks, Types, Does}
-use Rattle.typing.proofs.Asking.{asks-line, of_expr}
-use Rattle.typing.proofs.Calls.{did, stopped, does-length}
+use Rattle.typing.proofs.Asking.{asks_line, of_expr}
+use Rattle.typing.proofs.Calls.{did, stopped, does_length}
 use Rattle.typing.proofs.Operators.{gave, gave_code}
-use Rattle.typing.proofs.Doing.{does_then, does-cut, does_nothing}
+use Rattle.typing.proofs.Doing.{does_then, does_cut, does_nothing}
 use Rattle.statements.specs.Checked.{StmtIn}
 use Rattle.emits.specs.Emit.{EmitIn, emit_rule}
 use Rattle.checking.specs.Walk.{with_locals, no_let, a_let, ReadyTyped, stmt_rule, BodyStmt, StmtOf, Binds, StmtDoes, BodyAt}
@@ -62,18 +62,18 @@ unfolding code_r
 marked_by s S env T i t U h l e = by_cases (leb codes.int (get_or T i 0) && leb (get_or T i 0) codes.unknown) refl
   where
     here : line (expr_at s i) ≡ i
-    here = asks-line s S env T i h
+    here = asks_line s S env T i h
 
     by_cases : (b : Bool) → (leb codes.int (get_or T i 0) && leb (get_or T i 0) codes.unknown) ≡ b → get_or U i 0 ≡ code t
     by_cases true q =
-        let c = code_of (get_or T i 0) (code-from (get_or T i 0) q) in
-        let f = from-table (env_of s T env) (expr_at s i) T (ty_from (get_or T i 0)) (not_stale_at s S env T i (of_expr s S env T i h) l) (rw here c.0) in
+        let c = code_of_lem (get_or T i 0) (code_from (get_or T i 0) q) in
+        let f = from_table (env_of s T env) (expr_at s i) T (ty_from (get_or T i 0)) (not_stale_at s S env T i (of_expr s S env T i h) l) (rw here c.0) in
         let u : U ≡ T = ap (λ o. o.table) (sym e ∙ f) in
         let z : ◌≡◌ {A = Res Ty} (ok t) (ok (ty_from (get_or T i 0))) = ap (λ o. o.res) (sym e ∙ f) in
         let y : t ≡ ty_from (get_or T i 0) = cc in
         rw (u, y) (sym c.1)
     by_cases false q =
-        let f = first-time (env_of s T env) (expr_at s i) T (rw here (untold (get_or T i 0) q)) in
+        let f = first_time (env_of s T env) (expr_at s i) T (rw here (untold (get_or T i 0) q)) in
         let X = (kept (typing (env_of s T env) (expr_at s i)) T).table in
         let r : (kept (typing (env_of s T env) (expr_at s i)) T).res ≡ ok t = sym (ap (λ o. o.res) f) ∙ ap (λ o. o.res) e in
         ap (λ o. get_or o.table i 0) (sym e ∙ f)
@@ -135,7 +135,7 @@ module _ (s S : List ℕ) (env : Env) (T : Table) (i : ℕ) (h : StmtOf kinds.do
   module _ (d : Done) (U : Table) (a : Does s (check_stmt_types (env_of s T env) (stmt_at s i)) T d U) where
     pub do_no : (x : Refusal) → d ≡ Refused x → StmtDoes s S (env_of s T env) i T (Refused x) U
     unfolding stmt_rule
-    do_no x e = other (omega (arith, h.kind)) (rw do_is.0 (does-cut s _ _ T d U (rw do_is.0 at a) x e))
+    do_no x e = other (omega (arith, h.kind)) (rw do_is.0 (does_cut s _ _ T d U (rw do_is.0 at a) x e))
 
     module _ (e : d ≡ Fine) where
       on : OnTyped s S env T U
@@ -154,12 +154,12 @@ module _ (s S : List ℕ) (env : Env) (T : Table) (i : ℕ) (h : BodyStmt s S en
   bd : Loaded s S
   bd = h.ready.ready.force.loaded
 
-  pub guard-asks : k ≡ kinds.guard → Asks s S env T (i + 1)
-  guard-asks q = record { ready = h.ready.ready; here = rw (add-one i) (row_first (guard_at bd h.here (sym e ∙ q)).1) }
+  pub guard_asks : k ≡ kinds.guard → Asks s S env T (i + 1)
+  guard_asks q = record { ready = h.ready.ready; here = rw (add-one i) (row_first (guard_at bd h.here (sym e ∙ q)).1) }
 
-  pub guard-does : (r : Done) (U : Table) → k ≡ kinds.guard → Does s (expect_predicate (env_of s T env) (expr_at s (i + 1))) T r U → StmtDoes s S (env_of s T env) i T r U
+  pub guard_does : (r : Done) (U : Table) → k ≡ kinds.guard → Does s (expect_predicate (env_of s T env) (expr_at s (i + 1))) T r U → StmtDoes s S (env_of s T env) i T r U
   unfolding stmt_rule
-  guard-does r U q a = other (omega arith) (rw ((guard_at bd h.here (sym e ∙ q)).0, ← add-one i) a)
+  guard_does r U q a = other (omega arith) (rw ((guard_at bd h.here (sym e ∙ q)).0, ← add-one i) a)
 
   pub stmt_of_lem : (m : ℕ) → k ≡ m → StmtOf m s S env T i
   stmt_of_lem m q = record { stmt = h; kind = sym e ∙ q }
@@ -170,16 +170,16 @@ module _ (s S : List ℕ) (env : Env) (T : Table) (i : ℕ) (h : BodyStmt s S en
   pub emit_in : k ≡ kinds.emit → EmitIn s S env T i
   emit_in q = record { ready = h.ready.ready; within = h.here.within; kind = sym e ∙ q }
 
-  pub emit-does : (r : Done) (U : Table) → k ≡ kinds.emit → Does s (emit_rule (env_of s T env) (name_at s S i) (list (exprs_at s (emit_arg_count S i) (suc i)))) T r U → StmtDoes s S (env_of s T env) i T r U
+  pub emit_does : (r : Done) (U : Table) → k ≡ kinds.emit → Does s (emit_rule (env_of s T env) (name_at s S i) (list (exprs_at s (emit_arg_count S i) (suc i)))) T r U → StmtDoes s S (env_of s T env) i T r U
   unfolding stmt_rule
-  emit-does r U q a = other (omega arith) (rw (emit_at bd h.here (sym e ∙ q)).0 a)
+  emit_does r U q a = other (omega arith) (rw (emit_at bd h.here (sym e ∙ q)).0 a)
 
   pub assign_in : k ≡ kinds.assign → StmtIn s S env T i
   assign_in q = record { ready = h.ready.ready; here = h.here }
 
-  pub assign-does : (r : Done) (U : Table) → k ≡ kinds.assign → Does s (check_stmt_types (env_of s T env) (stmt_at s i)) T r U → StmtDoes s S (env_of s T env) i T r U
+  pub assign_does : (r : Done) (U : Table) → k ≡ kinds.assign → Does s (check_stmt_types (env_of s T env) (stmt_at s i)) T r U → StmtDoes s S (env_of s T env) i T r U
   unfolding stmt_rule
-  assign-does r U q a =
+  assign_does r U q a =
       let t = (assign_at bd h.here (sym e ∙ q)).0 in
       other (omega arith) (rw t (rw t at a))
 
@@ -212,8 +212,8 @@ step_other Γ (emit x es) ss T o = sym (kept_assoc _ _ _ T)
 step_other Γ (assign s op a b) ss T o = refl
 step_other Γ (do' e) ss T o = sym (kept_assoc _ _ _ T)
 
-is-other : {s S : List ℕ} {i : ℕ} → Loaded s S → Here S grammar.Stmt i → kind_at S i ≢ kinds.let' → Other (stmt_at s i)
-is-other {s} {S} {i} d h n =
+is_other : {s S : List ℕ} {i : ℕ} → Loaded s S → Here S grammar.Stmt i → kind_at S i ≢ kinds.let' → Other (stmt_at s i)
+is_other {s} {S} {i} d h n =
     pick {P = λ k. kind_at S i ≡ k → Other (stmt_at s i)} {i = kinds.guard} {n = 5} (kind_at S i)
     ((λ e. rw (guard_at d h e).0 tt)
     also (λ e. absurd (n e))
@@ -240,25 +240,25 @@ module _ (s S : List ℕ) (T : Table) (params count body total at left : ℕ) (h
   st : Stands s S at
   st = stands d at here.within
 
-  lets-next : lets s (suc (total - left)) body ≡ lets s (total - left) body ++ of_kind kinds.let' (node_at s at ∷ [])
+  lets_next : lets s (suc (total - left)) body ≡ lets s (total - left) body ++ of_kind kinds.let' (node_at s at ∷ [])
   unfolding lets
-  lets-next =
-      ap (of_kind kinds.let') (nodes_last (total - left) d (row-take (suc (total - left)) (omega (arith, h.few)) h.row))
+  lets_next =
+      ap (of_kind kinds.let') (nodes_last (total - left) d (row_take (suc (total - left)) (omega (arith, h.few)) h.row))
       ∙ of_kind-append kinds.let' (nodes_at s (total - left) body) (node_at s (skip S (total - left) body) ∷ [])
       ∙ rw h.here refl
 
-  kind-here : node_kind (node_at s at) ≡ kind_at S at
+  kind_here : node_kind (node_at s at) ≡ kind_at S at
   unfolding node_kind
-  kind-here = rw st.here (sym st.says.kind)
+  kind_here = rw st.here (sym st.says.kind)
 
   -- it is no `let`
   no_let_here : kind_at S at ≢ kinds.let' → of_kind kinds.let' (node_at s at ∷ []) ≡ []
   unfolding of_kind
-  no_let_here q = rw (of_kind, let z : eqb (node_kind (node_at s at)) kinds.let' ≡ false = rw kind-here (ne_eqb (kind_at S at) kinds.let' q) in z) refl
+  no_let_here q = rw (of_kind, let z : eqb (node_kind (node_at s at)) kinds.let' ≡ false = rw kind_here (ne_eqb (kind_at S at) kinds.let' q) in z) refl
 
   let_here : kind_at S at ≡ kinds.let' → of_kind kinds.let' (node_at s at ∷ []) ≡ node_at s at ∷ []
   unfolding of_kind
-  let_here q = rw (of_kind, let z : eqb (node_kind (node_at s at)) kinds.let' ≡ true = rw kind-here (eq-eqb (kind_at S at) kinds.let' q) in z) refl
+  let_here q = rw (of_kind, let z : eqb (node_kind (node_at s at)) kinds.let' ≡ true = rw kind_here (eq-eqb (kind_at S at) kinds.let' q) in z) refl
 
   force_grown : InForce s S grown
   unfolding with_locals
@@ -266,8 +266,8 @@ module _ (s S : List ℕ) (T : Table) (params count body total at left : ℕ) (h
       record {
         loaded = d;
         params = h.ready.ready.force.params;
-        locals = row-take (suc (total - left)) (omega (arith, h.few)) h.row;
-        next = ap (end_at S) h.here ∙ sym (skip-next S (total - left) body);
+        locals = row_take (suc (total - left)) (omega (arith, h.few)) h.row;
+        next = ap (end_at S) h.here ∙ sym (skip_next S (total - left) body);
       }
 
   -- what is in force on U with the statement behind
@@ -283,9 +283,9 @@ module _ (s S : List ℕ) (T : Table) (params count body total at left : ℕ) (h
           ready =
               record {
                 ready = record { force = force_grown; room = o.on.ready.room };
-                typed = rw (lets-next, no_let_here q, append-nil) o.typed;
+                typed = rw (lets_next, no_let_here q, append-nil) o.typed;
               };
-          is = rw (lets-next, no_let_here q, append-nil) o.on.same;
+          is = rw (lets_next, no_let_here q, append-nil) o.on.same;
         }
 
     bound-now : (q : kind_at S at ≡ kinds.let') (b : Binds s (env_of s T env) T at U) → Grown U (bound (env_of s T env) (name_at s S at) b.type (line_after (expr_at s (suc at))))
@@ -296,22 +296,22 @@ module _ (s S : List ℕ) (T : Table) (params count body total at left : ℕ) (h
               record {
                 ready = record { force = force_grown; room = o.on.ready.room };
                 typed =
-                    rw (lets-next, let_here q) (lets-append o.typed (rw st.here (a_let {t = node at st.line st.parts} (rw b.marked (code_is b.type)) no_let)));
+                    rw (lets_next, let_here q) (lets-append o.typed (rw st.here (a_let {t = node at st.line st.parts} (rw b.marked (code_is b.type)) no_let)));
               };
           is =
               let was = ap (λ (Γ : typing.Env). Γ.locals) o.on.same in
-              let type-is : ty_from (get_or U (suc at) 0) ≡ b.type = from-code _ b.type b.marked in
-              rw (lets-next, let_here q, map-append (local_of U) (lets s (total - left) body) (node_at s at ∷ []), map-append (named_end s) (lets s (total - left) body) (node_at s at ∷ []), was, st.here, st.spells.name, type-is) refl;
+              let type-is : ty_from (get_or U (suc at) 0) ≡ b.type = from_code _ b.type b.marked in
+              rw (lets_next, let_here q, map-append (local_of U) (lets s (total - left) body) (node_at s at ∷ []), map-append (named_end s) (lets s (total - left) body) (node_at s at ∷ []), was, st.here, st.spells.name, type-is) refl;
         }
 
   -- ------------------------------------------------------------ check_body
 
-  pub body-few : left ≤ total
-  body-few = h.few
+  pub body_few : left ≤ total
+  body_few = h.few
 
-  pub body-stmt : (k : ℕ) (Γ : Env) → Γ ≡ with_locals params count body k at → k ≡ total - left → BodyStmt s S Γ T at
+  pub body_stmt : (k : ℕ) (Γ : Env) → Γ ≡ with_locals params count body k at → k ≡ total - left → BodyStmt s S Γ T at
   unfolding with_locals
-  body-stmt k Γ e q = rw (e, q) (record { ready = h.ready; here = here; next = refl })
+  body_stmt k Γ e q = rw (e, q) (record { ready = h.ready; here = here; next = refl })
 
   -- `check_body` from this statement on, in which the rest is checked
   stmts_are : stmts_at s left at ≡ stmt_at s at ∷ stmts_at s (left - 1) (end_at S at)
@@ -321,8 +321,8 @@ module _ (s S : List ℕ) (T : Table) (params count body total at left : ℕ) (h
     does : StmtDoes s S (env_of s T env) at T o U
     does = rw (← (e ∙ ap (λ m. with_locals params count body m at) q)) a
 
-    let_is-here : kind_at S at ≡ kinds.let' → stmt_at s at ≡ bind (name_at s S at) (expr_at s (suc at))
-    let_is-here w = (let_at d here w).0
+    let_is_here : kind_at S at ≡ kinds.let' → stmt_at s at ≡ bind (name_at s S at) (expr_at s (suc at))
+    let_is_here w = (let_at d here w).0
 
     pub body_no : (x : Refusal) → o ≡ Refused x → Does s (check_body (env_of s T env) (stmts_at s left at)) T (Refused x) U
     unfolding check_body stmt_rule ◌>>◌ done_of
@@ -330,10 +330,10 @@ module _ (s S : List ℕ) (T : Table) (params count body total at left : ℕ) (h
       where
         by_cases : (b : Bool) → eqb (kind_at S at) kinds.let' ≡ b → Does s (check_body (env_of s T env) (stmt_at s at ∷ stmts_at s (left - 1) (end_at S at))) T (Refused x) U
         by_cases true w =
-            let i = let_is-here (eqb-true (kind_at S at) kinds.let' w) in
+            let i = let_is_here (eqb-true (kind_at S at) kinds.let' w) in
             record { gives = rw i (refused_behind (ty_of (env_of s T env) (expr_at s (suc at))) (check_local (expr_at s (suc at))) (λ ty. check_body (bound (env_of s T env) (name_at s S at) ty (line_after (expr_at s (suc at)))) (stmts_at s (left - 1) (end_at S at))) T U (refusal_of s x) (rw i at (stopped s (stmt_rule (env_of s T env) (stmt_at s at)) T o U does.does.gives x z))) }
         by_cases false w =
-            record { gives = step_other (env_of s T env) (stmt_at s at) (stmts_at s (left - 1) (end_at S at)) T (is-other d here (eqb-false (kind_at S at) kinds.let' w)) ∙ (does-cut s (stmt_rule (env_of s T env) (stmt_at s at)) (check_body (env_of s T env) (stmts_at s (left - 1) (end_at S at))) T o U does.does x z).gives }
+            record { gives = step_other (env_of s T env) (stmt_at s at) (stmts_at s (left - 1) (end_at S at)) T (is_other d here (eqb-false (kind_at S at) kinds.let' w)) ∙ (does_cut s (stmt_rule (env_of s T env) (stmt_at s at)) (check_body (env_of s T env) (stmts_at s (left - 1) (end_at S at))) T o U does.does x z).gives }
 
     module _ (f : o ≡ Fine) where
       onw : OnTyped s S env T U
@@ -357,7 +357,7 @@ module _ (s S : List ℕ) (T : Table) (params count body total at left : ℕ) (h
                 with' = bound (env_of s T env) (name_at s S at) y.type (line_after (expr_at s (suc at)));
                 grows = bound-now U onw k16 y;
                 steps = λ r W k.
-                    record { gives = rw (stmts_are, let_is-here k16) (then_ok (ty_of (env_of s T env) (expr_at s (suc at))) (λ ty. check_local (expr_at s (suc at)) ty >>= λ _. check_body (bound (env_of s T env) (name_at s S at) ty (line_after (expr_at s (suc at)))) (stmts_at s (left - 1) (end_at S at))) T U y.type (record { res = done_of s r; table = W }) y.typed (then_ok (check_local (expr_at s (suc at)) y.type) (λ _. check_body (bound (env_of s T env) (name_at s S at) y.type (line_after (expr_at s (suc at)))) (stmts_at s (left - 1) (end_at S at))) U U tt (record { res = done_of s r; table = W }) y.fits k.gives)) };
+                    record { gives = rw (stmts_are, let_is_here k16) (then_ok (ty_of (env_of s T env) (expr_at s (suc at))) (λ ty. check_local (expr_at s (suc at)) ty >>= λ _. check_body (bound (env_of s T env) (name_at s S at) ty (line_after (expr_at s (suc at)))) (stmts_at s (left - 1) (end_at S at))) T U y.type (record { res = done_of s r; table = W }) y.typed (then_ok (check_local (expr_at s (suc at)) y.type) (λ _. check_body (bound (env_of s T env) (name_at s S at) y.type (line_after (expr_at s (suc at)))) (stmts_at s (left - 1) (end_at S at))) U U tt (record { res = done_of s r; table = W }) y.fits k.gives)) };
               }
           by_cases false w =
               let no = eqb-false (kind_at S at) kinds.let' w in
@@ -365,7 +365,7 @@ module _ (s S : List ℕ) (T : Table) (params count body total at left : ℕ) (h
                 with' = env_of s T env;
                 grows = still U onw no;
                 steps = λ r W k.
-                    record { gives = rw stmts_are (step_other (env_of s T env) (stmt_at s at) (stmts_at s (left - 1) (end_at S at)) T (is-other d here no) ∙ (does_then s (stmt_rule (env_of s T env) (stmt_at s at)) (check_body (env_of s T env) (stmts_at s (left - 1) (end_at S at))) T o U does.does f r W k).gives) };
+                    record { gives = rw stmts_are (step_other (env_of s T env) (stmt_at s at) (stmts_at s (left - 1) (end_at S at)) T (is_other d here no) ∙ (does_then s (stmt_rule (env_of s T env) (stmt_at s at)) (check_body (env_of s T env) (stmts_at s (left - 1) (end_at S at))) T o U does.does f r W k).gives) };
               }
 
       pub body_rest : (m : ℕ) → m ≡ end_at S at → BodyAt s S U params count body total m (left - 1)
@@ -374,7 +374,7 @@ module _ (s S : List ℕ) (T : Table) (params count body total at left : ℕ) (h
           record {
             few = omega (arith, h.few);
             row = h.row;
-            here = rw z (em ∙ ap (end_at S) h.here ∙ sym (skip-next S (total - left) body));
+            here = rw z (em ∙ ap (end_at S) h.here ∙ sym (skip_next S (total - left) body));
             ready = rw (z, em) behind.grows.ready;
           }
 
@@ -389,5 +389,5 @@ pub body_none : (s S : List ℕ) (T : Table) (Γ : typing.Env) (left at : ℕ) �
 unfolding check_body
 body_none s S T Γ left at e = rw (e, no_stmts s at) (does_nothing s T)
 
-pub stmt-length : (s S : List ℕ) (Γ : typing.Env) (i : ℕ) (T : Table) (r : Done) (U : Table) → StmtDoes s S Γ i T r U → length U ≡ length T
-stmt-length s S Γ i T r U a = does-length s _ T r U a.does
+pub stmt_length : (s S : List ℕ) (Γ : typing.Env) (i : ℕ) (T : Table) (r : Done) (U : Table) → StmtDoes s S Γ i T r U → length U ≡ length T
+stmt_length s S Γ i T r U a = does_length s _ T r U a.does

@@ -25,12 +25,12 @@ use Rattle.refusals.specs.Refusal.{done_of}
 use Rattle.refusals.specs.declared.refusal.Refusal.{Refusal}
 use Rattle.refusals.specs.declared.refusal.Done.{Done}
 use Rattle.refusals.specs.declared.refusal.Done.TheVariants.{Fine, Refused}
-use Rattle.refusals.proofs.Answers.{answers_then, answers-cut}
+use Rattle.refusals.proofs.Answers.{answers_then, answers_cut}
 use Rattle.env.specs.Force.{env_of, params_in, lets, ends_in}
 use Rattle.env.specs.declared.env.Env.{Env}
 use Rattle.typing.specs.Asks.{Does}
-use Rattle.typing.proofs.Calls.{does-length}
-use Rattle.typing.proofs.Doing.{does_then, does-cut, asks_none}
+use Rattle.typing.proofs.Calls.{does_length}
+use Rattle.typing.proofs.Doing.{does_then, does_cut, asks_none}
 use Rattle.wrapping.specs.Lines.{FewEntry}
 use Rattle.checking.specs.Walk.{with_params, with_locals, no_let, record_rule, a_clause, RecordsIn, BodyAt, EntryIn, entry_env, types_rule, uses_rule}
 use Rattle.checking.proofs.Recording.{rule_each, rule_clause}
@@ -48,11 +48,11 @@ module _ (s S : List ℕ) (T : Table) (i : ℕ) (h : EntryIn s S T i) where
   pub entry-within : i < line_count S
   entry-within = h.within
 
-  pub entry-lines : EntryAt s S i
-  entry-lines = record { loaded = d; within = h.within; kind = h.kind }
+  pub entry_lines : EntryAt s S i
+  entry_lines = record { loaded = d; within = h.within; kind = h.kind }
 
-  pub entry-few : FewEntry s S i
-  entry-few = record { entry = entry-lines; few = h.sheet.few }
+  pub entry_few : FewEntry s S i
+  entry_few = record { entry = entry_lines; few = h.sheet.few }
 
   module _ (a : ℕ) (ea : a ≡ param_count S i) where
     params : Row S grammar.Param a (i + 1)
@@ -74,11 +74,11 @@ module _ (s S : List ℕ) (T : Table) (i : ℕ) (h : EntryIn s S T i) where
             row = parts.clauses;
           })
 
-      pub clauses-does : (at b : ℕ) (r : Done) (U : Table) → at ≡ skip S (param_count S i) (suc i) → b ≡ clause_count S i
+      pub clauses_does : (at b : ℕ) (r : Done) (U : Table) → at ≡ skip S (param_count S i) (suc i) → b ≡ clause_count S i
           → Does s (for_each (nodes_at s b at) (record_rule (sort_number grammar.Clause) (env_of s T env))) T r U
           → Does s (for_each (entry_at s i).clauses (clause_predicate (entry_env (model_in s) (entry_at s i)))) T r U
       unfolding clauses_at entry_at entry_of
-      clauses-does at b r U et eb k =
+      clauses_does at b r U et eb k =
           let c : (entry_at s i).clauses ≡ map clause_of (nodes_at s b at) = ap (λ (x : Entry). x.clauses) parts.is ∙ rw (← et, ← eb) refl in
           let same = rule_each (sort_number grammar.Clause) (env_of s T env) clause_of (clause_predicate (env_of s T env)) (rule_clause (env_of s T env)) (nodes_at s b at) T in
           record { gives = rw c (rw in_force at (sym same ∙ k.gives)) }
@@ -102,10 +102,10 @@ module _ (s S : List ℕ) (T : Table) (i : ℕ) (h : EntryIn s S T i) where
                 });
           }
 
-      pub body-does : (r : Done) (U : Table) → Does s (check_body (env_of s T (with_locals (i + 1) a body (total - total) body)) (stmts_at s total body)) T r U
+      pub body_does : (r : Done) (U : Table) → Does s (check_body (env_of s T (with_locals (i + 1) a body (total - total) body)) (stmts_at s total body)) T r U
           → Does s (check_body (entry_env (model_in s) (entry_at s i)) (entry_at s i).body) T r U
       unfolding with_locals env_of params_in lets nodes_at take_nodes nodes of_kind ends_in entry_env typing.new params_at
-      body-does r U k =
+      body_does r U k =
           let c : (entry_at s i).body ≡ stmts_at s total body = ap (λ (x : Entry). x.body) parts.is ∙ rw (← ey, ← ec) refl in
           let e : env_of s T (with_locals (i + 1) a body (total - total) body) ≡ entry_env (model_in s) (entry_at s i) = rw (none, parts.is, ea, add-one i) refl in
           rw (c, ← e) k
@@ -114,18 +114,18 @@ module _ (s S : List ℕ) (T : Table) (i : ℕ) (h : EntryIn s S T i) where
     pub types_on : EntryIn s S U i
     types_on =
         record {
-          sheet = record { loaded = d; few = h.sheet.few; room = let l = does-length s _ T o U a in omega (arith, l, h.sheet.room) };
+          sheet = record { loaded = d; few = h.sheet.few; room = let l = does_length s _ T o U a in omega (arith, l, h.sheet.room) };
           within = h.within;
           kind = h.kind;
         }
 
-    pub types-ok : o ≡ Fine → (r : Done) (W : Table) → Does s (check_body (entry_env (model_in s) (entry_at s i)) (entry_at s i).body) U r W → Does s (types_rule (model_in s) (entry_at s i)) T r W
+    pub types_ok : o ≡ Fine → (r : Done) (W : Table) → Does s (check_body (entry_env (model_in s) (entry_at s i)) (entry_at s i).body) U r W → Does s (types_rule (model_in s) (entry_at s i)) T r W
     unfolding types_rule ◌>>◌
-    types-ok e r W k = does_then s _ _ T o U a e r W k
+    types_ok e r W k = does_then s _ _ T o U a e r W k
 
     pub types_no : (x : Refusal) → o ≡ Refused x → Does s (types_rule (model_in s) (entry_at s i)) T (Refused x) U
     unfolding types_rule ◌>>◌
-    types_no x e = does-cut s _ _ T o U a x e
+    types_no x e = does_cut s _ _ T o U a x e
 
   -- ------------------------------------------------------------ check_entry
 
@@ -136,14 +136,14 @@ module _ (s S : List ℕ) (T : Table) (i : ℕ) (h : EntryIn s S T i) where
 
   module _ (o : Done) (a : Answers (narrow_wrapping (model_in s) (entry_at s i)) (done_of s o)) where
     pub entry_no : (x : Refusal) → o ≡ Refused x → Does s (check_entry (model_in s) (entry_at s i)) T (Refused x) T
-    entry_no x e = record { gives = grouped ∙ (does-cut s _ _ T o T (asks_none s _ T o a) x e).gives }
+    entry_no x e = record { gives = grouped ∙ (does_cut s _ _ T o T (asks_none s _ T o a) x e).gives }
 
     module _ (e : o ≡ Fine) (p : Done) (U : Table) (b : Does s (types_rule (model_in s) (entry_at s i)) T p U) where
-      pub entry-types_no : (x : Refusal) → p ≡ Refused x → Does s (check_entry (model_in s) (entry_at s i)) T (Refused x) U
-      entry-types_no x f = record { gives = grouped ∙ (does_then s _ _ T o T (asks_none s _ T o a) e (Refused x) U (does-cut s _ _ T p U b x f)).gives }
+      pub entry_types_no : (x : Refusal) → p ≡ Refused x → Does s (check_entry (model_in s) (entry_at s i)) T (Refused x) U
+      entry_types_no x f = record { gives = grouped ∙ (does_then s _ _ T o T (asks_none s _ T o a) e (Refused x) U (does_cut s _ _ T p U b x f)).gives }
 
-      pub entry-ok : p ≡ Fine → (r : Done) → Answers (uses_rule (entry_at s i)) (done_of s r) → Does s (check_entry (model_in s) (entry_at s i)) T r U
-      entry-ok f r k = record { gives = grouped ∙ (does_then s _ _ T o T (asks_none s _ T o a) e r U (does_then s _ _ T p U b f r U (asks_none s _ U r k))).gives }
+      pub entry_ok : p ≡ Fine → (r : Done) → Answers (uses_rule (entry_at s i)) (done_of s r) → Does s (check_entry (model_in s) (entry_at s i)) T r U
+      entry_ok f r k = record { gives = grouped ∙ (does_then s _ _ T o T (asks_none s _ T o a) e r U (does_then s _ _ T p U b f r U (asks_none s _ U r k))).gives }
 
 -- ------------------------------------------------------------ what is checked without types
 
@@ -154,12 +154,12 @@ module _ (s S : List ℕ) (i : ℕ) (h : EntryAt s S i) where
   pub uses-within : i < line_count S
   uses-within = h.within
 
-  pub uses-body : (body c : ℕ) → body ≡ skip S (clause_count S i) (skip S (param_count S i) (suc i)) → c ≡ body_count S i → RecordsAt grammar.Stmt s S c body
-  uses-body body c ey ec = record { loaded = h.loaded; row = rw (ey, ec) its.body }
+  pub uses_body : (body c : ℕ) → body ≡ skip S (clause_count S i) (skip S (param_count S i) (suc i)) → c ≡ body_count S i → RecordsAt grammar.Stmt s S c body
+  uses_body body c ey ec = record { loaded = h.loaded; row = rw (ey, ec) its.body }
 
   module _ (at b : ℕ) (et : at ≡ skip S (param_count S i) (suc i)) (eb : b ≡ clause_count S i) where
-    pub uses-clauses : RecordsAt grammar.Clause s S b at
-    uses-clauses = record { loaded = h.loaded; row = rw (et, eb) its.clauses }
+    pub uses_clauses : RecordsAt grammar.Clause s S b at
+    uses_clauses = record { loaded = h.loaded; row = rw (et, eb) its.clauses }
 
     module _ (o : Done) (a : Answers (for_each (clauses_at s b at) clause_assets) (done_of s o)) where
       first : Answers (for_each (entry_at s i).clauses clause_assets) (done_of s o)
@@ -167,17 +167,17 @@ module _ (s S : List ℕ) (i : ℕ) (h : EntryAt s S i) where
 
       pub uses_no : (x : Refusal) → o ≡ Refused x → Answers (uses_rule (entry_at s i)) (done_of s (Refused x))
       unfolding uses_rule ◌>>◌
-      uses_no x e = answers-cut s _ _ o first x e
+      uses_no x e = answers_cut s _ _ o first x e
 
       module _ (e : o ≡ Fine) (body c : ℕ) (ey : body ≡ skip S (clause_count S i) (skip S (param_count S i) (suc i))) (ec : c ≡ body_count S i) where
         module _ (p : Done) (k : Answers (for_each (stmts_at s c body) asset_calls_consumed) (done_of s p)) where
           second : Answers (for_each (entry_at s i).body asset_calls_consumed) (done_of s p)
           second = rw (ap (λ (x : Entry). x.body) its.is, ← ey, ← ec) k
 
-          pub uses-body_no : (x : Refusal) → p ≡ Refused x → Answers (uses_rule (entry_at s i)) (done_of s (Refused x))
+          pub uses_body_no : (x : Refusal) → p ≡ Refused x → Answers (uses_rule (entry_at s i)) (done_of s (Refused x))
           unfolding uses_rule ◌>>◌
-          uses-body_no x f = answers_then s _ _ o first e (Refused x) (answers-cut s _ _ p second x f)
+          uses_body_no x f = answers_then s _ _ o first e (Refused x) (answers_cut s _ _ p second x f)
 
-          pub uses-ok : p ≡ Fine → (r : Done) → Answers (check_arithmetic (entry_at s i) (param_types (entry_at s i).params)) (done_of s r) → Answers (uses_rule (entry_at s i)) (done_of s r)
+          pub uses_ok : p ≡ Fine → (r : Done) → Answers (check_arithmetic (entry_at s i) (param_types (entry_at s i).params)) (done_of s r) → Answers (uses_rule (entry_at s i)) (done_of s r)
           unfolding uses_rule ◌>>◌
-          uses-ok f r m = answers_then s _ _ o first e r (answers_then s _ _ p second f r m)
+          uses_ok f r m = answers_then s _ _ o first e r (answers_then s _ _ p second f r m)

@@ -11,7 +11,7 @@ use Rattle.rules.specs.Kept.{Table, ty_of_mark, kept}
 use Rattle.rules.specs.Standing.{nodes_at}
 use Rattle.rules.proofs.All.{All}
 use Rattle.rules.proofs.Binding.{kept_holds}
-use Rattle.lookups.proofs.Codes.{code_of}
+use Rattle.lookups.proofs.Codes.{code_of_lem}
 use Rattle.lookups.specs.Found.{of_kind}
 use Rattle.env.specs.Force.{lets, Ready}
 use Rattle.env.specs.declared.env.Env.{Env}
@@ -31,7 +31,7 @@ module _ (T U : Table) (h : (i : ℕ) (t : Ty) → ty_of_mark (get_or T i 0) ≡
   lets_on : {ts : List Node} → LetsTyped T ts → LetsTyped U ts × All (SameValue T U) ts
   lets_on no_let = (no_let, tt)
   lets_on (a_let {t = node i l ps} x xs) =
-      let e = h (suc i) _ (code_of _ x).0 in
+      let e = h (suc i) _ (code_of_lem _ x).0 in
       let r = lets_on xs in
       (a_let {t = node i l ps} (rw e x) r.0, (e, r.1))
 

@@ -22,9 +22,9 @@ use Rattle.rules.specs.KeyKinds.{check_key_kinds}
 use Rattle.rules.specs.Check.{param_types, check_field, check_genesis, check_event_param, check_entry_param, check_entry, before_entries, check}
 use Rattle.rules.specs.Standing.{node_at, nodes_at, expr_at, params_at, event_at, entry_at, model_in, Loaded, Here, Row, stop}
 use Rattle.rules.proofs.Parts.{stop as end', ◌also◌, pick, parts}
-use Rattle.rules.proofs.Rows.{records, row-some, list-some}
+use Rattle.rules.proofs.Rows.{records, row_some, list_some}
 use Rattle.rules.proofs.Records.{no_nodes, group, event_at_lem, entry_at_lem}
-use Rattle.rules.proofs.Standing.{Stands, stands, nodes-next, row_first, row_rest, row-take}
+use Rattle.rules.proofs.Standing.{Stands, stands, nodes_next, row_first, row_rest, row_take}
 use Rattle.rules.proofs.Binding.{kept_assoc, kept_behind, kept_unit, each_append}
 use Rattle.lookups.proofs.Fields.{items_at}
 use Rattle.text.proofs.Tests.{or_parts}
@@ -38,8 +38,8 @@ use Rattle.refusals.specs.declared.refusal.Done.TheVariants.{Fine, Refused}
 use Rattle.env.specs.Force.{env_of, params_in, lets, ends_in, Ready}
 use Rattle.env.specs.declared.env.Env.{Env}
 use Rattle.typing.specs.Asks.{Asks, Does}
-use Rattle.typing.proofs.Calls.{does-length}
-use Rattle.typing.proofs.Doing.{does_then, does-cut, asks_none}
+use Rattle.typing.proofs.Calls.{does_length}
+use Rattle.typing.proofs.Doing.{does_then, does_cut, asks_none}
 use Rattle.checking.specs.Walk.{with_params, record_rule, param_rule, a_field, a_stmt, RecordsIn, SheetIn, EntryIn, ItemIn, OwnItem, ItemsIn, PassIn, pass_rule, names_rule, after_fields, from_entries}
 use Rattle.checking.proofs.Recording.{rule_each, rule_field, rule_stmt}
 use Rattle.grammar.specs.Kinds as kinds
@@ -131,52 +131,52 @@ module _ {s S : List ℕ} (d : Loaded s S) {i : ℕ} (h : Here S grammar.Item i)
   abbrev it : Stands s S i
   it = stands d i h.within
 
-  kind-is : {k : ℕ} → kind_at S i ≡ k → it.line.kind ≡ k
-  kind-is e = sym it.says.kind ∙ e
+  kind_is : {k : ℕ} → kind_at S i ≡ k → it.line.kind ≡ k
+  kind_is e = sym it.says.kind ∙ e
 
   abbrev its : Model
   its = item_model (item_of (node_at s i))
 
-  state-model : kind_at S i ≡ kinds.state → (its ≡ of_state (map field_of (nodes_at s (field_count S i) (suc i)))) × Row S grammar.Field (field_count S i) (suc i)
+  state_model : kind_at S i ≡ kinds.state → (its ≡ of_state (map field_of (nodes_at s (field_count S i) (suc i)))) × Row S grammar.Field (field_count S i) (suc i)
   unfolding item_model item_of
-  state-model e =
-      let p = parts it.line kinds.state it.parted (kind-is e) in
+  state_model e =
+      let p = parts it.line kinds.state it.parted (kind_is e) in
       let g = group d h.within grammar.Field p.0 p.1 in
-      rw g.3 (rw (it.here, kind-is e, g.0) refl, g.2)
+      rw g.3 (rw (it.here, kind_is e, g.0) refl, g.2)
 
-  event-model : kind_at S i ≡ kinds.event → its ≡ of_event (event_at s i ∷ [])
+  event_model : kind_at S i ≡ kinds.event → its ≡ of_event (event_at s i ∷ [])
   unfolding item_model item_of event_at event_of
-  event-model e = rw (it.here, kind-is e) refl
+  event_model e = rw (it.here, kind_is e) refl
 
   invariant-model : kind_at S i ≡ kinds.invariant → (its ≡ of_invariant (expr_at s (suc i) ∷ [])) × Row S grammar.Expr 1 (suc i)
   unfolding item_model item_of expr_at
   invariant-model e =
-      let p = parts it.line kinds.invariant it.parted (kind-is e) in
+      let p = parts it.line kinds.invariant it.parted (kind_is e) in
       let g = group d h.within grammar.Expr 1 p in
-      let n : nodes it.parts ≡ node_at s (suc i) ∷ [] = g.0 ∙ nodes-next d 0 (suc i) (row_first g.2).within ∙ rw (no_nodes s (end_at S (suc i))) refl in
-      (rw (it.here, kind-is e, n) refl, g.2)
+      let n : nodes it.parts ≡ node_at s (suc i) ∷ [] = g.0 ∙ nodes_next d 0 (suc i) (row_first g.2).within ∙ rw (no_nodes s (end_at S (suc i))) refl in
+      (rw (it.here, kind_is e, n) refl, g.2)
 
-  genesis-model : kind_at S i ≡ kinds.genesis → (its ≡ of_genesis (map stmt_of (nodes_at s (genesis_count S i) (suc i)))) × Row S grammar.Stmt (genesis_count S i) (suc i)
+  genesis_model : kind_at S i ≡ kinds.genesis → (its ≡ of_genesis (map stmt_of (nodes_at s (genesis_count S i) (suc i)))) × Row S grammar.Stmt (genesis_count S i) (suc i)
   unfolding item_model item_of
-  genesis-model e =
-      let p = parts it.line kinds.genesis it.parted (kind-is e) in
+  genesis_model e =
+      let p = parts it.line kinds.genesis it.parted (kind_is e) in
       let g = group d h.within grammar.Stmt p.0 p.1 in
-      rw g.3 (rw (it.here, kind-is e, g.0) refl, g.2)
+      rw g.3 (rw (it.here, kind_is e, g.0) refl, g.2)
 
-  entry-model : kind_at S i ≡ kinds.entry → its ≡ of_entry (entry_at s i ∷ [])
+  entry_model : kind_at S i ≡ kinds.entry → its ≡ of_entry (entry_at s i ∷ [])
   unfolding item_model item_of entry_at entry_of
-  entry-model e = rw (it.here, kind-is e) refl
+  entry_model e = rw (it.here, kind_is e) refl
 
   -- ------------------------------------------------------------ an item that a pass doesn't look at
 
   nothing_for : (pass : ℕ) (T : Table) → pass < passes.count → own (kind_at S i) pass ≡ false → kept (pass_rule s pass its) T ≡ kept (ret tt) T
   nothing_for pass T l n =
       pick {P = λ k. kind_at S i ≡ k → kept (pass_rule s pass its) T ≡ kept (ret tt) T} {i = kinds.state} {n = 5} (kind_at S i)
-      ((λ e. rw (state-model e).0 (not_state s _ pass T l (rw e at n)))
-      also (λ e. rw (event-model e) (not_event s _ pass T l (rw e at n)))
+      ((λ e. rw (state_model e).0 (not_state s _ pass T l (rw e at n)))
+      also (λ e. rw (event_model e) (not_event s _ pass T l (rw e at n)))
       also (λ e. rw (invariant-model e).0 (not_invariant s _ pass T l (rw e at n)))
-      also (λ e. rw (genesis-model e).0 (not_genesis s _ pass T l (rw e at n)))
-      also (λ e. rw (entry-model e) (not_entry s _ pass T l (rw e at n)))
+      also (λ e. rw (genesis_model e).0 (not_genesis s _ pass T l (rw e at n)))
+      also (λ e. rw (entry_model e) (not_entry s _ pass T l (rw e at n)))
       also end')
       h.kind.0 h.kind.1 refl
 
@@ -186,9 +186,9 @@ abbrev bare : Bool → Env
 bare g = with_params 0 0 g
 
 -- no parameters and no locals are in force
-bare-ready : (s S : List ℕ) (T : Table) (g : Bool) → SheetIn s S T → Ready s S (with_params 0 0 g) T
+bare_ready : (s S : List ℕ) (T : Table) (g : Bool) → SheetIn s S T → Ready s S (with_params 0 0 g) T
 unfolding with_params skip
-bare-ready s S T g h = record { force = record { loaded = h.loaded; params = stop; locals = stop; next = refl }; room = h.room }
+bare_ready s S T g h = record { force = record { loaded = h.loaded; params = stop; locals = stop; next = refl }; room = h.room }
 
 new_env : (s : List ℕ) (T : Table) → env_of s T (with_params 0 0 false) ≡ typing.new (model_in s) []
 unfolding with_params env_of params_in lets nodes_at take_nodes nodes of_kind ends_in typing.new param_types
@@ -208,24 +208,24 @@ module _ (s S : List ℕ) (T : Table) (pass i : ℕ) (h : OwnItem s S T pass i) 
   here : Here S grammar.Item i
   here = h.item.here
 
-  own-kind : kind_at S i ≡ passes.item_kind pass
-  own-kind = eqb-true (kind_at S i) (passes.item_kind pass) h.own
+  own_kind : kind_at S i ≡ passes.item_kind pass
+  own_kind = eqb-true (kind_at S i) (passes.item_kind pass) h.own
 
   -- entries
-  pub item-entry : pass ≡ passes.entries → EntryIn s S T i
-  item-entry e = record { sheet = sh; within = here.within; kind = own-kind ∙ rw e refl }
+  pub item_entry : pass ≡ passes.entries → EntryIn s S T i
+  item_entry e = record { sheet = sh; within = here.within; kind = own_kind ∙ rw e refl }
 
   pub entry_pass : (r : Done) (U : Table) → pass ≡ passes.entries → Does s (check_entry (model_in s) (entry_at s i)) T r U → Does s (pass_rule s pass (item_model (item_of (node_at s i)))) T r U
   unfolding pass_rule
-  entry_pass r U e a = record { gives = rw (e, entry-model d here (item-entry e).kind) (one (check_entry (model_in s)) (entry_at s i) T ∙ a.gives) }
+  entry_pass r U e a = record { gives = rw (e, entry_model d here (item_entry e).kind) (one (check_entry (model_in s)) (entry_at s i) T ∙ a.gives) }
 
   -- invariants
   module _ (e : pass ≡ passes.invariants) (env : Env) (f : env ≡ with_params 0 0 false) where
     inv : (item_model (item_of (node_at s i)) ≡ of_invariant (expr_at s (suc i) ∷ [])) × Row S grammar.Expr 1 (suc i)
-    inv = invariant-model d here (own-kind ∙ rw e refl)
+    inv = invariant-model d here (own_kind ∙ rw e refl)
 
-    pub item-invariant : Asks s S env T (i + 1)
-    item-invariant = rw f (record { ready = bare-ready s S T false sh; here = rw (add-one i) (row_first inv.1) })
+    pub item_invariant : Asks s S env T (i + 1)
+    item_invariant = rw f (record { ready = bare_ready s S T false sh; here = rw (add-one i) (row_first inv.1) })
 
     pub invariant-pass : (r : Done) (U : Table) → Does s (expect_predicate (env_of s T env) (expr_at s (i + 1))) T r U → Does s (pass_rule s pass (item_model (item_of (node_at s i)))) T r U
     unfolding pass_rule
@@ -238,11 +238,11 @@ module _ (s S : List ℕ) (T : Table) (pass i : ℕ) (h : OwnItem s S T pass i) 
     params_of P f g = by_cases (eqb pass passes.events) refl q
       where
         by_cases : (b : Bool) → eqb pass passes.events ≡ b → (b || eqb pass passes.params) ≡ true → P
-        by_cases true e z = let its = eqb-true pass passes.events e in f its (own-kind ∙ rw its refl)
-        by_cases false e z = let its = eqb-true pass passes.params z in g its (own-kind ∙ rw its refl)
+        by_cases true e z = let its = eqb-true pass passes.events e in f its (own_kind ∙ rw its refl)
+        by_cases false e z = let its = eqb-true pass passes.params z in g its (own_kind ∙ rw its refl)
 
-    pub item-params : RecordsAt grammar.Param s S m (i + 1)
-    item-params =
+    pub item_params : RecordsAt grammar.Param s S m (i + 1)
+    item_params =
         params_of (RecordsAt grammar.Param s S m (i + 1))
         (λ e f. record { loaded = d; row = rw (em, add-one i) (event_at_lem d here.within f).1 })
         (λ e f. record { loaded = d; row = rw (em, add-one i) (entry_at_lem d here.within f).params })
@@ -255,14 +255,14 @@ module _ (s S : List ℕ) (T : Table) (pass i : ℕ) (h : OwnItem s S T pass i) 
         let ev = ap (λ (x : Event). x.params) (event_at_lem d here.within f).0 in
         record {
           gives =
-              rw (e, event-model d here f)
+              rw (e, event_model d here f)
               (one (λ x. for_each x.params check_event_param) (event_at s i) T ∙ rw (ev, ← em, ← add-one i) ((rw (eq-eqb k kinds.event (ek ∙ f)) at a).answers T));
         })
         (λ e f.
         let en = ap (λ (x : Entry). x.params) (entry_at_lem d here.within f).is in
         record {
           gives =
-              rw (e, entry-model d here f)
+              rw (e, entry_model d here f)
               (one (λ x. for_each x.params check_entry_param) (entry_at s i) T ∙ rw (en, ← em, ← add-one i) ((rw (ne_eqb k kinds.event (omega (arith, ek, f))) at a).answers T));
         })
 
@@ -275,7 +275,7 @@ module _ (s S : List ℕ) (T : Table) (pass i : ℕ) (h : OwnItem s S T pass i) 
         others = or_parts (eqb pass passes.events) (eqb pass passes.params) q
 
         kind : kind_at S i ≡ passes.item_kind pass
-        kind = own-kind
+        kind = own_kind
 
         by_cases : (z : Bool) → eqb pass passes.fields ≡ z → P
         by_cases true e =
@@ -293,12 +293,12 @@ module _ (s S : List ℕ) (T : Table) (pass i : ℕ) (h : OwnItem s S T pass i) 
     genesis_in : pass ≡ passes.genesis → m ≡ genesis_count S i
     genesis_in e = em ∙ rw e refl
 
-    pub item-records : (env : Env) (g : Bool) → env ≡ with_params 0 0 g → RecordsIn s S env T sort m (i + 1)
+    pub item_records : (env : Env) (g : Bool) → env ≡ with_params 0 0 g → RecordsIn s S env T sort m (i + 1)
     unfolding with_params
-    item-records env g f =
+    item_records env g f =
         records_of (RecordsIn s S env T sort m (i + 1))
-        (λ e w z. rw (f, es, e) (record { ready = bare-ready s S T g sh; bare = refl; walked = a_field; row = rw (fields_in e, add-one i) (state-model d here w).1 }))
-        (λ e w z. rw (f, es, e) (record { ready = bare-ready s S T g sh; bare = refl; walked = a_stmt; row = rw (genesis_in e, add-one i) (genesis-model d here w).1 }))
+        (λ e w z. rw (f, es, e) (record { ready = bare_ready s S T g sh; bare = refl; walked = a_field; row = rw (fields_in e, add-one i) (state_model d here w).1 }))
+        (λ e w z. rw (f, es, e) (record { ready = bare_ready s S T g sh; bare = refl; walked = a_stmt; row = rw (genesis_in e, add-one i) (genesis_model d here w).1 }))
 
     pub records_pass : (env : Env) (r : Done) (U : Table) → env ≡ with_params 0 0 (eqb k kinds.genesis) → Does s (for_each (nodes_at s m (i + 1)) (record_rule sort (env_of s T env))) T r U
         → Does s (pass_rule s pass (item_model (item_of (node_at s i)))) T r U
@@ -307,13 +307,13 @@ module _ (s S : List ℕ) (T : Table) (pass i : ℕ) (h : OwnItem s S T pass i) 
         records_of (Does s (pass_rule s pass (item_model (item_of (node_at s i)))) T r U)
         (λ e w z.
         let Γ = typing.new (model_in s) [] in
-        let y = state-model d here w in
+        let y = state_model d here w in
         let g : env ≡ with_params 0 0 false = f ∙ rw z refl in
         let its : sort ≡ sort_number grammar.Field = es ∙ rw e refl in
         record { gives = rw (e, y.0) (sym (rule_each (sort_number grammar.Field) Γ field_of (check_field Γ) (rule_field Γ) (nodes_at s (field_count S i) (suc i)) T) ∙ rw (← new_env s T, ← g, ← fields_in e, ← add-one i, ← its) a.gives) })
         (λ e w z.
         let Γ = typing.in_genesis (typing.new (model_in s) []) in
-        let y = genesis-model d here w in
+        let y = genesis_model d here w in
         let g : env ≡ with_params 0 0 true = f ∙ rw z refl in
         let its : sort ≡ sort_number grammar.Stmt = es ∙ rw e refl in
         record { gives = rw (e, y.0) (sym (rule_each (sort_number grammar.Stmt) Γ stmt_of (check_genesis Γ) (rule_stmt Γ) (nodes_at s (genesis_count S i) (suc i)) T) ∙ rw (← genesis_env s T, ← g, ← genesis_in e, ← add-one i, ← its) a.gives) })
@@ -321,15 +321,15 @@ module _ (s S : List ℕ) (T : Table) (pass i : ℕ) (h : OwnItem s S T pass i) 
 -- ------------------------------------------------------------ check_item, check_items
 
 module _ (s S : List ℕ) (T : Table) (pass i : ℕ) (h : ItemIn s S T pass i) (k : ℕ) (ek : k ≡ kind_at S i) (b : Bool) (eb : b ≡ eqb k (passes.item_kind pass)) where
-  pub item-number : pass < passes.count
-  item-number = h.number
+  pub item_number : pass < passes.count
+  item_number = h.number
 
-  pub item-other : not b ≡ true → Does s (pass_rule s pass (item_model (item_of (node_at s i)))) T Fine T
+  pub item_other : not b ≡ true → Does s (pass_rule s pass (item_model (item_of (node_at s i)))) T Fine T
   unfolding done_of kept
-  item-other q = record { gives = nothing_for h.sheet.loaded h.here pass T h.number (rw (← ek, ← eb) (not-true b q)) }
+  item_other q = record { gives = nothing_for h.sheet.loaded h.here pass T h.number (rw (← ek, ← eb) (not-true b q)) }
 
-  pub item-own : not b ≡ false → OwnItem s S T pass i
-  item-own q = record { item = h; own = rw (← ek, ← eb) (not-false b q) }
+  pub item_own : not b ≡ false → OwnItem s S T pass i
+  item_own q = record { item = h; own = rw (← ek, ← eb) (not-false b q) }
 
 pub items_none : (s S : List ℕ) (T : Table) (pass m i : ℕ) → ItemsIn s S T pass m i → m ≡ 0 → Does s (pass_rule s pass (build (map item_of (nodes_at s m i)))) T Fine T
 unfolding build done_of kept
@@ -337,33 +337,33 @@ items_none s S T pass m i h e = record { gives = rw (e, no_nodes s i) (pass_noth
 
 module _ (s S : List ℕ) (T : Table) (pass m i : ℕ) (h : ItemsIn s S T pass m i) (n : m ≢ 0) where
   row : Row S grammar.Item (suc (m - 1)) i
-  row = row-some (omega arith) h.row
+  row = row_some (omega arith) h.row
 
-  pub items-first : ItemIn s S T pass i
-  items-first = record { sheet = h.sheet; number = h.number; here = row_first row }
+  pub items_first : ItemIn s S T pass i
+  items_first = record { sheet = h.sheet; number = h.number; here = row_first row }
 
   split : kept (pass_rule s pass (build (map item_of (nodes_at s m i)))) T
       ≡ kept (pass_rule s pass (item_model (item_of (node_at s i))) >>= λ _. pass_rule s pass (build (map item_of (nodes_at s (m - 1) (end_at S i))))) T
   unfolding build
   split =
-      rw (list-some records h.sheet.loaded (omega arith) h.row) (pass_joined s pass (item_model (item_of (node_at s i))) (build (map item_of (nodes_at s (m - 1) (end_at S i)))) T h.number)
+      rw (list_some records h.sheet.loaded (omega arith) h.row) (pass_joined s pass (item_model (item_of (node_at s i))) (build (map item_of (nodes_at s (m - 1) (end_at S i)))) T h.number)
 
   module _ (o : Done) (U : Table) (a : Does s (pass_rule s pass (item_model (item_of (node_at s i)))) T o U) where
     pub items_no : (x : Refusal) → o ≡ Refused x → Does s (pass_rule s pass (build (map item_of (nodes_at s m i)))) T (Refused x) U
-    items_no x e = record { gives = split ∙ (does-cut s _ _ T o U a x e).gives }
+    items_no x e = record { gives = split ∙ (does_cut s _ _ T o U a x e).gives }
 
     pub items_rest : o ≡ Fine → (j : ℕ) → j ≡ end_at S i → (k : ℕ) → k ≤ m - 1 → ItemsIn s S U pass k j
     items_rest e j q k l =
         rw q
         (record {
-          sheet = record { loaded = h.sheet.loaded; few = h.sheet.few; room = let z = does-length s _ T o U a in omega (arith, z, h.sheet.room) };
+          sheet = record { loaded = h.sheet.loaded; few = h.sheet.few; room = let z = does_length s _ T o U a in omega (arith, z, h.sheet.room) };
           number = h.number;
-          row = row-take k l (row_rest row);
+          row = row_take k l (row_rest row);
         })
 
-    pub items-ok : o ≡ Fine → (j : ℕ) → j ≡ end_at S i → (r : Done) (W : Table) → Does s (pass_rule s pass (build (map item_of (nodes_at s (m - 1) j)))) U r W
+    pub items_ok : o ≡ Fine → (j : ℕ) → j ≡ end_at S i → (r : Done) (W : Table) → Does s (pass_rule s pass (build (map item_of (nodes_at s (m - 1) j)))) U r W
         → Does s (pass_rule s pass (build (map item_of (nodes_at s m i)))) T r W
-    items-ok e j q r W k = record { gives = split ∙ (does_then s _ _ T o U a e r W (rw (← q) k)).gives }
+    items_ok e j q r W k = record { gives = split ∙ (does_then s _ _ T o U a e r W (rw (← q) k)).gives }
 
 -- ------------------------------------------------------------ all items
 
@@ -380,14 +380,14 @@ module _ (s S : List ℕ) (T : Table) (h : SheetIn s S T) where
   pub pass_in : (k : ℕ) → k < passes.count → PassIn s S T k
   pass_in k l = record { sheet = h; number = l }
 
-  pub few-lines : FewLines s S
-  few-lines = record { loaded = h.loaded; few = h.few }
+  pub few_lines : FewLines s S
+  few_lines = record { loaded = h.loaded; few = h.few }
 
-  pub sheet-loaded : Loaded s S
-  sheet-loaded = h.loaded
+  pub sheet_loaded : Loaded s S
+  sheet_loaded = h.loaded
 
   pub sheet_on : (p : Rule Unit) (o : Done) (U : Table) → Does s p T o U → SheetIn s S U
-  sheet_on p o U a = record { loaded = h.loaded; few = h.few; room = let l = does-length s p T o U a in omega (arith, l, h.room) }
+  sheet_on p o U a = record { loaded = h.loaded; few = h.few; room = let l = does_length s p T o U a in omega (arith, l, h.room) }
 
 -- ------------------------------------------------------------ the order of `check`
 
@@ -408,52 +408,52 @@ module _ (s : List ℕ) where
     module _ (a : Does s (p passes.events) T o U) where
       pub names_no : (x : Refusal) → o ≡ Refused x → Does s (names_rule s) T (Refused x) U
       unfolding names_rule ◌>>◌
-      names_no x e = does-cut s _ _ T o U a x e
+      names_no x e = does_cut s _ _ T o U a x e
 
       module _ (e : o ≡ Fine) (q : Done) (g : Answers bounds (done_of s q)) where
         pub bounds_no : (x : Refusal) → q ≡ Refused x → Does s (names_rule s) T (Refused x) U
         unfolding names_rule ◌>>◌
-        bounds_no x f = does_then s _ _ T o U a e (Refused x) U (does-cut s _ _ U q U (asks_none s _ U q g) x f)
+        bounds_no x f = does_then s _ _ T o U a e (Refused x) U (does_cut s _ _ U q U (asks_none s _ U q g) x f)
 
-        pub names-ok : q ≡ Fine → (r : Done) (W : Table) → Does s (p passes.params) U r W → Does s (names_rule s) T r W
+        pub names_ok : q ≡ Fine → (r : Done) (W : Table) → Does s (p passes.params) U r W → Does s (names_rule s) T r W
         unfolding names_rule ◌>>◌
-        names-ok f r W k = does_then s _ _ T o U a e r W (does_then s _ _ U q U (asks_none s _ U q g) f r W k)
+        names_ok f r W k = does_then s _ _ T o U a e r W (does_then s _ _ U q U (asks_none s _ U q g) f r W k)
 
     module _ (a : Does s (names_rule s) T o U) where
       pub after_no : (x : Refusal) → o ≡ Refused x → Does s (after_fields s) T (Refused x) U
       unfolding after_fields ◌>>◌
-      after_no x e = does-cut s _ _ T o U a x e
+      after_no x e = does_cut s _ _ T o U a x e
 
-      pub after-ok : o ≡ Fine → (r : Done) (W : Table) → Does s (p passes.invariants) U r W → Does s (after_fields s) T r W
+      pub after_ok : o ≡ Fine → (r : Done) (W : Table) → Does s (p passes.invariants) U r W → Does s (after_fields s) T r W
       unfolding after_fields ◌>>◌
-      after-ok e r W k = does_then s _ _ T o U a e r W k
+      after_ok e r W k = does_then s _ _ T o U a e r W k
 
     module _ (a : Does s (p passes.fields) T o U) where
       pub before_no : (x : Refusal) → o ≡ Refused x → Does s (before_entries (model_in s)) T (Refused x) U
-      before_no x e = record { gives = before_grouped T ∙ (does-cut s _ (after_fields s) T o U a x e).gives }
+      before_no x e = record { gives = before_grouped T ∙ (does_cut s _ (after_fields s) T o U a x e).gives }
 
-      pub before-ok : o ≡ Fine → (r : Done) (W : Table) → Does s (after_fields s) U r W → Does s (before_entries (model_in s)) T r W
-      before-ok e r W k = record { gives = before_grouped T ∙ (does_then s _ _ T o U a e r W k).gives }
+      pub before_ok : o ≡ Fine → (r : Done) (W : Table) → Does s (after_fields s) U r W → Does s (before_entries (model_in s)) T r W
+      before_ok e r W k = record { gives = before_grouped T ∙ (does_then s _ _ T o U a e r W k).gives }
 
     module _ (a : Does s (p passes.entries) T o U) where
       pub entries_no : (x : Refusal) → o ≡ Refused x → Does s (from_entries s) T (Refused x) U
       unfolding from_entries ◌>>◌
-      entries_no x e = does-cut s _ _ T o U a x e
+      entries_no x e = does_cut s _ _ T o U a x e
 
       module _ (e : o ≡ Fine) (q : Done) (g : Answers (check_key_kinds (model_in s)) (done_of s q)) where
         pub kinds_no : (x : Refusal) → q ≡ Refused x → Does s (from_entries s) T (Refused x) U
         unfolding from_entries ◌>>◌
-        kinds_no x f = does_then s _ _ T o U a e (Refused x) U (does-cut s _ _ U q U (asks_none s _ U q g) x f)
+        kinds_no x f = does_then s _ _ T o U a e (Refused x) U (does_cut s _ _ U q U (asks_none s _ U q g) x f)
 
-        pub entries-ok : q ≡ Fine → (r : Done) (W : Table) → Does s (p passes.genesis) U r W → Does s (from_entries s) T r W
+        pub entries_ok : q ≡ Fine → (r : Done) (W : Table) → Does s (p passes.genesis) U r W → Does s (from_entries s) T r W
         unfolding from_entries ◌>>◌
-        entries-ok f r W k = does_then s _ _ T o U a e r W (does_then s _ _ U q U (asks_none s _ U q g) f r W k)
+        entries_ok f r W k = does_then s _ _ T o U a e r W (does_then s _ _ U q U (asks_none s _ U q g) f r W k)
 
     module _ (a : Does s (before_entries (model_in s)) T o U) where
       pub check_no : (x : Refusal) → o ≡ Refused x → Does s (check (model_in s)) T (Refused x) U
       unfolding check from_entries pass_rule ◌>>◌
-      check_no x e = does-cut s _ _ T o U a x e
+      check_no x e = does_cut s _ _ T o U a x e
 
-      pub check-ok : o ≡ Fine → (r : Done) (W : Table) → Does s (from_entries s) U r W → Does s (check (model_in s)) T r W
+      pub check_ok : o ≡ Fine → (r : Done) (W : Table) → Does s (from_entries s) U r W → Does s (check (model_in s)) T r W
       unfolding check from_entries pass_rule ◌>>◌
-      check-ok e r W k = does_then s _ _ T o U a e r W k
+      check_ok e r W k = does_then s _ _ T o U a e r W k

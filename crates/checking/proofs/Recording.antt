@@ -23,12 +23,12 @@ use Rattle.rules.specs.Assets.{asset_calls_consumed}
 use Rattle.rules.specs.Check.{clause_predicate, check_field, check_default, check_genesis, check_event_param, check_entry_param}
 use Rattle.rules.specs.Standing.{node_at, nodes_at, expr_at, type_at, field_at, param_at, clause_at, stmt_at, Loaded, Here, Row}
 use Rattle.rules.proofs.Parts.{stop as end', ◌also◌, pick}
-use Rattle.rules.proofs.Rows.{records, list-some}
-use Rattle.rules.proofs.Standing.{stands, nodes-next, row_first, row_rest}
+use Rattle.rules.proofs.Rows.{records, list_some}
+use Rattle.rules.proofs.Standing.{stands, nodes_next, row_first, row_rest}
 use Rattle.rules.proofs.Records.{no_nodes, limits_at, denies_at, mints_at, after_at, param_at_lem, field_at_lem}
 use Rattle.rules.proofs.Binding.{kept_assoc, kept_both}
 use Rattle.refusals.specs.Answers.{Answers}
-use Rattle.refusals.proofs.Answers.{answers_then, answers-cut}
+use Rattle.refusals.proofs.Answers.{answers_then, answers_cut}
 use Rattle.lookups.specs.Lines.{TypeAt, RecordAt}
 use Rattle.refusals.specs.Refusal.{done_of}
 use Rattle.refusals.specs.declared.refusal.Refusal.{Refusal}
@@ -39,7 +39,7 @@ use Rattle.env.specs.Force.{env_of}
 use Rattle.env.specs.declared.env.Env.{Env}
 use Rattle.typing.specs.Asks.{Asks, Does}
 use Rattle.typing.proofs.Calls.{did}
-use Rattle.typing.proofs.Doing.{does_then, does-cut, does_nothing, asks_none}
+use Rattle.typing.proofs.Doing.{does_then, does_cut, does_nothing, asks_none}
 use Rattle.statements.specs.Checked.{StmtIn, DefaultIn}
 use Rattle.checking.specs.Walk.{declared_rule, param_rule, record_rule, Walked, a_field, a_clause, a_stmt, KindIn, ClauseIn, RecordIn, RecordsIn}
 use Rattle.checking.proofs.Locals.{none_bound, OnTyped, on_typed}
@@ -60,7 +60,7 @@ module _ (s S : List ℕ) (i : ℕ) (h : Named s S i) where
 
     pub declared_no : (x : Refusal) → d ≡ Refused x → Answers (declared_rule (param_at s i).name (type_at s (suc i))) (done_of s (Refused x))
     unfolding declared_rule ◌>>◌
-    declared_no x e = answers-cut s _ _ d (rw (← add-one i) a) x e
+    declared_no x e = answers_cut s _ _ d (rw (← add-one i) a) x e
 
 -- ------------------------------------------------------------ fields
 
@@ -95,21 +95,21 @@ module _ (s S : List ℕ) (env : Env) (T : Table) (i : ℕ) (h : KindIn kinds.fi
         let one : default_count S i ≡ 1 = (default_in q).some in
         let n : (field_at s i).default ≡ some (expr_at s (end_at S (suc i))) =
         ap (λ (x : Field). x.default) f.0
-        ∙ rw (one, nodes-next d 0 (end_at S (suc i)) (row_first (rw one at f.2)).within) refl in
+        ∙ rw (one, nodes_next d 0 (end_at S (suc i)) (row_first (rw one at f.2)).within) refl in
         rw n k
 
   module _ (o : Done) (a : Answers (declared_rule (param_at s i).name (type_at s (suc i))) (done_of s o)) where
-    ty-is : (field_at s i).ty ≡ type_at s (suc i)
-    ty-is = ap (λ (x : Field). x.ty) (field_at_lem d h.within h.kind).0
+    ty_is : (field_at s i).ty ≡ type_at s (suc i)
+    ty_is = ap (λ (x : Field). x.ty) (field_at_lem d h.within h.kind).0
 
-    pub field-ok : o ≡ Fine → (r : Done) (U : Table) → Does s (if_some (field_at s i).default (check_default (env_of s T env) (field_at s i))) T r U
+    pub field_ok : o ≡ Fine → (r : Done) (U : Table) → Does s (if_some (field_at s i).default (check_default (env_of s T env) (field_at s i))) T r U
         → Does s (check_field (env_of s T env) (field_at s i)) T r U
     unfolding declared_rule check_field ◌>>◌ field_at field_of
-    field-ok e r U k =
+    field_ok e r U k =
         record {
           gives =
               sym (kept_assoc _ _ _ T)
-              ∙ rw (ty-is, ← same_name) (does_then s _ _ T o T (asks_none s _ T o a) e r U k).gives;
+              ∙ rw (ty_is, ← same_name) (does_then s _ _ T o T (asks_none s _ T o a) e r U k).gives;
         }
 
     pub field_no : (x : Refusal) → o ≡ Refused x → Does s (check_field (env_of s T env) (field_at s i)) T (Refused x) T
@@ -118,7 +118,7 @@ module _ (s S : List ℕ) (env : Env) (T : Table) (i : ℕ) (h : KindIn kinds.fi
         record {
           gives =
               sym (kept_assoc _ _ _ T)
-              ∙ rw (ty-is, ← same_name) (does-cut s _ _ T o T (asks_none s _ T o a) x e).gives;
+              ∙ rw (ty_is, ← same_name) (does_cut s _ _ T o T (asks_none s _ T o a) x e).gives;
         }
 
 -- ------------------------------------------------------------ parameters
@@ -130,8 +130,8 @@ module _ (s S : List ℕ) (event : Bool) (i : ℕ) (h : RecordAt grammar.Param s
   is : (param_at s i ≡ record { name = name_at s S i; ty = type_at s (suc i) }) × Here S grammar.Ty (suc i)
   is = param_at_lem h.loaded h.here.within kind_of_lem
 
-  pub param-typed : TypeAt s S (i + 1)
-  param-typed = record { loaded = h.loaded; here = rw (add-one i) is.1 }
+  pub param_typed : TypeAt s S (i + 1)
+  param_typed = record { loaded = h.loaded; here = rw (add-one i) is.1 }
 
   pub param_named : Named s S i
   param_named = record { loaded = h.loaded; within = h.here.within; type = is.1 }
@@ -150,12 +150,12 @@ module _ (s S : List ℕ) (event : Bool) (i : ℕ) (h : RecordAt grammar.Param s
     regroup true T = rw ty_of_lem refl
     regroup false T = rw ty_of_lem refl
 
-    pub param-ok : d ≡ Fine → (r : Done) → Answers (refuse_word64_as_digest (param_at s i).name (type_at s (suc i))) (done_of s r) → Answers (param_rule event (param_at s i)) (done_of s r)
-    param-ok e r k = let b = answers_then s _ _ d first e r k in record { answers = λ T. regroup event T ∙ b.answers T }
+    pub param_ok : d ≡ Fine → (r : Done) → Answers (refuse_word64_as_digest (param_at s i).name (type_at s (suc i))) (done_of s r) → Answers (param_rule event (param_at s i)) (done_of s r)
+    param_ok e r k = let b = answers_then s _ _ d first e r k in record { answers = λ T. regroup event T ∙ b.answers T }
 
     pub param_no : (x : Refusal) → d ≡ Refused x → Answers (param_rule event (param_at s i)) (done_of s (Refused x))
     param_no x e =
-        let b = answers-cut s _ (refuse_word64_as_digest (param_at s i).name (type_at s (suc i))) d first x e in
+        let b = answers_cut s _ (refuse_word64_as_digest (param_at s i).name (type_at s (suc i))) d first x e in
         record { answers = λ T. regroup event T ∙ b.answers T }
 
 pub of_event : (s : List ℕ) (event : Bool) (ty : ℕ) (r : Done) → event ≡ true → Answers (event_field_type (type_at s ty)) (done_of s r)
@@ -199,29 +199,29 @@ module _ (s S : List ℕ) (env : Env) (T : Table) (i : ℕ) (h : ClauseIn s S en
 -- ------------------------------------------------------------ statements of genesis
 
 module _ (s S : List ℕ) (env : Env) (T : Table) (i : ℕ) (h : StmtIn s S env T i) where
-  pub genesis-stmt : RecordAt grammar.Stmt s S i
-  genesis-stmt = record { loaded = h.ready.force.loaded; here = h.here }
+  pub genesis_stmt : RecordAt grammar.Stmt s S i
+  genesis_stmt = record { loaded = h.ready.force.loaded; here = h.here }
 
   module _ (d : Done) (U : Table) (a : Does s (check_stmt_types (env_of s T env) (stmt_at s i)) T d U) where
-    pub genesis-ok : d ≡ Fine → (r : Done) → Answers (asset_calls_consumed (stmt_at s i)) (done_of s r) → Does s (check_genesis (env_of s T env) (stmt_at s i)) T r U
+    pub genesis_ok : d ≡ Fine → (r : Done) → Answers (asset_calls_consumed (stmt_at s i)) (done_of s r) → Does s (check_genesis (env_of s T env) (stmt_at s i)) T r U
     unfolding check_genesis ◌>>◌
-    genesis-ok e r k = does_then s _ _ T d U a e r U (asks_none s _ U r k)
+    genesis_ok e r k = does_then s _ _ T d U a e r U (asks_none s _ U r k)
 
     pub genesis_no : (x : Refusal) → d ≡ Refused x → Does s (check_genesis (env_of s T env) (stmt_at s i)) T (Refused x) U
     unfolding check_genesis ◌>>◌
-    genesis_no x e = does-cut s _ _ T d U a x e
+    genesis_no x e = does_cut s _ _ T d U a x e
 
 -- ------------------------------------------------------------ a record, and records one behind another
 
 module _ (s S : List ℕ) (env : Env) (T : Table) (sort i : ℕ) (h : RecordIn s S env T sort i) where
-  a_field-here : sort ≡ sort_number grammar.Field → Here S grammar.Field i
-  a_field-here q = rw q at h.here
+  a_field_here : sort ≡ sort_number grammar.Field → Here S grammar.Field i
+  a_field_here q = rw q at h.here
 
   a_clause_here : sort ≡ sort_number grammar.Clause → Here S grammar.Clause i
   a_clause_here q = rw q at h.here
 
-  a_stmt-here : sort ≢ sort_number grammar.Field → sort ≢ sort_number grammar.Clause → Here S grammar.Stmt i
-  a_stmt-here p q = by_cases h.walked p q h.here
+  a_stmt_here : sort ≢ sort_number grammar.Field → sort ≢ sort_number grammar.Clause → Here S grammar.Stmt i
+  a_stmt_here p q = by_cases h.walked p q h.here
     where
       by_cases : {n : ℕ} → Walked n → n ≢ sort_number grammar.Field → n ≢ sort_number grammar.Clause → Here S (sort_of n) i → Here S grammar.Stmt i
       by_cases a_field p q x = absurd (p refl)
@@ -229,12 +229,12 @@ module _ (s S : List ℕ) (env : Env) (T : Table) (sort i : ℕ) (h : RecordIn s
       by_cases a_stmt p q x = x
 
   pub a_field_in : sort ≡ sort_number grammar.Field → KindIn kinds.field s S env T i
-  a_field_in q = let x = a_field-here q in record { ready = h.ready; within = x.within; kind = omega (arith, x.kind.0, x.kind.1) }
+  a_field_in q = let x = a_field_here q in record { ready = h.ready; within = x.within; kind = omega (arith, x.kind.0, x.kind.1) }
 
-  pub field-does : (r : Done) (U : Table) → sort ≡ sort_number grammar.Field → Does s (check_field (env_of s T env) (field_at s i)) T r U
+  pub field_does : (r : Done) (U : Table) → sort ≡ sort_number grammar.Field → Does s (check_field (env_of s T env) (field_at s i)) T r U
       → Does s (record_rule sort (env_of s T env) (node_at s i)) T r U
   unfolding field_at record_rule
-  field-does r U q a = rw q (record { gives = a.gives })
+  field_does r U q a = rw q (record { gives = a.gives })
 
   pub a_clause_in : sort ≡ sort_number grammar.Clause → ClauseIn s S env T i
   a_clause_in q = record { ready = h.ready; here = a_clause_here q }
@@ -245,12 +245,12 @@ module _ (s S : List ℕ) (env : Env) (T : Table) (sort i : ℕ) (h : RecordIn s
   a_clause_does r U q a = rw q (record { gives = a.gives })
 
   pub a_stmt_in : sort ≢ sort_number grammar.Field → sort ≢ sort_number grammar.Clause → StmtIn s S env T i
-  a_stmt_in p q = record { ready = h.ready; here = a_stmt-here p q }
+  a_stmt_in p q = record { ready = h.ready; here = a_stmt_here p q }
 
-  pub stmt-does : (r : Done) (U : Table) → sort ≢ sort_number grammar.Field → sort ≢ sort_number grammar.Clause → Does s (check_genesis (env_of s T env) (stmt_at s i)) T r U
+  pub stmt_does : (r : Done) (U : Table) → sort ≢ sort_number grammar.Field → sort ≢ sort_number grammar.Clause → Does s (check_genesis (env_of s T env) (stmt_at s i)) T r U
       → Does s (record_rule sort (env_of s T env) (node_at s i)) T r U
   unfolding stmt_at record_rule
-  stmt-does r U p q a = record { gives = rw (record_rule, ne_eqb sort (sort_number grammar.Field) p, ne_eqb sort (sort_number grammar.Clause) q) a.gives }
+  stmt_does r U p q a = record { gives = rw (record_rule, ne_eqb sort (sort_number grammar.Field) p, ne_eqb sort (sort_number grammar.Clause) q) a.gives }
 
 pub records_none : (s S : List ℕ) (env : Env) (T : Table) (sort m i : ℕ) → m ≡ 0 → Does s (for_each (nodes_at s m i) (record_rule sort (env_of s T env))) T Fine T
 unfolding for_each
@@ -261,15 +261,15 @@ module _ (s S : List ℕ) (env : Env) (T : Table) (sort m i : ℕ) (h : RecordsI
   rows = rw (let y : suc (m - 1) ≡ m = omega arith in y) h.row
 
   nodes_are : nodes_at s m i ≡ node_at s i ∷ nodes_at s (m - 1) (end_at S i)
-  nodes_are = list-some records h.ready.force.loaded (omega arith) h.row
+  nodes_are = list_some records h.ready.force.loaded (omega arith) h.row
 
-  pub records-first : RecordIn s S env T sort i
-  records-first = record { ready = h.ready; walked = h.walked; here = row_first rows }
+  pub records_first : RecordIn s S env T sort i
+  records_first = record { ready = h.ready; walked = h.walked; here = row_first rows }
 
   module _ (d : Done) (U : Table) (a : Does s (record_rule sort (env_of s T env) (node_at s i)) T d U) where
     pub records_no : (x : Refusal) → d ≡ Refused x → Does s (for_each (nodes_at s m i) (record_rule sort (env_of s T env))) T (Refused x) U
     unfolding for_each
-    records_no x e = rw nodes_are (does-cut s _ _ T d U a x e)
+    records_no x e = rw nodes_are (does_cut s _ _ T d U a x e)
 
     module _ (e : d ≡ Fine) (j : ℕ) (q : j ≡ end_at S i) where
       on : OnTyped s S env T U
@@ -285,10 +285,10 @@ module _ (s S : List ℕ) (env : Env) (T : Table) (sort m i : ℕ) (h : RecordsI
             row = row_rest rows;
           })
 
-      pub records-ok : (r : Done) (W : Table) → Does s (for_each (nodes_at s (m - 1) j) (record_rule sort (env_of s U env))) U r W
+      pub records_ok : (r : Done) (W : Table) → Does s (for_each (nodes_at s (m - 1) j) (record_rule sort (env_of s U env))) U r W
           → Does s (for_each (nodes_at s m i) (record_rule sort (env_of s T env))) T r W
       unfolding for_each
-      records-ok r W k =
+      records_ok r W k =
           rw nodes_are (does_then s _ _ T d U a e r W (rw (← on.on.same, ← q) k))
 
 -- what the rule of a record is for a field, a clause and a statement of genesis

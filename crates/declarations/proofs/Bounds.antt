@@ -22,7 +22,7 @@ use Rattle.rules.specs.Standing.{node_name, node_at, nodes_at, type_at, field_at
 use Rattle.rules.specs.Typing.{is_some}
 use Rattle.rules.proofs.Lookups.{or_none, last_append}
 use Rattle.rules.proofs.Records.{field_at_lem}
-use Rattle.rules.proofs.Rows.{records, row-some, list_none, list-some, RowWalk, row_over}
+use Rattle.rules.proofs.Rows.{records, row_some, list_none, list_some, RowWalk, row_over}
 use Rattle.rules.proofs.Standing.{row_first, row_rest}
 use Rattle.refusals.specs.Answers.{Answers}
 use Rattle.lookups.specs.Found.{found_field, item_fields, model_at, Stretch, Last, ItemAt, FieldsNamed}
@@ -34,7 +34,7 @@ use Rattle.refusals.specs.declared.refusal.Refusal.{Refusal}
 use Rattle.refusals.specs.declared.refusal.Done.{Done}
 use Rattle.refusals.specs.declared.refusal.Done.TheVariants.{Fine, Refused}
 use Rattle.refusals.proofs.Answers.{gives, then_fine, then_refused}
-use Rattle.lookups.proofs.Fields.{last_map, as_field, field-name, all_kind, items_at, item-here, not_state, of_state}
+use Rattle.lookups.proofs.Fields.{last_map, as_field, field-name, all_kind, items_at, item_here, not_state, of_state}
 use Rattle.declarations.specs.Bounds.{bound_if_last, bounds_of, fields_left, FieldsLeft}
 use Rattle.grammar.specs.Kinds as kinds
 
@@ -49,11 +49,11 @@ some_or_lem none a = refl
 some_or_lem (some b) a = refl
 
 module _ (s S : List ℕ) (x : Name) (m i n j : ℕ) (h : FieldsLeft s S m i n j) where
-  pub left-fields : Stretch s S m i
-  left-fields = record { loaded = h.loaded; sort = grammar.Field; row = h.fields }
+  pub left_fields : Stretch s S m i
+  left_fields = record { loaded = h.loaded; sort = grammar.Field; row = h.fields }
 
-  pub left-items : RecordsAt grammar.Item s S n j
-  left-items = record { loaded = h.loaded; row = h.items }
+  pub left_items : RecordsAt grammar.Item s S n j
+  left_items = record { loaded = h.loaded; row = h.items }
 
   module _ (f : Found) (l : Last s S kinds.field x m i f) where
     in_item : last_named (λ y. y.name) x (map field_of (nodes_at s m i)) ≡ found_field s f
@@ -68,9 +68,9 @@ module _ (s S : List ℕ) (x : Name) (m i n j : ℕ) (h : FieldsLeft s S m i n j
         ∙ last_append (λ y. y.name) x (map field_of (nodes_at s m i)) (model_at s n j).fields none
         ∙ rw (or_none, in_item) refl
 
-    pub later-here : (k : ℕ) → f ≡ At k → true ≡ is_some (last_named (λ y. y.name) x (fields_left s m i n j))
+    pub later_here : (k : ℕ) → f ≡ At k → true ≡ is_some (last_named (λ y. y.name) x (fields_left s m i n j))
     unfolding found_field
-    later-here k e = rw (by_search, e) (sym (some_or_lem (field_named (model_at s n j) x) (field_at s k)))
+    later_here k e = rw (by_search, e) (sym (some_or_lem (field_named (model_at s n j) x) (field_at s k)))
 
     module _ (e : f ≡ Nothing) (r : Found) (t : FieldsNamed s S x n j r) where
       pub later_there : (k : ℕ) → r ≡ At k → true ≡ is_some (last_named (λ y. y.name) x (fields_left s m i n j))
@@ -83,10 +83,10 @@ module _ (s S : List ℕ) (x : Name) (m i n j : ℕ) (h : FieldsLeft s S m i n j
 
 -- ------------------------------------------------------------ one field
 
-provided-fine : (b : Bool) (p : Rule Unit) → Answers p (ok tt) → Answers (provided b p) (ok tt)
+provided_fine : (b : Bool) (p : Rule Unit) → Answers p (ok tt) → Answers (provided b p) (ok tt)
 unfolding provided
-provided-fine true p a = a
-provided-fine false p a = gives tt
+provided_fine true p a = a
+provided_fine false p a = gives tt
 
 module _ (s S : List ℕ) (i m n j : ℕ) (h : FieldsLeft s S (suc m) i n j) where
   abbrev here : Here S grammar.Field i
@@ -95,11 +95,11 @@ module _ (s S : List ℕ) (i m n j : ℕ) (h : FieldsLeft s S (suc m) i n j) whe
   of_kind_lem : kind_at S i ≡ kinds.field
   of_kind_lem = omega (arith, here.kind.0, here.kind.1)
 
-  field-type : Here S grammar.Ty (suc i)
-  field-type = (field_at_lem h.loaded here.within of_kind_lem).1
+  field_type : Here S grammar.Ty (suc i)
+  field_type = (field_at_lem h.loaded here.within of_kind_lem).1
 
-  pub field-typed : TypeAt s S (i + 1)
-  field-typed = rw (add-one i) (record { loaded = h.loaded; here = field-type })
+  pub field_typed : TypeAt s S (i + 1)
+  field_typed = rw (add-one i) (record { loaded = h.loaded; here = field_type })
 
   pub field_rest : (k : ℕ) → k ≡ end_at S i → FieldsLeft s S m k n j
   field_rest k e = rw e (record { loaded = h.loaded; fields = row_rest h.fields; items = h.items })
@@ -111,17 +111,17 @@ module _ (s S : List ℕ) (i m n j : ℕ) (h : FieldsLeft s S (suc m) i n j) whe
     own : Answers (guardian_bound (field_at s i).ty) (done_of s r)
     own = rw ((field_at_lem h.loaded here.within of_kind_lem).0, ← add-one i) a
 
-    pub field-fine : r ≡ Fine → Answers (bound_if_last (field_at s i) later) (done_of s Fine)
+    pub field_fine : r ≡ Fine → Answers (bound_if_last (field_at s i) later) (done_of s Fine)
     unfolding bound_if_last done_of
-    field-fine e = provided-fine (not (is_some (last_named (λ g. g.name) (field_at s i).name later))) (guardian_bound (field_at s i).ty) (rw e at own)
+    field_fine e = provided_fine (not (is_some (last_named (λ g. g.name) (field_at s i).name later))) (guardian_bound (field_at s i).ty) (rw e at own)
 
     module _ (why : Refusal) (e : r ≡ Refused why) (x : Name) (k : ℕ) (b : Bool) (y : x ≡ name_at s S i) (z : k ≡ end_at S i) (q : b ≡ is_some (last_named (λ g. g.name) x (fields_left s m k n j))) where
       told : is_some (last_named (λ g. g.name) (field_at s i).name later) ≡ b
       told = rw (q, (field_at_lem h.loaded here.within of_kind_lem).0, y, z) refl
 
-      pub field-passed : b ≡ true → Answers (bound_if_last (field_at s i) later) (done_of s Fine)
+      pub field_passed : b ≡ true → Answers (bound_if_last (field_at s i) later) (done_of s Fine)
       unfolding bound_if_last provided done_of
-      field-passed t = rw (bound_if_last, told, t) (gives tt)
+      field_passed t = rw (bound_if_last, told, t) (gives tt)
 
       pub field-refused : b ≡ false → Answers (bound_if_last (field_at s i) later) (done_of s (Refused why))
       unfolding bound_if_last provided
@@ -141,9 +141,9 @@ bound_then f fs p q = by_cases (not (is_some (last_named (λ g. g.name) f.name f
     by_cases true false at ps = refl
     by_cases false b at ps = refl
 
-first-bound : (f : Field) (fs : List Field) → for_each (values (f ∷ fs)) bound ≡ (bound_if_last f fs >> for_each (values fs) bound)
+first_bound : (f : Field) (fs : List Field) → for_each (values (f ∷ fs)) bound ≡ (bound_if_last f fs >> for_each (values fs) bound)
 unfolding bound_if_last values for_each provided is_some ◌>>◌ ◌>>=◌
-first-bound f fs = by_cases (last_named (λ g. g.name) f.name fs)
+first_bound f fs = by_cases (last_named (λ g. g.name) f.name fs)
   where
     by_cases : (o : Option Field) → for_each (elim o as (λ _. List Field) [ some g ↦ values fs | none ↦ f ∷ values fs ]) bound ≡ (provided (not (is_some o)) (bound f) >> for_each (values fs) bound)
     by_cases (some g) = refl
@@ -154,7 +154,7 @@ walk : (fs gs : List Field) → for_each (values (fs ++ gs)) bound ≡ (bounds_o
 unfolding bounds_of ◌>>◌ ◌>>=◌
 walk [] gs = refl
 walk (f ∷ fs) gs =
-    first-bound f (fs ++ gs)
+    first_bound f (fs ++ gs)
     ∙ ap (λ p. bound_if_last f (fs ++ gs) >> p) (walk fs gs)
     ∙ sym (bound_then f (fs ++ gs) (bounds_of fs gs) (for_each (values gs) bound))
 
@@ -200,7 +200,7 @@ module _ (s S : List ℕ) (item more next left at : ℕ) (g : BoundsGoing s S it
 
   module _ (q : 0 < left) where
     pub bounds_field : FieldsLeft s S (suc (left - 1)) at more next
-    bounds_field = record { loaded = g.fields.loaded; fields = row-some q g.fields.fields; items = g.fields.items }
+    bounds_field = record { loaded = g.fields.loaded; fields = row_some q g.fields.fields; items = g.fields.items }
 
     module _ (r : Done) (a : Answers (bound_if_last (field_at s at) (fields_left s (left - 1) (end_at S at) more next)) (done_of s r)) where
       abbrev others : Rule Unit
@@ -210,7 +210,7 @@ module _ (s S : List ℕ) (item more next left at : ℕ) (g : BoundsGoing s S it
       unfolding bounds_of fields_left field_at
       split =
           ap (λ ts. bounds_of (map field_of ts) (model_at s more next).fields)
-          (list-some records g.fields.loaded q g.fields.fields)
+          (list_some records g.fields.loaded q g.fields.fields)
 
       pub bounds_refused : (why : Refusal) → r ≡ Refused why → Answers its (done_of s (Refused why))
       unfolding done_of
@@ -245,19 +245,19 @@ module _ (s S : List ℕ) (left at : ℕ) (g : WalkGoing s S left at) where
 
   module _ (q : 0 < left) where
     pub walk_item : RecordsAt grammar.Item s S (suc (left - 1)) at
-    walk_item = record { loaded = g.loaded; row = row-some q g.row }
+    walk_item = record { loaded = g.loaded; row = row_some q g.row }
 
     module _ (r : Done) (a : Answers (bounds_of (map field_of (item_fields (node_at s at))) (model_at s (left - 1) (end_at S at)).fields) (done_of s r)) where
       abbrev behind : Rule Unit
       behind = for_each (values (model_at s (left - 1) (end_at S at)).fields) bound
 
-      item-first : (model_at s left at).fields ≡ map field_of (item_fields (node_at s at)) ++ (model_at s (left - 1) (end_at S at)).fields
+      item_first : (model_at s left at).fields ≡ map field_of (item_fields (node_at s at)) ++ (model_at s (left - 1) (end_at S at)).fields
       unfolding model_at build joined
-      item-first =
-          ap (λ ts. (build (map item_of ts)).fields) (list-some records g.loaded q g.row) ∙ rw (item-here g.loaded (row_first walk_item.row)) refl
+      item_first =
+          ap (λ ts. (build (map item_of ts)).fields) (list_some records g.loaded q g.row) ∙ rw (item_here g.loaded (row_first walk_item.row)) refl
 
       parted : for_each (values (model_at s left at).fields) bound ≡ (bounds_of (map field_of (item_fields (node_at s at))) (model_at s (left - 1) (end_at S at)).fields >> behind)
-      parted = ap (λ fs. for_each (values fs) bound) item-first ∙ walk (map field_of (item_fields (node_at s at))) (model_at s (left - 1) (end_at S at)).fields
+      parted = ap (λ fs. for_each (values fs) bound) item_first ∙ walk (map field_of (item_fields (node_at s at))) (model_at s (left - 1) (end_at S at)).fields
 
       pub walk_refused : (why : Refusal) → r ≡ Refused why → Answers (for_each (values (model_in s).fields) bound) (done_of s (Refused why))
       unfolding done_of model_at

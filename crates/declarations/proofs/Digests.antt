@@ -64,10 +64,10 @@ swap false true true d = refl
 swap false true false d = refl
 swap false false c d = refl
 
-place-first : (b : ℕ) (bs : Name) (ws : List String) → contains_any (b ∷ bs) ws ≡ (starts_any (b ∷ bs) ws || contains_any bs ws)
+place_first : (b : ℕ) (bs : Name) (ws : List String) → contains_any (b ∷ bs) ws ≡ (starts_any (b ∷ bs) ws || contains_any bs ws)
 unfolding starts_any contains contains_any
-place-first b bs [] = refl
-place-first b bs (w ∷ ws) = rw (place-first b bs ws) (swap (starts_with (b ∷ bs) (bytes w)) (contains bs (bytes w)) (starts_any (b ∷ bs) ws) (contains_any bs ws))
+place_first b bs [] = refl
+place_first b bs (w ∷ ws) = rw (place_first b bs ws) (swap (starts_with (b ∷ bs) (bytes w)) (contains bs (bytes w)) (starts_any (b ∷ bs) ws) (contains_any bs ws))
 
 -- what the words from k on at place i, and the later places, say
 pub rest : List ℕ → ℕ → ℕ → Bool
@@ -77,7 +77,7 @@ rest s i k = starts_any (lower (drop i s)) (drop k DIGEST_NAME_TOKENS) || contai
 module _ (s : List ℕ) (i : ℕ) (n : Bool) (e : n ≡ contains_any (lower (drop i s)) DIGEST_NAME_TOKENS) where
   pub index_in_lem : i < length s → n ≡ rest s i 0
   unfolding rest lower
-  index_in_lem h = e ∙ rw (drop-cons s i 0 h, add-one, place-first) refl
+  index_in_lem h = e ∙ rw (drop-cons s i 0 h, add-one, place_first) refl
 
   pub place_over : (found : Bool) → found ≡ false → length s ≤ i → found ≡ n
   unfolding lower contains_any contains starts_with

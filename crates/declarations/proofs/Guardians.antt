@@ -14,7 +14,7 @@ use Rattle.rules.specs.Ast.{Arg, args}
 use Rattle.rules.specs.Types.{parse_u64}
 use Rattle.rules.specs.Declarations.{members_of, guardian_fits, guardian_bound}
 use Rattle.rules.specs.Standing.{type_at, Here}
-use Rattle.rules.proofs.Rows.{row-some, list_none, list-some}
+use Rattle.rules.proofs.Rows.{row_some, list_none, list_some}
 use Rattle.rules.proofs.Standing.{row_first}
 use Rattle.refusals.specs.Answers.{Answers, expected}
 use Rattle.lookups.specs.Lines.{TypeAt}
@@ -22,7 +22,7 @@ use Rattle.refusals.specs.Refusal.{refusal_of, done_of}
 use Rattle.refusals.specs.declared.refusal.Refusal.TheVariants.{Guardian}
 use Rattle.refusals.specs.declared.refusal.Done.{Done}
 use Rattle.refusals.proofs.Answers.{expects}
-use Rattle.lookups.proofs.Types.{named_word, args_at, arguments, by_kind, arg_of_kind, arg_told, args-here, args_row}
+use Rattle.lookups.proofs.Types.{named_word, args_at, arguments, by_kind, arg_of_kind, arg_told, args_here, args_row}
 use Rattle.declarations.specs.Tests.{size_fits}
 use Rattle.grammar.specs.Kinds as kinds
 
@@ -30,14 +30,14 @@ use Rattle.grammar.specs.Kinds as kinds
 module _ (s S : List ℕ) (i m : ℕ) (h : TypeAt s S i) (c : m ≡ type_arg_count S i) where
   pub no_members : m ≡ 0 → false ≡ size_fits (members_of (args (type_at s i)))
   unfolding size_fits members_of
-  no_members e = rw (args-here s S i m h c, list_none arguments s m (suc i) (omega arith)) refl
+  no_members e = rw (args_here s S i m h c, list_none arguments s m (suc i) (omega arith)) refl
 
   module _ (k : ℕ) (e : m ≢ 0) (f : k ≡ kind_at S (i + 1)) where
     some : 0 < m
     some = omega arith
 
     here : Here S grammar.Arg (suc i)
-    here = row_first (row-some some (args_row s S i m h c))
+    here = row_first (row_some some (args_row s S i m h c))
 
     of_kind_lem : k ≡ kind_at S (suc i)
     of_kind_lem = rw (← add-one i) f
@@ -47,8 +47,8 @@ module _ (s S : List ℕ) (i m : ℕ) (h : TypeAt s S i) (c : m ≡ type_arg_cou
 
     first : args (type_at s i) ≡ arg_of_kind s S (suc i) k ∷ others
     first =
-        args-here s S i m h c
-        ∙ list-some arguments h.loaded some (args_row s S i m h c)
+        args_here s S i m h c
+        ∙ list_some arguments h.loaded some (args_row s S i m h c)
         ∙ rw (arg_told s S (suc i) k h.loaded of_kind_lem) refl
 
     pub other_members : k ≢ kinds.num → false ≡ size_fits (members_of (args (type_at s i)))

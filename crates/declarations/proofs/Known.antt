@@ -18,7 +18,7 @@ use Rattle.refusals.specs.declared.refusal.Refusal.TheVariants.{UnknownType, NoA
 use Rattle.refusals.specs.declared.refusal.Done.{Done}
 use Rattle.refusals.specs.declared.refusal.Done.TheVariants.{Refused}
 use Rattle.refusals.proofs.Answers.{passes, refuses, expects}
-use Rattle.lookups.proofs.Codes.{from-code}
+use Rattle.lookups.proofs.Codes.{from_code}
 use Rattle.lookups.proofs.Types.{args_count}
 use Rattle.declarations.specs.Tests.{takes_none}
 use Rattle.rules.specs.Codes as codes
@@ -35,7 +35,7 @@ module _ (s S : List ℕ) (i d : ℕ) (h : TypeAt s S i) (e : d ≡ code (ty_of_
     unfolding known eq_ty code refusal_of takes_none
     known-args r g =
         passes _ 16 _ _ _ _ (rw (← e, ne_eqb d codes.unknown f) refl)
-        (rw (args_count s S i m h c, ← (q ∙ ap takes_none (from-code d (ty_of_decl (type_at s i)) e))) (expects s (not t || eqb m 0) (NoArguments i) r g))
+        (rw (args_count s S i m h c, ← (q ∙ ap takes_none (from_code d (ty_of_decl (type_at s i)) e))) (expects s (not t || eqb m 0) (NoArguments i) r g))
 
 pub event-known : (s : List ℕ) (i : ℕ) (r : Done) → Answers (known (type_at s i)) (done_of s r) → Answers (event_field_type (type_at s i)) (done_of s r)
 unfolding event_field_type

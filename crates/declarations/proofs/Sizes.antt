@@ -37,25 +37,25 @@ parsed (b ∷ bs) = by_cases (leb v 18446744073709551615) refl
 abbrev pub left : List ℕ → ℕ → ℕ → Bool
 left t i n = between (value_from n (no_underscores (drop i t)))
 
-pub size-start : (t : List ℕ) → size_fits (parse_u64 t) ≡ left t 0 0
+pub size_start : (t : List ℕ) → size_fits (parse_u64 t) ≡ left t 0 0
 unfolding parse_u64
-size-start t = parsed (no_underscores t)
+size_start t = parsed (no_underscores t)
 
 -- A turn of the reading: r is the answer, i the place of the turn, n the number so far and m the next.
 module _ (t : List ℕ) (i n : ℕ) (r : Bool) (e : r ≡ left t i n) where
-  pub size-skip : get_or t i 0 ≡ 95 → i < length t → r ≡ left t (i + 1) n
+  pub size_skip : get_or t i 0 ≡ 95 → i < length t → r ≡ left t (i + 1) n
   unfolding no_underscores
-  size-skip q h = e ∙ rw (add-one, drop-cons t i 0 h, q) refl
+  size_skip q h = e ∙ rw (add-one, drop-cons t i 0 h, q) refl
 
-  pub size-more : (m : ℕ) → get_or t i 0 ≢ 95 → i < length t → m ≡ n * 10 + (get_or t i 0 - 48) → r ≡ left t (i + 1) m
+  pub size_more : (m : ℕ) → get_or t i 0 ≢ 95 → i < length t → m ≡ n * 10 + (get_or t i 0 - 48) → r ≡ left t (i + 1) m
   unfolding no_underscores value_from
-  size-more m q h f = e ∙ rw (add-one, drop-cons t i 0 h, no_underscores, ne_eqb (get_or t i 0) 95 q, f) refl
+  size_more m q h f = e ∙ rw (add-one, drop-cons t i 0 h, no_underscores, ne_eqb (get_or t i 0) 95 q, f) refl
 
   -- a number above 256 stays above it
-  pub size-high : (m : ℕ) → get_or t i 0 ≢ 95 → i < length t → m ≡ n * 10 + (get_or t i 0 - 48) → 256 < m → false ≡ r
-  size-high m q h f g =
+  pub size_high : (m : ℕ) → get_or t i 0 ≢ 95 → i < length t → m ≡ n * 10 + (get_or t i 0 - 48) → 256 < m → false ≡ r
+  size_high m q h f g =
       let x = value_from m (no_underscores (drop (i + 1) t)) in
-      sym (size-more m q h f ∙ rw (lt-leb x 256 (omega (arith, value_grows m (no_underscores (drop (i + 1) t)))), and-false) refl)
+      sym (size_more m q h f ∙ rw (lt-leb x 256 (omega (arith, value_grows m (no_underscores (drop (i + 1) t)))), and-false) refl)
 
   pub size_over : length t ≤ i → n ≤ 256 → leb 1 n ≡ r
   unfolding no_underscores value_from

@@ -18,8 +18,8 @@ use Rattle.rules.specs.Asking.{code, Res}
 use Rattle.rules.specs.Types.{ty_of_decl, eq_ty}
 use Rattle.rules.specs.Declarations.{inner_fits, storable_arg, storable_args, storable_keyed, known, arity_of, storable_as, storable}
 use Rattle.rules.specs.Standing.{type_at, arg_at, Here}
-use Rattle.rules.proofs.Rows.{RowWalk, row_over, row_here, row-found, row_onward}
-use Rattle.lookups.proofs.Codes.{from-code}
+use Rattle.rules.proofs.Rows.{RowWalk, row_over, row_here, row_found, row_onward}
+use Rattle.lookups.proofs.Codes.{from_code}
 use Rattle.refusals.specs.Answers.{Answers, expected}
 use Rattle.lookups.specs.Lines.{TypeAt}
 use Rattle.refusals.specs.Refusal.{arity, refusal_of, done_of}
@@ -28,7 +28,7 @@ use Rattle.refusals.specs.declared.refusal.Refusal.TheVariants.{NameStored, Arit
 use Rattle.refusals.specs.declared.refusal.Done.{Done}
 use Rattle.refusals.specs.declared.refusal.Done.TheVariants.{Fine, Refused}
 use Rattle.refusals.proofs.Answers.{gives, misfits, expects, passes, refuses, then_fine, then_refused}
-use Rattle.lookups.proofs.Types.{type-name, named_word, args_at, arguments, by_kind, arg_of_kind, arg_told, args-here, args_row, args_count}
+use Rattle.lookups.proofs.Types.{type_name_lem, named_word, args_at, arguments, by_kind, arg_of_kind, arg_told, args_here, args_row, args_count}
 use Rattle.declarations.specs.Tests.{refused_inside}
 use Rattle.grammar.specs.Kinds as kinds
 use Rattle.rules.specs.Codes as codes
@@ -61,9 +61,9 @@ module _ (x : Name) (v : Bool) (e : v ≡ same x (bytes "Map")) where
     unfolding arity is
     arity_registry h = rw (arity, arity_by_lem x, sym e ∙ f, sym g ∙ h) refl
 
-    pub arity-other : w ≡ false → 0 ≡ arity x
+    pub arity_other : w ≡ false → 0 ≡ arity x
     unfolding arity is
-    arity-other h = rw (arity, arity_by_lem x, sym e ∙ f, sym g ∙ h) refl
+    arity_other h = rw (arity, arity_by_lem x, sym e ∙ f, sym g ∙ h) refl
 
 -- ------------------------------------------------------------ keys and values
 
@@ -75,7 +75,7 @@ module _ (s S : List ℕ) (i j d : ℕ) (key : Bool) (h : TypeAt s S i) (g : Typ
 
   pub inner_other : (m : ℕ) (t : Bool) → d ≢ codes.name → t ≡ refused_inside (ty_from d) → m ≡ type_arg_count S j → (not t && eqb m 0) ≡ inner_fits (type_name (type_at s i)) key (type_at s j)
   unfolding inner_fits eq_ty code refused_inside
-  inner_other m t f q c = rw (inner_fits, ← e, ne_eqb d codes.name f, args_count s S j m g c, q, from-code d _ e) refl
+  inner_other m t f q c = rw (inner_fits, ← e, ne_eqb d codes.name f, args_count s S j m g c, q, from_code d _ e) refl
 
 -- What `storable_arg` meets: an argument at line j, of the kind k.
 module _ (s S : List ℕ) (i j k : ℕ) (key : Bool) (h : TypeAt s S i) (a : Here S grammar.Arg j) (f : k ≡ kind_at S j) where
@@ -101,7 +101,7 @@ pub record Turn (s S : List ℕ) (i n j k : ℕ) : Type 0 where
 pub turn_start : (s S : List ℕ) (i n : ℕ) → TypeAt s S i → n ≡ type_arg_count S i → Turn s S i n (i + 1) 0
 turn_start s S i n h c =
     let q : n - 0 ≡ n = omega arith in
-    record { most = omega arith; walk = rw (q, add-one) (record { loaded = h.loaded; row = args_row s S i n h c; known = rw (args-here s S i n h c) (λ r a. a) }) }
+    record { most = omega arith; walk = rw (q, add-one) (record { loaded = h.loaded; row = args_row s S i n h c; known = rw (args_here s S i n h c) (λ r a. a) }) }
 
 module _ (s S : List ℕ) (i n j k : ℕ) (h : TypeAt s S i) (t : Turn s S i n j k) where
   pub turn_over : n ≤ k → Answers (storable_args (type_at s i) true (args (type_at s i))) (done_of s Fine)
@@ -119,7 +119,7 @@ module _ (s S : List ℕ) (i n j k : ℕ) (h : TypeAt s S i) (t : Turn s S i n j
       pub turn_refused : (why : Refusal) → r ≡ Refused why → Answers (storable_args (type_at s i) true (args (type_at s i))) (done_of s (Refused why))
       unfolding storable_args done_of
       turn_refused why q =
-          row-found arguments t.walk some_left (λ as' z. z _ (then_refused _ _ (refusal_of s why) (rw q at f)))
+          row_found arguments t.walk some_left (λ as' z. z _ (then_refused _ _ (refusal_of s why) (rw q at f)))
 
       pub turn_next : (l : ℕ) → r ≡ Fine → l ≡ end_at S j → Turn s S i n l (k + 1)
       unfolding storable_args done_of
@@ -135,13 +135,13 @@ module _ (s S : List ℕ) (i n j k : ℕ) (h : TypeAt s S i) (t : Turn s S i n j
 
 -- What `storable_keyed` meets: a Map or Registry with m arguments that takes n.
 module _ (s S : List ℕ) (i n m : ℕ) (h : TypeAt s S i) (a : n ≡ arity (type_name (type_at s i))) (c : m ≡ type_arg_count S i) where
-  pub keyed-refused : m ≢ n → Answers (storable_keyed (type_at s i) n) (done_of s (Refused (Arity i)))
+  pub keyed_refused : m ≢ n → Answers (storable_keyed (type_at s i) n) (done_of s (Refused (Arity i)))
   unfolding storable_keyed done_of refusal_of
-  keyed-refused e = rw (← a) (refuses _ 13 _ _ _ (rw (args_count s S i m h c, ne_eqb m n e) refl))
+  keyed_refused e = rw (← a) (refuses _ 13 _ _ _ (rw (args_count s S i m h c, ne_eqb m n e) refl))
 
-  pub keyed-args : (r : Done) → m ≡ n → Answers (storable_args (type_at s i) true (args (type_at s i))) (done_of s r) → Answers (storable_keyed (type_at s i) n) (done_of s r)
+  pub keyed_args : (r : Done) → m ≡ n → Answers (storable_args (type_at s i) true (args (type_at s i))) (done_of s r) → Answers (storable_keyed (type_at s i) n) (done_of s r)
   unfolding storable_keyed
-  keyed-args r e f = passes _ 13 _ _ _ _ (rw (args_count s S i m h c, eq-eqb m n e) refl) f
+  keyed_args r e f = passes _ 13 _ _ _ _ (rw (args_count s S i m h c, eq-eqb m n e) refl) f
 
 arity_none : (x : Name) → arity x ≡ 0 → arity_of x ≡ none
 unfolding arity
@@ -152,9 +152,9 @@ arity_none x e = rw (arity_by_lem x) (by_cases (is x "Map") (is x "Registry") (r
     by_cases false true e = absurd (omega arith)
     by_cases false false e = refl
 
-arity-some : (o : Option ℕ) → ◌≢◌ {A = ℕ} (elim o [ some n ↦ n | none ↦ 0 ]) 0 → o ≡ some (elim o [ some n ↦ n | none ↦ 0 ])
-arity-some none e = absurd (e refl)
-arity-some (some n) e = refl
+arity_some : (o : Option ℕ) → ◌≢◌ {A = ℕ} (elim o [ some n ↦ n | none ↦ 0 ]) 0 → o ≡ some (elim o [ some n ↦ n | none ↦ 0 ])
+arity_some none e = absurd (e refl)
+arity_some (some n) e = refl
 
 -- What `storable` meets: whether the type's name is Q_Name, and how many arguments it takes.
 module _ (s S : List ℕ) (i : ℕ) (x : Name) (w : Bool) (h : TypeAt s S i) (e : x ≡ name_at s S i) (f : w ≡ same x (bytes "Q_Name")) where
@@ -167,14 +167,14 @@ module _ (s S : List ℕ) (i : ℕ) (x : Name) (w : Bool) (h : TypeAt s S i) (e 
 
   module _ (n : ℕ) (g : w ≡ false) (a : n ≡ arity x) where
     pub storable-arity : n ≡ arity (type_name (type_at s i))
-    storable-arity = rw (← type-name s S i h, ← e) a
+    storable-arity = rw (← type_name_lem s S i h, ← e) a
 
     pub storable-known : (r : Done) → n ≡ 0 → Answers (known (type_at s i)) (done_of s r) → Answers (storable (type_at s i)) (done_of s r)
     unfolding storable storable_as
     storable-known r z q = passes _ 12 _ _ _ _ (no_name false g) (rw (arity_none (type_name (type_at s i)) (sym storable-arity ∙ z)) q)
 
-    pub storable-args : (r : Done) → n ≢ 0 → Answers (storable_keyed (type_at s i) n) (done_of s r) → Answers (storable (type_at s i)) (done_of s r)
+    pub storable_args_lem : (r : Done) → n ≢ 0 → Answers (storable_keyed (type_at s i) n) (done_of s r) → Answers (storable (type_at s i)) (done_of s r)
     unfolding storable storable_as arity
-    storable-args r z q =
+    storable_args_lem r z q =
         passes _ 12 _ _ _ _ (no_name false g)
-        (rw (arity-some (arity_of (type_name (type_at s i))) (λ y. z (storable-arity ∙ y)), ← storable-arity) q)
+        (rw (arity_some (arity_of (type_name (type_at s i))) (λ y. z (storable-arity ∙ y)), ← storable-arity) q)

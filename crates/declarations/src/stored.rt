@@ -75,8 +75,8 @@ fn is_refused_inside(ty: u8) -> bool
 
 // Whether the type at line inner may be a key or value of the Map or Registry at line ty.
 fn inner_fits(sheet: &[u8], lines: &[u16], ty: usize, inner: usize, key: bool) -> bool
-    requires type_at { TypeAt sheet.now lines.now ty }
-    requires type_at_2 { TypeAt sheet.now lines.now inner }
+    requires ty_at { TypeAt sheet.now lines.now ty }
+    requires inner_at { TypeAt sheet.now lines.now inner }
     ensures { result ≡ inner_fits (type_name (type_at sheet.now ty)) key (type_at sheet.now inner) }
 {
     let decl = ty_of_decl(sheet, lines, inner);
@@ -88,8 +88,8 @@ fn inner_fits(sheet: &[u8], lines: &[u16], ty: usize, inner: usize, key: bool) -
 
 // The argument at line arg of the Map or Registry at line ty.
 fn storable_arg(sheet: &[u8], lines: &[u16], ty: usize, arg: usize, key: bool) -> Done
-    requires type_at { TypeAt sheet.now lines.now ty }
-    requires here { Here lines.now Arg arg }
+    requires ty_at { TypeAt sheet.now lines.now ty }
+    requires arg_here { Here lines.now Arg arg }
     ensures { Answers (storable_arg (type_at sheet.now ty) key (arg_at sheet.now arg)) (done_of sheet.now result) }
 {
     if kind(lines, arg) != kinds::TYPE {
@@ -122,8 +122,8 @@ fn storable_args(sheet: &[u8], lines: &[u16], ty: usize) -> Done
 }
 
 fn storable_keyed(sheet: &[u8], lines: &[u16], ty: usize, arity: usize) -> Done
-    requires type_at { TypeAt sheet.now lines.now ty }
-    requires arity_value { arity ≡ arity_in (type_name (type_at sheet.now ty)) }
+    requires ty_at { TypeAt sheet.now lines.now ty }
+    requires arity_of_ty { arity ≡ arity_in (type_name (type_at sheet.now ty)) }
     ensures { Answers (storable_keyed (type_at sheet.now ty) arity) (done_of sheet.now result) }
 {
     if type_arg_count(lines, ty) != arity {

@@ -26,7 +26,7 @@ use Rattle.rules.proofs.Binding.{kept_assoc, kept_behind}
 use Rattle.rules.proofs.Parts.{parts}
 use Rattle.rules.proofs.Records.{event_at_lem, param_at_lem, no_params, group}
 use Rattle.rules.proofs.Rows as rows
-use Rattle.rules.proofs.Rows.{exprs, row-some, list-some}
+use Rattle.rules.proofs.Rows.{exprs, row_some, list_some}
 use Rattle.rules.proofs.Standing.{stands, row_first, row_rest}
 use Rattle.lookups.specs.Lines.{TypeAt}
 use Rattle.refusals.specs.Refusal.{refusal_of, done_of}
@@ -37,7 +37,7 @@ use Rattle.refusals.specs.declared.refusal.Refusal.TheVariants.{EmitField}
 use Rattle.refusals.specs.declared.refusal.Done.{Done}
 use Rattle.refusals.specs.declared.refusal.Done.TheVariants.{Fine, Refused}
 use Rattle.refusals.proofs.Answers.{fits, misfits}
-use Rattle.lookups.proofs.Codes.{from-code}
+use Rattle.lookups.proofs.Codes.{from_code}
 use Rattle.text.proofs.Tests.{or_parts}
 use Rattle.env.specs.Force.{env_of, ExprIn}
 use Rattle.env.specs.declared.env.Env.{Env}
@@ -45,8 +45,8 @@ use Rattle.env.specs.declared.judge.Typed.{Typed}
 use Rattle.env.specs.declared.judge.Typed.TheVariants.{Is, Refused as No}
 use Rattle.typing.specs.Asks.{Asks, NoValue, AsksAll, Types, Does}
 use Rattle.typing.proofs.Calls.{did}
-use Rattle.typing.proofs.Doing.{typed_then, not_typed, does_then, does-cut}
-use Rattle.typing.proofs.Onward.{Onward, onward, no_value_below, no_value-next, off_judged, off_each}
+use Rattle.typing.proofs.Doing.{typed_then, not_typed, does_then, does_cut}
+use Rattle.typing.proofs.Onward.{Onward, onward, no_value_below, no_value_next, off_judged, off_each}
 use Rattle.typing.proofs.Operators.{gave_code}
 use Rattle.emits.specs.Emit.{emit_rule, fields_rule, EmitIn, FieldIn, FieldsIn, Mismatches, JudgesField}
 use Rattle.refusals.specs.Answers.{Answers}
@@ -64,7 +64,7 @@ module _ (c d : ℕ) (b : Bool) where
   pub mismatch_other : (w : Bool) → c ≢ codes.name → w ≡ one_word (ty_from c) → Mismatches c d b (((eqb d codes.name || eqb d codes.collection) || eqb c codes.collection) || (eqb d codes.address && w))
   unfolding emit_mismatch eq_ty is_ty code
   mismatch_other w e h =
-      record { tests = λ Γ arg want got n k l. rw (emit_mismatch, ← k, ne_eqb c codes.name e, h, from-code c want k, ← k, ← l, or-false) refl }
+      record { tests = λ Γ arg want got n k l. rw (emit_mismatch, ← k, ne_eqb c codes.name e, h, from_code c want k, ← k, ← l, or-false) refl }
 
 module _ (s : List ℕ) (env : Env) (arg param c d : ℕ) (n m : Bool) (e : n ≡ is_name_param (env_of s [] env) (expr_at s arg)) (h : Mismatches c d n m) where
   fitting : (want got : Ty) (x : Bool) → c ≡ code want → d ≡ code got → m ≡ x → not (emit_mismatch (env_of s [] env) (expr_at s arg) want got) ≡ not x
@@ -72,11 +72,11 @@ module _ (s : List ℕ) (env : Env) (arg param c d : ℕ) (n m : Bool) (e : n �
 
   pub field_wrong : m ≡ true → JudgesField s env arg param c d (Refused (EmitField arg param d))
   unfolding done_of refusal_of
-  field_wrong q = record { judged = λ want got k l. rw (from-code d got l) (misfits _ 43 _ _ (fitting want got true k l q)) }
+  field_wrong q = record { judged = λ want got k l. rw (from_code d got l) (misfits _ 43 _ _ (fitting want got true k l q)) }
 
-  pub field-fine : m ≡ false → JudgesField s env arg param c d Fine
+  pub field_fine : m ≡ false → JudgesField s env arg param c d Fine
   unfolding done_of
-  field-fine q = record { judged = λ want got k l. fits _ 43 _ _ (fitting want got false k l q) }
+  field_fine q = record { judged = λ want got k l. fits _ 43 _ _ (fitting want got false k l q) }
 
 -- ------------------------------------------------------------ check_field
 
@@ -84,11 +84,11 @@ module _ (s S : List ℕ) (env : Env) (T : Table) (arg param : ℕ) (h : FieldIn
   typed : (param_at s param ≡ record { name = name_at s S param; ty = type_at s (suc param) }) × Here S grammar.Ty (suc param)
   typed = param_at_lem h.ready.force.loaded h.other.within (omega (arith, h.other.kind.0, h.other.kind.1))
 
-  pub field-asks : Asks s S env T arg
-  field-asks = record { ready = h.ready; here = h.one }
+  pub field_asks : Asks s S env T arg
+  field_asks = record { ready = h.ready; here = h.one }
 
-  pub field-type : TypeAt s S (param + 1)
-  field-type = record { loaded = h.ready.force.loaded; here = rw (add-one param) typed.1 }
+  pub field_type : TypeAt s S (param + 1)
+  field_type = record { loaded = h.ready.force.loaded; here = rw (add-one param) typed.1 }
 
   pub field_arg : ExprIn s S env arg
   field_arg = record { force = h.ready.force; here = h.one }
@@ -108,9 +108,9 @@ module _ (s S : List ℕ) (env : Env) (T : Table) (arg param : ℕ) (h : FieldIn
           let q : (param_at s param).ty ≡ type_at s (param + 1) = ap (λ p. p.ty) typed.0 ∙ rw (add-one param) refl in
           j.judged (ty_of_decl (param_at s param).ty) (ty_from c) (rw q w) (gave_code s _ T a U k c e)
 
-      pub field-ok : Does s (check_emit_field (env_of s T env) (expr_at s arg) (param_at s param)) T r U
+      pub field_ok : Does s (check_emit_field (env_of s T env) (expr_at s arg) (param_at s param)) T r U
       unfolding check_emit_field
-      field-ok = typed_then s (ty_of (env_of s T env) (expr_at s arg)) _ T a U k c r e judged
+      field_ok = typed_then s (ty_of (env_of s T env) (expr_at s arg)) _ T a U k c r e judged
 
 -- ------------------------------------------------------------ check_fields
 
@@ -128,28 +128,28 @@ module _ (s S : List ℕ) (env : Env) (T : Table) (arg args param params : ℕ) 
   no_more true q e = rw (eqb-true args 0 q) refl
   no_more false q e = rw (eqb-true params 0 e, no_params s param) (no_field (env_of s T env) (list (exprs_at s args arg)) T)
 
-  pub fields-stop : (eqb args 0 || eqb params 0) ≡ true → Does s Fields T Fine T
+  pub fields_stop : (eqb args 0 || eqb params 0) ≡ true → Does s Fields T Fine T
   unfolding done_of
-  fields-stop e = record { gives = no_more (eqb args 0) refl e }
+  fields_stop e = record { gives = no_more (eqb args 0) refl e }
 
   module _ (g : (eqb args 0 || eqb params 0) ≡ false) where
     both : (args ≢ 0) × (params ≢ 0)
     both = let q = or_parts (eqb args 0) (eqb params 0) g in (eqb-false args 0 q.0, eqb-false params 0 q.1)
 
     these : Row S grammar.Expr (suc (args - 1)) arg
-    these = row-some (omega (arith, both.0)) h.these
+    these = row_some (omega (arith, both.0)) h.these
 
     those : Row S grammar.Param (suc (params - 1)) param
-    those = row-some (omega (arith, both.1)) h.those
+    those = row_some (omega (arith, both.1)) h.those
 
-    pub fields-first : FieldIn s S env T arg param
-    fields-first = record { ready = h.ready; one = row_first these; other = row_first those }
+    pub fields_first : FieldIn s S env T arg param
+    fields_first = record { ready = h.ready; one = row_first these; other = row_first those }
 
-    pub some-args : 1 ≤ args
-    some-args = omega (arith, both.0)
+    pub some_args : 1 ≤ args
+    some_args = omega (arith, both.0)
 
-    pub some-params : 1 ≤ params
-    some-params = omega (arith, both.1)
+    pub some_params : 1 ≤ params
+    some_params = omega (arith, both.1)
 
     pub fields_falls : (τ : ℕ) → args ≡ τ → args - 1 < τ
     fields_falls τ e = omega (arith, both.0)
@@ -164,11 +164,11 @@ module _ (s S : List ℕ) (env : Env) (T : Table) (arg args param params : ℕ) 
     unfolding fields_rule zip zip_with for_each
     opened =
         let d = h.ready.force.loaded in
-        rw (list-some exprs d (omega (arith, both.0)) h.these, list-some rows.params d (omega (arith, both.1)) h.those) refl
+        rw (list_some exprs d (omega (arith, both.0)) h.these, list_some rows.params d (omega (arith, both.1)) h.those) refl
 
     module _ (d : Done) (U : Table) (k : Does s first T d U) where
       pub fields_no : (r : Refusal) → d ≡ Refused r → Does s Fields T (Refused r) U
-      fields_no r e = record { gives = opened ∙ (does-cut s first rest T d U k r e).gives }
+      fields_no r e = record { gives = opened ∙ (does_cut s first rest T d U k r e).gives }
 
       module _ (e : d ≡ Fine) (a' p' : ℕ) (ea : a' ≡ end_at S arg) (ep : p' ≡ end_at S param) where
         on : Onward s S env T U
@@ -176,10 +176,10 @@ module _ (s S : List ℕ) (env : Env) (T : Table) (arg args param params : ℕ) 
         on = onward s S env T U first tt h.ready (off_judged h.ready.force.loaded (env_of s T env) (row_first these) h.no_value _ _ _ _) (did s first T d U k.gives e)
 
         pub fields_rest : FieldsIn s S env U a' (args - 1) p' (params - 1)
-        fields_rest = record { ready = on.ready; these = rw ea (row_rest these); no_value = rw ea (no_value-next h.ready.force.loaded (row_first these)); those = rw ep (row_rest those) }
+        fields_rest = record { ready = on.ready; these = rw ea (row_rest these); no_value = rw ea (no_value_next h.ready.force.loaded (row_first these)); those = rw ep (row_rest those) }
 
-        pub fields-ok : (r : Done) (W : Table) → Does s (fields_rule (env_of s U env) (list (exprs_at s (args - 1) a')) (params_at s (params - 1) p')) U r W → Does s Fields T r W
-        fields-ok r W g' = record { gives = opened ∙ (does_then s first rest T d U k e r W (rw (← on.same, ← ea, ← ep) g')).gives }
+        pub fields_ok : (r : Done) (W : Table) → Does s (fields_rule (env_of s U env) (list (exprs_at s (args - 1) a')) (params_at s (params - 1) p')) U r W → Does s Fields T r W
+        fields_ok r W g' = record { gives = opened ∙ (does_then s first rest T d U k e r W (rw (← on.same, ← ea, ← ep) g')).gives }
 
 -- ------------------------------------------------------------ check_emit_fields and check_emit
 
@@ -226,20 +226,20 @@ module _ (s S : List ℕ) (env : Env) (T : Table) (i : ℕ) (h : EmitIn s S env 
       params : (event_at s event ≡ record { name = name_at s S event; params = params_at s (param_count S event) (suc event) }) × Row S grammar.Param (param_count S event) (suc event)
       params = event_at_lem h.ready.force.loaded there.0 there.1
 
-      pub event-fits : length S < 18446744073709551616 → Fits w64 (event + 1)
-      event-fits l = record { fits = omega (arith, there.0) }
+      pub event_fits : length S < 18446744073709551616 → Fits w64 (event + 1)
+      event_fits l = record { fits = omega (arith, there.0) }
 
       module _ (m k : ℕ) (em : m ≡ emit_arg_count S i) (ek : k ≡ param_count S event) where
         pub event-fields : FieldsIn s S env T (i + 1) m (event + 1) k
         event-fields = record { ready = h.ready; these = rw (em, add-one i) row; no_value = rw (add-one i) args_no_value; those = rw (ek, add-one event) params.1 }
 
-        pub event-done : (d : Done) (U : Table) → Does s (fields_rule (env_of s T env) (list (exprs_at s m (i + 1))) (params_at s k (event + 1))) T d U → Does s Emits T d U
+        pub event_done : (d : Done) (U : Table) → Does s (fields_rule (env_of s T env) (list (exprs_at s m (i + 1))) (params_at s k (event + 1))) T d U → Does s Emits T d U
         unfolding check_emit_fields fields_rule env_of if_some found_event
-        event-done d U g = record { gives = rw (← ex, ← n.found, e, params.0, ← em, ← ek, ← add-one i, ← add-one event) g.gives }
+        event_done d U g = record { gives = rw (← ex, ← n.found, e, params.0, ← em, ← ek, ← add-one i, ← add-one event) g.gives }
 
   module _ (m : ℕ) (em : m ≡ emit_arg_count S i) where
-    pub emit-asks : AsksAll s S env T m (i + 1)
-    emit-asks = record { ready = h.ready; row = rw (em, add-one i) row; no_value = rw (add-one i) args_no_value }
+    pub emit_asks : AsksAll s S env T m (i + 1)
+    emit_asks = record { ready = h.ready; row = rw (em, add-one i) row; no_value = rw (add-one i) args_no_value }
 
     module _ (d : Done) (U : Table) (k : Does s (ask_each (typings (env_of s T env) (exprs_at s m (i + 1)))) T d U) where
       abbrev all : Rule Unit
@@ -250,16 +250,16 @@ module _ (s S : List ℕ) (env : Env) (T : Table) (i : ℕ) (h : EmitIn s S env 
 
       pub emit_no : (r : Refusal) → d ≡ Refused r → Does s (emit_rule (env_of s T env) (name_at s S i) (list es)) T (Refused r) U
       unfolding emit_rule
-      emit_no r e = does-cut s all Emits T d U asks r e
+      emit_no r e = does_cut s all Emits T d U asks r e
 
       module _ (e : d ≡ Fine) where
         on_emit : Onward s S env T U
-        on_emit = onward s S env T U _ tt h.ready (off_each h.ready.force.loaded (env_of s T env) emit-asks.row emit-asks.no_value) (did s _ T d U k.gives e)
+        on_emit = onward s S env T U _ tt h.ready (off_each h.ready.force.loaded (env_of s T env) emit_asks.row emit_asks.no_value) (did s _ T d U k.gives e)
 
         pub emit_on : EmitIn s S env U i
         emit_on = record { ready = on_emit.ready; within = h.within; kind = h.kind }
 
-        pub emit-ok : (r : Done) (W : Table) → Does s (check_emit_fields (env_of s U env) (name_at s S i) (list es)) U r W
+        pub emit_ok : (r : Done) (W : Table) → Does s (check_emit_fields (env_of s U env) (name_at s S i) (list es)) U r W
             → Does s (emit_rule (env_of s T env) (name_at s S i) (list es)) T r W
         unfolding emit_rule
-        emit-ok r W g = does_then s all Emits T d U asks e r W (rw (← on_emit.same) g)
+        emit_ok r W g = does_then s all Emits T d U asks e r W (rw (← on_emit.same) g)

@@ -23,8 +23,8 @@ use Rattle.rules.specs.Statements.{positions, refuse_name_recipient}
 use Rattle.rules.specs.Standing.{expr_at, exprs_at, Loaded, Row, stop, next}
 use Rattle.rules.proofs.Exprs.{call_at_lem, ident_at, is-call_at}
 use Rattle.rules.proofs.Parts.{stop as end, ◌also◌, pick}
-use Rattle.rules.proofs.Rows.{row-some, exprs_some}
-use Rattle.rules.proofs.Standing.{exprs_next, row_first, row_rest, row-take}
+use Rattle.rules.proofs.Rows.{row_some, exprs_some}
+use Rattle.rules.proofs.Standing.{exprs_next, row_first, row_rest, row_take}
 use Rattle.lookups.specs.Lines.{ExprAt}
 use Rattle.refusals.specs.Refusal.{refusal_of, done_of}
 use Rattle.refusals.specs.declared.refusal.Refusal.{Refusal}
@@ -32,15 +32,15 @@ use Rattle.refusals.specs.declared.refusal.Refusal.TheVariants.{Recipient}
 use Rattle.refusals.specs.declared.refusal.Done.{Done}
 use Rattle.refusals.specs.declared.refusal.Done.TheVariants.{Fine, Refused}
 use Rattle.refusals.proofs.Answers.{fits, misfits}
-use Rattle.lookups.proofs.Tables.{words_in, place-most, pick-place}
+use Rattle.lookups.proofs.Tables.{words_in, place_most, pick_place}
 use Rattle.env.specs.Force.{env_of}
 use Rattle.env.specs.declared.env.Env.{Env}
 use Rattle.env.specs.declared.judge.Typed.{Typed}
 use Rattle.env.specs.declared.judge.Typed.TheVariants.{Is, Refused as No}
 use Rattle.typing.specs.Asks.{Asks, NoValue, AsksAll, Types, Does}
 use Rattle.typing.proofs.Calls.{did}
-use Rattle.typing.proofs.Doing.{typed_then, not_typed, does_then, does-cut}
-use Rattle.typing.proofs.Onward.{Onward, onward, no_value-next, off_judged}
+use Rattle.typing.proofs.Doing.{typed_then, not_typed, does_then, does_cut}
+use Rattle.typing.proofs.Onward.{Onward, onward, no_value_next, off_judged}
 use Rattle.typing.proofs.Operators.{gave_code}
 use Rattle.emits.specs.Recipient.{recipient_rule, recipients_rule, Recipients, JudgesRecipient}
 use Rattle.grammar.specs.Kinds as kinds
@@ -62,7 +62,7 @@ module _ (s S : List ℕ) (callee : ℕ) (h : ExprAt s S callee) (k : ℕ) (ek :
 
     by_place : positions (expr_at s callee) ≡ At p
     unfolding positions split ended
-    by_place = rw (positions, ident_at h.loaded h.here, ← ek, eq-eqb k kinds.id e, ← ex, ep) (pick-place x callees [])
+    by_place = rw (positions, ident_at h.loaded h.here, ← ek, eq-eqb k kinds.id e, ← ex, ep) (pick_place x callees [])
 
     pub one_recipient : p < 2 → Recipients s callee 1
     one_recipient l =
@@ -74,7 +74,7 @@ module _ (s S : List ℕ) (callee : ℕ) (h : ExprAt s S callee) (k : ℕ) (ek :
     pub no_recipient : 2 ≤ p → p ≢ 2 → Recipients s callee 0
     unfolding split ended
     no_recipient l n =
-        let q : p ≡ 3 = omega (arith, place-most x (words_in callees)) in
+        let q : p ≡ 3 = omega (arith, place_most x (words_in callees)) in
         record { first = by_place ∙ rw q refl; few = omega arith }
 
 -- ------------------------------------------------------------ one recipient
@@ -110,7 +110,7 @@ module _ (s S : List ℕ) (env : Env) (T : Table) (left at : ℕ) (h : AsksAll s
 
   module _ (n : left ≢ 0) where
     row : Row S grammar.Expr (suc (left - 1)) at
-    row = row-some (omega arith) h.row
+    row = row_some (omega arith) h.row
 
     pub all_first : Asks s S env T at
     all_first = record { ready = h.ready; here = row_first row }
@@ -127,7 +127,7 @@ module _ (s S : List ℕ) (env : Env) (T : Table) (left at : ℕ) (h : AsksAll s
 
     module _ (d : Done) (U : Table) (k : Does s first T d U) where
       pub all_no : (r : Refusal) → d ≡ Refused r → Does s All T (Refused r) U
-      all_no r e = record { gives = opened ∙ (does-cut s first rest T d U k r e).gives }
+      all_no r e = record { gives = opened ∙ (does_cut s first rest T d U k r e).gives }
 
       module _ (e : d ≡ Fine) (m : ℕ) (q : m ≡ end_at S at) where
         on : Onward s S env T U
@@ -135,7 +135,7 @@ module _ (s S : List ℕ) (env : Env) (T : Table) (left at : ℕ) (h : AsksAll s
         on = onward s S env T U first tt h.ready (off_judged h.ready.force.loaded (env_of s T env) (row_first row) h.no_value _ _ _ _) (did s first T d U k.gives e)
 
         pub all_rest : AsksAll s S env U (left - 1) m
-        all_rest = record { ready = on.ready; row = rw q (row_rest row); no_value = rw q (no_value-next h.ready.force.loaded (row_first row)) }
+        all_rest = record { ready = on.ready; row = rw q (row_rest row); no_value = rw q (no_value_next h.ready.force.loaded (row_first row)) }
 
         pub all_ok : (r : Done) (W : Table) → Does s (recipients_rule (env_of s U env) (list (exprs_at s (left - 1) m))) U r W → Does s All T r W
         all_ok r W g = record { gives = opened ∙ (does_then s first rest T d U k e r W (rw (← on.same, ← q) g)).gives }
@@ -189,7 +189,7 @@ module _ (s S : List ℕ) (env : Env) (T : Table) (i : ℕ) (h : Asks s S env T 
       args = rw (em, ea, add-one i) (row_rest all)
 
       args_no_value : NoValue S at
-      args_no_value = rw (ea, add-one i) (no_value-next h.ready.force.loaded (row_first all))
+      args_no_value = rw (ea, add-one i) (no_value_next h.ready.force.loaded (row_first all))
 
       opened' : kept Refuses T ≡ kept (recipients_rule (env_of s T env) (take due (list (exprs_at s m at)))) T
       unfolding refuse_name_recipient recipients_rule recipient_rule if_some
@@ -197,14 +197,14 @@ module _ (s S : List ℕ) (env : Env) (T : Table) (i : ℕ) (h : Asks s S env T 
           rw (is-call_at h.ready.force.loaded h.here, ← ek, eq-eqb k kinds.call e, ← add-one i, r.first, ← em, ← ea)
           (first_ones due r.few (recipient_rule (env_of s T env)) (list (exprs_at s m at)) T)
 
-      pub few-asks : m < due → AsksAll s S env T m at
-      few-asks l = record { ready = h.ready; row = args; no_value = args_no_value }
+      pub few_asks : m < due → AsksAll s S env T m at
+      few_asks l = record { ready = h.ready; row = args; no_value = args_no_value }
 
-      pub few-done : (d : Done) (U : Table) → m < due → Does s (recipients_rule (env_of s T env) (list (exprs_at s m at))) T d U → Does s Refuses T d U
-      few-done d U l g = record { gives = opened' ∙ rw (take_all due h.ready.force.loaded args (omega arith)) g.gives }
+      pub few_done : (d : Done) (U : Table) → m < due → Does s (recipients_rule (env_of s T env) (list (exprs_at s m at))) T d U → Does s Refuses T d U
+      few_done d U l g = record { gives = opened' ∙ rw (take_all due h.ready.force.loaded args (omega arith)) g.gives }
 
-      pub due-asks : due ≤ m → AsksAll s S env T due at
-      due-asks l = record { ready = h.ready; row = row-take due l args; no_value = args_no_value }
+      pub due_asks : due ≤ m → AsksAll s S env T due at
+      due_asks l = record { ready = h.ready; row = row_take due l args; no_value = args_no_value }
 
-      pub due-done : (d : Done) (U : Table) → due ≤ m → Does s (recipients_rule (env_of s T env) (list (exprs_at s due at))) T d U → Does s Refuses T d U
-      due-done d U l g = record { gives = opened' ∙ rw (take-list due h.ready.force.loaded args l) g.gives }
+      pub due_done : (d : Done) (U : Table) → due ≤ m → Does s (recipients_rule (env_of s T env) (list (exprs_at s due at))) T d U → Does s Refuses T d U
+      due_done d U l g = record { gives = opened' ∙ rw (take-list due h.ready.force.loaded args l) g.gives }

@@ -65,9 +65,9 @@ pub record Binary (rule : (left right : Expr) (l r : Ty) → Rule Ty) (f : Ty �
   pub code : IsCode n
 
 module _ {op : UnaryOp} {f : Ty → Bool} {why : ℕ → Refusal} {n : ℕ} (u : Unary op f why n) (o i c : ℕ) (b : Bool) (q : get_or unary_ops o NegOp ≡ op) (h : b ≡ f (ty_from c)) where
-  pub unary-fine : b ≡ true → Judged (λ s. judge_unary (get_or unary_ops o NegOp) (expr_at s i)) c (Is n)
+  pub unary_fine : b ≡ true → Judged (λ s. judge_unary (get_or unary_ops o NegOp) (expr_at s i)) c (Is n)
   unfolding typed_of
-  unary-fine e =
+  unary_fine e =
       record {
         judged = λ s. rw (q, u.is (expr_at s i) (ty_from c)) (operand_fine u.wants b (ty_from c) h s i (ret (ty_from n)) _ e (gives (ty_from n)));
         valid = u.code;
@@ -204,21 +204,21 @@ module _ (s : List ℕ) (a b : Expr) (c d : ℕ) (r : Typed) (o : ℕ) where
   abbrev ByOp : ℕ → Type 0
   ByOp k = JudgedIn s (judge_binary (get_or bin_ops k Shr) a b) c d r
 
-  pub logical-op : o < ops.bin_eq → JudgedIn s (logical a b) c d r → ByOp o
+  pub logical_op : o < ops.bin_eq → JudgedIn s (logical a b) c d r → ByOp o
   unfolding judge_binary
-  logical-op e h = pick {P = ByOp} {i = ops.bin_or} {n = 2} o (h also h also stop) (omega arith) e
+  logical_op e h = pick {P = ByOp} {i = ops.bin_or} {n = 2} o (h also h also stop) (omega arith) e
 
-  pub equality-op : ops.bin_eq ≤ o → o < ops.bin_lt → JudgedIn s (equality a b) c d r → ByOp o
+  pub equality_op : ops.bin_eq ≤ o → o < ops.bin_lt → JudgedIn s (equality a b) c d r → ByOp o
   unfolding judge_binary
-  equality-op k e h = pick {P = ByOp} {i = ops.bin_eq} {n = 2} o (h also h also stop) k e
+  equality_op k e h = pick {P = ByOp} {i = ops.bin_eq} {n = 2} o (h also h also stop) k e
 
-  pub ordering-op : ops.bin_lt ≤ o → o < ops.bin_add → JudgedIn s (ordering a b) c d r → ByOp o
+  pub ordering_op : ops.bin_lt ≤ o → o < ops.bin_add → JudgedIn s (ordering a b) c d r → ByOp o
   unfolding judge_binary
-  ordering-op k e h = pick {P = ByOp} {i = ops.bin_lt} {n = 4} o (h also h also h also h also stop) k e
+  ordering_op k e h = pick {P = ByOp} {i = ops.bin_lt} {n = 4} o (h also h also h also h also stop) k e
 
-  pub arithmetic-op : ops.bin_add ≤ o → JudgedIn s (arithmetic a b) c d r → ByOp o
+  pub arithmetic_op : ops.bin_add ≤ o → JudgedIn s (arithmetic a b) c d r → ByOp o
   unfolding judge_binary
-  arithmetic-op k h =
+  arithmetic_op k h =
       rw (let q : o ≡ suc (suc (suc (suc (suc (suc (suc (suc (o - ops.bin_add)))))))) = omega arith in q)
       (all_get (λ p. JudgedIn s (judge_binary p a b) c d r) (Add ∷ Sub ∷ Mul ∷ Div ∷ Rem ∷ Shr ∷ []) Shr (h, (h, (h, (h, (h, (h, tt)))))) h (o - ops.bin_add))
 

@@ -20,7 +20,7 @@ use Rattle.rules.proofs.All.{All}
 use Rattle.rules.proofs.Forest.{parts_end, placed_at}
 use Rattle.rules.proofs.Lets.{Past}
 use Rattle.rules.proofs.Parts.{parts}
-use Rattle.rules.proofs.Standing.{stands, nodes-next, row_behind, row_first}
+use Rattle.rules.proofs.Standing.{stands, nodes_next, row_behind, row_first}
 use Rattle.lookups.specs.Found.{node_kind, of_kind}
 use Rattle.env.specs.Force.{named_end, lets, ends_in, InForce}
 use Rattle.env.specs.declared.env.Env.{Env}
@@ -95,12 +95,12 @@ module _ (s : List ℕ) where
 
 module _ {s S : List ℕ} (d : Loaded s S) where
   -- the first statement is one of them where it is a `let`
-  lets-first : (m i : ℕ) → i < line_count S → lets s (suc m) i ≡ cond (eqb (kind_at S i) kinds.let') (node_at s i ∷ lets s m (end_at S i)) (lets s m (end_at S i))
+  lets_first : (m i : ℕ) → i < line_count S → lets s (suc m) i ≡ cond (eqb (kind_at S i) kinds.let') (node_at s i ∷ lets s m (end_at S i)) (lets s m (end_at S i))
   unfolding lets of_kind node_kind
-  lets-first m i h =
+  lets_first m i h =
       let t = stands d i h in
       let kind : node_kind (node_at s i) ≡ kind_at S i = rw t.here (sym t.says.kind) in
-      rw (nodes-next d m i h, of_kind, kind) (by_cases (eqb (kind_at S i) kinds.let'))
+      rw (nodes_next d m i h, of_kind, kind) (by_cases (eqb (kind_at S i) kinds.let'))
     where
       by_cases : (b : Bool) → ◌≡◌ {A = List Node} (elim b [ true ↦ node_at s i ∷ of_kind kinds.let' (nodes_at s m (end_at S i)) | false ↦ of_kind kinds.let' (nodes_at s m (end_at S i)) ]) (cond b (node_at s i ∷ of_kind kinds.let' (nodes_at s m (end_at S i))) (of_kind kinds.let' (nodes_at s m (end_at S i))))
       by_cases true = refl
@@ -109,7 +109,7 @@ module _ {s S : List ℕ} (d : Loaded s S) where
   lets_rise : {m i : ℕ} → Row S grammar.Stmt m i → Rising s i (skip S m i) (lets s m i)
   unfolding skip lets nodes_at take_nodes nodes of_kind
   lets_rise {i = i} stop = omega arith
-  lets_rise {m = suc m} {i = i} (next h r) = rw (lets-first m i h.within) (by_cases (eqb (kind_at S i) kinds.let') refl (lets_rise r))
+  lets_rise {m = suc m} {i = i} (next h r) = rw (lets_first m i h.within) (by_cases (eqb (kind_at S i) kinds.let') refl (lets_rise r))
     where
       by_cases : (b : Bool) → eqb (kind_at S i) kinds.let' ≡ b → Rising s (end_at S i) (skip S m (end_at S i)) (lets s m (end_at S i))
           → Rising s i (skip S m (end_at S i)) (cond b (node_at s i ∷ lets s m (end_at S i)) (lets s m (end_at S i)))
@@ -120,7 +120,7 @@ module _ {s S : List ℕ} (d : Loaded s S) where
   pub lets_all : (P : Node → Type 0) → ((j : ℕ) → j < line_count S → kind_at S j ≡ kinds.let' → P (node_at s j)) → {m i : ℕ} → Row S grammar.Stmt m i → All P (lets s m i)
   unfolding lets nodes_at take_nodes nodes of_kind
   lets_all P f stop = tt
-  lets_all P f {m = suc m} {i = i} (next h r) = rw (lets-first m i h.within) (by_cases (eqb (kind_at S i) kinds.let') refl (lets_all P f r))
+  lets_all P f {m = suc m} {i = i} (next h r) = rw (lets_first m i h.within) (by_cases (eqb (kind_at S i) kinds.let') refl (lets_all P f r))
     where
       by_cases : (b : Bool) → eqb (kind_at S i) kinds.let' ≡ b → All P (lets s m (end_at S i)) → All P (cond b (node_at s i ∷ lets s m (end_at S i)) (lets s m (end_at S i)))
       by_cases true e q = (f i h.within (eqb-true _ kinds.let' e), q)

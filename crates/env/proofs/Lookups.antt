@@ -36,8 +36,8 @@ use Rattle.lookups.specs.Found.{of_kind, found_node, found_field, FoundKind, Las
 use Rattle.lookups.specs.declared.model.Found.{Found}
 use Rattle.lookups.specs.declared.model.Found.TheVariants.{At, Nothing}
 use Rattle.lookups.proofs.Fields.{last_map, all_kind, param-name}
-use Rattle.lookups.proofs.Types.{type-name}
-pub use Rattle.lookups.proofs.Behind.{TypeBehind, behind, found-typed, found-next}
+use Rattle.lookups.proofs.Types.{type_name_lem}
+pub use Rattle.lookups.proofs.Behind.{TypeBehind, behind, found_typed, found_next}
 use Rattle.env.specs.Force.{params_in, local_of, lets, env_of, mark_of, InForce, ExprIn, Ready, field_ty, field_node, keyed_node, FieldFound, KeyedFound}
 use Rattle.env.specs.declared.env.Env.{Env}
 use Rattle.grammar.specs.Kinds as kinds
@@ -134,15 +134,15 @@ module _ (s S : List ℕ) (env : Env) (T : Table) (x : Name) (h : Ready s S env 
       let_line : Stands s S i
       let_line = stands h.force.loaded i let_at.0
 
-      pub value-within : i + 1 < length T
+      pub value_within : i + 1 < length T
       unfolding sorts copies
-      value-within =
+      value_within =
           let g = parts let_line.line kinds.let' let_line.parted (sym let_line.says.kind ∙ let_at.1) in
           let q = row_first (row_behind {σ = grammar.Expr} 1 [] let_line (rw g refl)) in
           omega (arith, q.within, h.room)
 
-      pub value-next : length T < 18446744073709551616 → Fits w64 (i + 1)
-      value-next f = record { fits = omega (arith, value-within) }
+      pub value_next : length T < 18446744073709551616 → Fits w64 (i + 1)
+      value_next f = record { fits = omega (arith, value_within) }
 
       pub by_local : (v c : ℕ) → v ≡ get_or T (i + 1) 0 → c ≡ code (ty_from v) → c ≡ code (ty_of_ident (env_of s T env) x)
       unfolding ty_of_ident env_of found_node lets local_of
@@ -197,9 +197,9 @@ module _ (s S : List ℕ) (env : Env) (i : ℕ) (h : ExprIn s S env i) (k : ℕ)
 -- ------------------------------------------------------------ fields by their type
 
 -- one of two words
-pub either-word : (x : Name) (v w : String) → is_one x (v ∷ w ∷ []) ≡ (is x v || is x w)
+pub either_word : (x : Name) (v w : String) → is_one x (v ∷ w ∷ []) ≡ (is x v || is x w)
 unfolding is_one
-either-word x v w = by_cases (is x v) (is x w)
+either_word x v w = by_cases (is x v) (is x w)
   where
     by_cases : (a b : Bool) → elim a as (λ _. Bool) [ true ↦ true | false ↦ elim b as (λ _. Bool) [ true ↦ true | false ↦ false ] ] ≡ (a || b)
     by_cases true b = refl
@@ -219,7 +219,7 @@ module _ (s S : List ℕ) (env : Env) (i : ℕ) (h : ExprIn s S env i) (r : Foun
     the_type : type_name (field_at s j).ty ≡ y
     the_type =
         let t = behind kinds.field s S h.force.loaded r j e f.kind (omega arith) (omega arith) in
-        rw (t.field, n, add-one j) (sym (type-name s S (suc j) t.typed))
+        rw (t.field, n, add-one j) (sym (type_name_lem s S (suc j) t.typed))
 
     pub pool : (b : Bool) → b ≡ same y (bytes "Q_Asset") → b ≡ is_pool (env_of s [] env) (expr_at s i)
     unfolding is_pool found_field is
@@ -228,7 +228,7 @@ module _ (s S : List ℕ) (env : Env) (i : ℕ) (h : ExprIn s S env i) (r : Foun
     module _ (b c : Bool) (v : b ≡ same y (bytes "Map")) (w : c ≡ same y (bytes "Registry")) where
       which : is_one (type_name (field_at s j).ty) ("Map" ∷ "Registry" ∷ []) ≡ (b || c)
       unfolding is
-      which = rw (the_type, either-word y "Map" "Registry", v, w) refl
+      which = rw (the_type, either_word y "Map" "Registry", v, w) refl
 
       pub keyed : (b || c) ≡ true → KeyedFound s S env i (At j)
       unfolding keyed_field keyed_node found_field found_node field_at

@@ -96,14 +96,14 @@ module _ (xs : List Name) (i : ℕ) (l : Line) where
   unfolding copies exprs_of has_any
   one_part h (one_due {t = t} f none_due) = record { count = 1; exprs = one_due f none_due; is = rw or-false (h t) }
 
-  two-parts : {ps : Nodes} → ((t u : Node) → has xs (expr_of (node i l (more t (more u nil)))) ≡ (self || (has xs (expr_of t) || has xs (expr_of u)))) → FormedAll (grammar.Expr ∷ grammar.Expr ∷ []) ps → Mentions xs i l ps
+  two_parts : {ps : Nodes} → ((t u : Node) → has xs (expr_of (node i l (more t (more u nil)))) ≡ (self || (has xs (expr_of t) || has xs (expr_of u)))) → FormedAll (grammar.Expr ∷ grammar.Expr ∷ []) ps → Mentions xs i l ps
   unfolding copies exprs_of has_any
-  two-parts h (one_due {t = t} f (one_due {t = u} g none_due)) =
+  two_parts h (one_due {t = t} f (one_due {t = u} g none_due)) =
       record { count = 2; exprs = one_due f (one_due g none_due); is = rw or-false (h t u) }
 
-  some-parts : {ps : Nodes} (k : ℕ) → ((t : Node) (ns : Nodes) → has xs (expr_of (node i l (more t ns))) ≡ (self || (has xs (expr_of t) || has_any xs (exprs_of ns)))) → FormedAll (grammar.Expr ∷ copies k grammar.Expr) ps → Mentions xs i l ps
+  some_parts : {ps : Nodes} (k : ℕ) → ((t : Node) (ns : Nodes) → has xs (expr_of (node i l (more t ns))) ≡ (self || (has xs (expr_of t) || has_any xs (exprs_of ns)))) → FormedAll (grammar.Expr ∷ copies k grammar.Expr) ps → Mentions xs i l ps
   unfolding copies exprs_of has_any
-  some-parts k h (one_due {t = t} {ns = ns} f g) = record { count = suc k; exprs = one_due f g; is = h t ns }
+  some_parts k h (one_due {t = t} {ns = ns} f g) = record { count = suc k; exprs = one_due f g; is = h t ns }
 
   -- by the line's kind
   mentions : (ps : Nodes) → Among grammar.Expr l.kind → Parted l → FormedAll (sorts l.parts) ps → Mentions xs i l ps
@@ -119,9 +119,9 @@ module _ (xs : List Name) (i : ℕ) (l : Line) where
       also (λ e. no_part (rw (expr_of, e) refl) (rw (parts l kinds.inasset p e) at f))
       also (λ e. no_part (rw (expr_of, e) refl) (rw (parts l kinds.now p e) at f))
       also (λ e. one_part (λ t. rw (expr_of, e) refl) (rw (parts l kinds.un p e) at f))
-      also (λ e. two-parts (λ t u. rw (expr_of, e) refl) (rw (parts l kinds.bin p e) at f))
+      also (λ e. two_parts (λ t u. rw (expr_of, e) refl) (rw (parts l kinds.bin p e) at f))
       also (λ e. one_part (λ t. rw (expr_of, e) refl) (rw (parts l kinds.dot p e) at f))
-      also (λ e. let g = parts l kinds.call p e in some-parts g.0 (λ t ns. rw (expr_of, e) refl) (rw (g.1, append-nil) at f))
+      also (λ e. let g = parts l kinds.call p e in some_parts g.0 (λ t ns. rw (expr_of, e) refl) (rw (g.1, append-nil) at f))
       also (λ e. one_part (λ t. rw (expr_of, e) refl) (rw (parts l kinds.checked p e) at f))
       also (λ e. one_part (λ t. rw (expr_of, e) refl) (rw (parts l kinds.wrapping p e) at f))
       also stop)
@@ -136,8 +136,8 @@ module _ {s S : List ℕ} (d : Loaded s S) (xs : List Name) where
   mutual
     unfolding any exprs_of has_any copies before
 
-    tree-has : {i : ℕ} {t : Node} → Held S (line_count S) i t → Formed grammar.Expr t → node_at s i ≡ t → has xs (expr_of t) ≡ any (hit s S xs) i (end_at S i - i)
-    tree-has {i} (held {l = l} {ps = ps} h y r) (formed a p f) e =
+    tree_has : {i : ℕ} {t : Node} → Held S (line_count S) i t → Formed grammar.Expr t → node_at s i ≡ t → has xs (expr_of t) ≡ any (hit s S xs) i (end_at S i - i)
+    tree_has {i} (held {l = l} {ps = ps} h y r) (formed a p f) e =
         let t = stands d i h in
         let m = mentions xs i l ps a p f in
         let line : t.line ≡ l = cc (t.here, e) in
@@ -158,13 +158,13 @@ module _ {s S : List ℕ} (d : Loaded s S) (xs : List Name) where
         let st = stands d i w.0 in
         let here : node_at s i ≡ t = cc (st.next, e) in
         let behind : trees_from s (end_at S i) ≡ before ns rest = cc (st.next, e) in
-        rw (any_split (hit s S xs) i (end_at S i) j w.1 (all_le r), tree-has h f here, trees-has r k fs rest behind) refl
+        rw (any_split (hit s S xs) i (end_at S i) j w.1 (all_le r), tree_has h f here, trees-has r k fs rest behind) refl
 
-  pub has-lines : (i : ℕ) → Here S grammar.Expr i → has xs (expr_at s i) ≡ any (hit s S xs) i (end_at S i - i)
+  pub has_lines : (i : ℕ) → Here S grammar.Expr i → has xs (expr_at s i) ≡ any (hit s S xs) i (end_at S i - i)
   unfolding expr_at
-  has-lines i h =
+  has_lines i h =
       let t = stands d i h.within in
-      rw t.here (tree-has (held h.within t.says t.held) (formed (rw (← t.says.kind) h.kind) t.parted t.formed) t.here)
+      rw t.here (tree_has (held h.within t.says t.held) (formed (rw (← t.says.kind) h.kind) t.parted t.formed) t.here)
 
 -- ------------------------------------------------------------ the walk over the lines
 
@@ -186,7 +186,7 @@ pub look_start : (s S : List ℕ) (env : Env) (i end : ℕ) → ExprIn s S env i
 unfolding stale env_of
 look_start s S env i end h e =
     let d = h.force.loaded in
-    record { rest = rw (line_at d h.here, e) (has-lines d (later i (ends_in s env)) i h.here) }
+    record { rest = rw (line_at d h.here, e) (has_lines d (later i (ends_in s env)) i h.here) }
 
 module _ (s S : List ℕ) (env : Env) (i end at : ℕ) (l : Looking s S env i end at) where
   pub look_over : (r : Bool) → end ≤ at → r ≡ false → r ≡ stale (env_of s [] env) (expr_at s i)

@@ -37,12 +37,12 @@ use Rattle.refusals.specs.declared.refusal.Refusal.TheVariants.{Receiver, KeyedO
 use Rattle.refusals.specs.declared.refusal.Done.{Done}
 use Rattle.refusals.specs.declared.refusal.Done.TheVariants.{Fine, Refused}
 use Rattle.refusals.proofs.Answers.{gives, fits, misfits}
-use Rattle.lookups.proofs.Tables.{one_place, words_in, values_in, place-most, pick-place}
-use Rattle.lookups.proofs.Types.{type-name}
+use Rattle.lookups.proofs.Tables.{one_place, words_in, values_in, place_most, pick_place}
+use Rattle.lookups.proofs.Types.{type_name_lem}
 use Rattle.env.specs.Calls.{dot_codes, method_codes, wants_of, keyed_of, keyed_record, KeyedOf, Callee, op_rule, get_ty, method_ty, call_ty}
 use Rattle.env.specs.Force.{env_of, ExprIn, KeyedFound}
 use Rattle.env.specs.declared.env.Env.{Env}
-use Rattle.env.proofs.Lookups.{behind, either-word}
+use Rattle.env.proofs.Lookups.{behind, either_word}
 use Rattle.grammar.specs.Kinds as kinds
 use Rattle.rules.specs.Codes as codes
 
@@ -54,23 +54,23 @@ dots = "amount signer_bits first len "
 abbrev dot_types : List (String × Ty)
 dot_types = ("amount", Int) ∷ ("signer_bits", Word64) ∷ ("first", Time) ∷ ("len", Int) ∷ []
 
-pub dot-most : (x : Name) (p : ℕ) → p ≡ index_in x (split (bytes dots)) → p < 5
+pub dot_most : (x : Name) (p : ℕ) → p ≡ index_in x (split (bytes dots)) → p < 5
 unfolding split ended
-dot-most x p e = omega (arith, place-most x (words_in dot_types))
+dot_most x p e = omega (arith, place_most x (words_in dot_types))
 
 pub dot-type : (x : Name) (p r : ℕ) → p ≡ index_in x (split (bytes dots)) → r ≡ get_or dot_codes p 0 → r ≡ code (ty_of_dot x)
 unfolding ty_of_dot split ended code
 dot-type x p r e f =
     f
-    ∙ rw (pick-place x dot_types Unknown, ← e)
+    ∙ rw (pick_place x dot_types Unknown, ← e)
     (pick {P = λ p. get_or dot_codes p 0 ≡ code (get_or (values_in dot_types) p Unknown)} {i = 0} {n = 5} p
-    (refl also refl also refl also refl also refl also stop) (omega arith) (dot-most x p e))
+    (refl also refl also refl also refl also refl also stop) (omega arith) (dot_most x p e))
 
 -- ------------------------------------------------------------ methods
 
 pub moves : (x : Name) (b c : Bool) → b ≡ same x (bytes "credit") → c ≡ same x (bytes "debit") → (b || c) ≡ is_one x ("credit" ∷ "debit" ∷ [])
 unfolding is
-moves x b c v w = rw (v, w) (sym (either-word x "credit" "debit"))
+moves x b c v w = rw (v, w) (sym (either_word x "credit" "debit"))
 
 abbrev one_key : List String
 one_key = "insert" ∷ "remove" ∷ "contains" ∷ "get" ∷ "credit" ∷ "debit" ∷ []
@@ -99,9 +99,9 @@ module _ (x : Name) (b : Bool) (w : b ≡ same x (bytes "set")) where
 abbrev the_dot : List ℕ → List ℕ → ℕ → Dot
 the_dot s S i = record { base = expr_at s (suc i); name = name_at s S i; nspan = nspan_at s S i }
 
-dot-told : (s : List ℕ) (i : ℕ) (d : Dot) → dot_of (expr_at s i) ≡ some d → dot_at s i ≡ d
+dot_told : (s : List ℕ) (i : ℕ) (d : Dot) → dot_of (expr_at s i) ≡ some d → dot_at s i ≡ d
 unfolding dot_at
-dot-told s i d e = rw (dot_at, e) refl
+dot_told s i d e = rw (dot_at, e) refl
 
 module _ {s S : List ℕ} {i k : ℕ} (d : Loaded s S) (h : Here S grammar.Expr i) (e : k ≡ kind_at S i) where
   not_dot : k ≢ kinds.dot → dot_of (expr_at s i) ≡ none
@@ -114,8 +114,8 @@ module _ (s S : List ℕ) (env : Env) (i : ℕ) (h : ExprIn s S env i) (k : ℕ)
   none_here : k ≢ kinds.dot → dot_of (expr_at s i) ≡ none
   none_here = not_dot h.force.loaded h.here e
 
-  dot-here : k ≡ kinds.dot → dot_of (expr_at s i) ≡ some (the_dot s S i)
-  dot-here = is-dot h.force.loaded h.here e
+  dot_here : k ≡ kinds.dot → dot_of (expr_at s i) ≡ some (the_dot s S i)
+  dot_here = is-dot h.force.loaded h.here e
 
   pub base_in : k ≡ kinds.dot → ExprIn s S env (i + 1)
   base_in q =
@@ -130,7 +130,7 @@ module _ (s S : List ℕ) (env : Env) (i : ℕ) (h : ExprIn s S env i) (k : ℕ)
   unfolding keyed_of keyed_record
   uses r q f =
       record {
-        found = f.found ∙ rw (keyed_of, dot-here q, add-one i) refl;
+        found = f.found ∙ rw (keyed_of, dot_here q, add-one i) refl;
         node = f.node ∙ rw (keyed_record, ← e, eq-eqb k kinds.dot q, add-one i) refl;
         kind = f.kind;
       }
@@ -146,7 +146,7 @@ module _ (s S : List ℕ) (env : Env) (i : ℕ) (h : ExprIn s S env i) (k : ℕ)
     unfolding expect_asset_receiver if_some split ended
     receiver =
         let w : is_one x ("merge" ∷ "split" ∷ []) ≡ ltb p 2 = one_place x ("merge" ∷ "split" ∷ []) ∙ rw f refl in
-        rw (expect_asset_receiver, dot-here q, dot-told s i (the_dot s S i) (dot-here q), ← n, w) refl
+        rw (expect_asset_receiver, dot_here q, dot_told s i (the_dot s S i) (dot_here q), ← n, w) refl
 
     pub any_receiver : p ≡ 2 → Answers (expect_asset_receiver (env_of s [] env) (expr_at s i)) (done_of s Fine)
     unfolding done_of
@@ -155,7 +155,7 @@ module _ (s S : List ℕ) (env : Env) (i : ℕ) (h : ExprIn s S env i) (k : ℕ)
     module _ (b : Bool) (z : p ≢ 2) (g : b ≡ is_pool (env_of s [] env) (expr_at s (i + 1))) where
       wanted : ltb p 2 ≡ true
       unfolding split ended
-      wanted = lt-ltb p 2 (omega (arith, f, place-most x (words ("merge" ∷ "split" ∷ []))))
+      wanted = lt-ltb p 2 (omega (arith, f, place_most x (words ("merge" ∷ "split" ∷ []))))
 
       on_pool : is_pool (env_of s [] env) (expr_at s (suc i)) ≡ b
       on_pool = sym (rw (add-one i) at g)
@@ -172,7 +172,7 @@ module _ (s S : List ℕ) (env : Env) (i : ℕ) (h : ExprIn s S env i) (k : ℕ)
 
 module _ (s S : List ℕ) (i : ℕ) (h : TypeAt s S i) (y : Name) (n : y ≡ name_at s S i) where
   the_name : type_name (type_at s i) ≡ y
-  the_name = sym (n ∙ type-name s S i h)
+  the_name = sym (n ∙ type_name_lem s S i h)
 
   module _ (x : Name) (b : Bool) (w : b ≡ same y (bytes "Registry")) where
     pub registry_op : (p : ℕ) → b ≡ true → p ≡ index_in x (split (bytes "insert remove contains ")) → ltb p 3 ≡ keyed_op_fits (type_at s i) x
@@ -184,9 +184,9 @@ module _ (s S : List ℕ) (i : ℕ) (h : TypeAt s S i) (y : Name) (n : y ≡ nam
       unfolding split ended
       plain_op = one_place x ("set" ∷ "get" ∷ "contains" ∷ "remove" ∷ []) ∙ rw e refl
 
-      pub map-op : p < 4 → true ≡ keyed_op_fits (type_at s i) x
+      pub map_op : p < 4 → true ≡ keyed_op_fits (type_at s i) x
       unfolding keyed_op_fits is
-      map-op f = rw (keyed_op_fits, the_name, ← w, q, plain_op, lt-ltb p 4 f) refl
+      map_op f = rw (keyed_op_fits, the_name, ← w, q, plain_op, lt-ltb p 4 f) refl
 
       pub amount_op : (m : Bool) (v : ℕ) → 4 ≤ p → m ≡ is_one x ("credit" ∷ "debit" ∷ []) → v ≡ code (declared_arg (type_at s i) 1)
           → (m && eqb v codes.int) ≡ keyed_op_fits (type_at s i) x
@@ -222,9 +222,9 @@ method_types g = ("contains", Boolean) ∷ ("split", Asset) ∷ ("get", g) ∷ [
 
 -- the rules of a callee that uses o
 module _ (Γ : typing.Env) (e : Expr) (o : Option Field) (g : o ≡ keyed_of Γ e) where
-  pub uses-op : op_rule o e ≡ expect_keyed_op Γ e
+  pub uses_op : op_rule o e ≡ expect_keyed_op Γ e
   unfolding keyed_of op_rule expect_keyed_op if_some
-  uses-op = by_cases (dot_of e) g
+  uses_op = by_cases (dot_of e) g
     where
       by_cases : (x : Option Dot) → o ≡ elim x [ none ↦ none | some d ↦ keyed_field Γ d.base ]
           → if_some x (λ d. if_some o (λ f. expect (keyed_op_fits f.ty d.name) 31 d.nspan (keyed_op_text d.name f)))
@@ -265,24 +265,24 @@ module _ (s S : List ℕ) (i : ℕ) (keyed : Found) (h : Callee s S i keyed) whe
         unfolding op_rule if_some found_field
         op =
             let v : keyed_op_fits (field_at s f).ty (name_at s S i) ≡ b = sym (w ∙ rw (its_type f e, n, add-one f) refl) in
-            rw (op_rule, here, e, dot-told s i (the_dot s S i) here, v) refl
+            rw (op_rule, here, e, dot_told s i (the_dot s S i) here, v) refl
 
-        pub good-op : b ≡ true → JudgesMethod Fine
+        pub good_op : b ≡ true → JudgesMethod Fine
         unfolding done_of
-        good-op t = rw op (fits b 31 _ _ t)
+        good_op t = rw op (fits b 31 _ _ t)
 
-        pub bad-op : b ≡ false → JudgesMethod (Refused (KeyedOp i f))
+        pub bad_op : b ≡ false → JudgesMethod (Refused (KeyedOp i f))
         unfolding done_of refusal_of
-        bad-op t = rw op (misfits b 31 _ _ t)
+        bad_op t = rw op (misfits b 31 _ _ t)
 
   module _ (x : Name) (n : x ≡ name_at s S i) (p : ℕ) (e : p ≡ index_in x (split (bytes methods))) where
     pub method_most : p < 4
     unfolding split ended
-    method_most = omega (arith, place-most x (words_in (method_types Int)))
+    method_most = omega (arith, place_most x (words_in (method_types Int)))
 
     of_place : (g : Ty) → g ≡ ty_of_get (found_field s keyed) → method_ty (name_at s S i) (found_field s keyed) ≡ get_or (values_in (method_types g)) p Unknown
     unfolding method_ty split ended
-    of_place g q = rw (← n, ← q, e) (pick-place x (method_types g) Unknown)
+    of_place g q = rw (← n, ← q, e) (pick_place x (method_types g) Unknown)
 
     pub by_method : (r : ℕ) → p ≢ 2 → r ≡ get_or method_codes p 0 → r ≡ code (method_ty (name_at s S i) (found_field s keyed))
     unfolding code

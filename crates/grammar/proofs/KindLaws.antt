@@ -88,37 +88,37 @@ pub tried_bin : (w : List ℕ) (k r : ℕ) → r ≡ cond (same w (get_or bin_op
 unfolding index_in same standing
 tried_bin = tried bin_ops refl
 
-pub kind_at : (s : Sort) (w : List ℕ) (p r : ℕ) → p ≡ index_in w (words_of (records_for s)) → r ≡ within (first_kind s) (length (records_for s)) p → r ≡ kind_for s w
+pub kind_at_lem : (s : Sort) (w : List ℕ) (p r : ℕ) → p ≡ index_in w (words_of (records_for s)) → r ≡ within (first_kind s) (length (records_for s)) p → r ≡ kind_for s w
 unfolding kind_for
-kind_at s w p r f g = g ∙ rw f
+kind_at_lem s w p r f g = g ∙ rw f
 
 -- an arm of `kind_for`
 pub kind_arm : (s : Sort) (w : List ℕ) (p r : ℕ) → p ≡ index_in w (split (bytes (table s))) → r ≡ within (first_kind s) (length (records_for s)) p → r ≡ kind_for s w
-kind_arm s w p r f g = kind_at s w p r (f ∙ rw (words_of_lem s)) g
+kind_arm s w p r f g = kind_at_lem s w p r (f ∙ rw (words_of_lem s)) g
 
 -- the numbers that have no arm of their own
-pub other-sort : (n : ℕ) → (n ≡ sort_number Contract → ⊥) → (n ≡ sort_number Item → ⊥) → (n ≡ sort_number Field → ⊥) → (n ≡ sort_number Param → ⊥) → (n ≡ sort_number Ty → ⊥) → (n ≡ sort_number Arg → ⊥) → (n ≡ sort_number Clause → ⊥) → (n ≡ sort_number Stmt → ⊥) → sort_of n ≡ Expr
-other-sort zero a b c d e f g h = absurd (a refl)
-other-sort (suc zero) a b c d e f g h = absurd (b refl)
-other-sort (suc (suc zero)) a b c d e f g h = absurd (c refl)
-other-sort (suc (suc (suc zero))) a b c d e f g h = absurd (d refl)
-other-sort (suc (suc (suc (suc zero)))) a b c d e f g h = absurd (e refl)
-other-sort (suc (suc (suc (suc (suc zero))))) a b c d e f g h = absurd (f refl)
-other-sort (suc (suc (suc (suc (suc (suc zero)))))) a b c d e f g h = absurd (g refl)
-other-sort (suc (suc (suc (suc (suc (suc (suc zero))))))) a b c d e f g h = absurd (h refl)
-other-sort (suc (suc (suc (suc (suc (suc (suc (suc n)))))))) a b c d e f g h = refl
+pub other_sort : (n : ℕ) → (n ≡ sort_number Contract → ⊥) → (n ≡ sort_number Item → ⊥) → (n ≡ sort_number Field → ⊥) → (n ≡ sort_number Param → ⊥) → (n ≡ sort_number Ty → ⊥) → (n ≡ sort_number Arg → ⊥) → (n ≡ sort_number Clause → ⊥) → (n ≡ sort_number Stmt → ⊥) → sort_of n ≡ Expr
+other_sort zero a b c d e f g h = absurd (a refl)
+other_sort (suc zero) a b c d e f g h = absurd (b refl)
+other_sort (suc (suc zero)) a b c d e f g h = absurd (c refl)
+other_sort (suc (suc (suc zero))) a b c d e f g h = absurd (d refl)
+other_sort (suc (suc (suc (suc zero)))) a b c d e f g h = absurd (e refl)
+other_sort (suc (suc (suc (suc (suc zero))))) a b c d e f g h = absurd (f refl)
+other_sort (suc (suc (suc (suc (suc (suc zero)))))) a b c d e f g h = absurd (g refl)
+other_sort (suc (suc (suc (suc (suc (suc (suc zero))))))) a b c d e f g h = absurd (h refl)
+other_sort (suc (suc (suc (suc (suc (suc (suc (suc n)))))))) a b c d e f g h = refl
 
-within-most : (k n p : ℕ) → k + n ≤ no_kind → within k n p ≤ no_kind
-within-most k n p h = by_cases (ltb p n) refl
+within_most : (k n p : ℕ) → k + n ≤ no_kind → within k n p ≤ no_kind
+within_most k n p h = by_cases (ltb p n) refl
   where
     by_cases : (t : Bool) → ltb p n ≡ t → cond t (k + p) no_kind ≤ no_kind
     by_cases true e = omega (arith, ltb-true p n e)
     by_cases false e = omega arith
 
 -- a kind that isn't `no_kind` is a record's
-pub kind-known : (s : Sort) (w : List ℕ) (k : ℕ) → k ≡ kind_for s w → k ≢ no_kind → k < no_kind
+pub kind_known : (s : Sort) (w : List ℕ) (k : ℕ) → k ≡ kind_for s w → k ≢ no_kind → k < no_kind
 unfolding kind_for
-kind-known s w k e h = omega (arith, rw (← e) at (within-most (first_kind s) (length (records_for s)) (index_in w (words_of (records_for s))) (room s)))
+kind_known s w k e h = omega (arith, rw (← e) at (within_most (first_kind s) (length (records_for s)) (index_in w (words_of (records_for s))) (room s)))
   where
     room : (s : Sort) → first_kind s + length (records_for s) ≤ no_kind
     room Contract = omega arith

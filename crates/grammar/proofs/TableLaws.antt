@@ -22,8 +22,8 @@ table_at f w d none e (r ∷ rs) (suc k) j hk hj =
     (get_or-append-add (f r) (table_of f rs) (w * k + j) d ∙ table_at f w d none e rs k j (omega arith) hj)
 
 -- a table of one number a record
-pub number_at : (f : Record → ℕ) (k : ℕ) → k < no_kind → get_or (table_of (λ r. f r ∷ []) records) k 0 ≡ f (record_of k)
-number_at f k h =
+pub number_at_lem : (f : Record → ℕ) (k : ℕ) → k < no_kind → get_or (table_of (λ r. f r ∷ []) records) k 0 ≡ f (record_of k)
+number_at_lem f k h =
     ap (λ i. get_or (table_of (λ r. f r ∷ []) records) i 0) (let q : k ≡ 1 * k + 0 = omega arith in q)
     ∙ table_at (λ r. f r ∷ []) 1 0 _ (λ r. refl) records k 0 h (omega arith)
 
@@ -32,22 +32,22 @@ pub rule_here : (i j k r : ℕ) → j ≡ i → r ≡ get_or (rule_column i) k 0
 rule_here i j k r e h = h ∙ ap (λ n. get_or (rule_column n) k 0) (sym e)
 
 pub rule_at : (k j : ℕ) → k < no_kind → get_or (rule_column j) k 0 ≡ get_or (numbers_of k) j 0
-rule_at k j = number_at (λ r. get_or (rule_numbers (length r.always) r.rules) j 0) k
+rule_at k j = number_at_lem (λ r. get_or (rule_numbers (length r.always) r.rules) j 0) k
 
 -- each rule has a number
-numbers-length : (g : ℕ) (rs : List Rule) → length (rule_numbers g rs) ≡ length rs
-numbers-length g [] = refl
-numbers-length g (span ∷ rs) = ap suc (numbers-length g rs)
-numbers-length g (name ∷ rs) = ap suc (numbers-length g rs)
-numbers-length g (text ∷ rs) = ap suc (numbers-length g rs)
-numbers-length g (assign_op ∷ rs) = ap suc (numbers-length g rs)
-numbers-length g (un_op ∷ rs) = ap suc (numbers-length g rs)
-numbers-length g (bin_op ∷ rs) = ap suc (numbers-length g rs)
-numbers-length g (count s ∷ rs) = ap suc (numbers-length (suc g) rs)
-numbers-length g (flag s ∷ rs) = ap suc (numbers-length (suc g) rs)
+numbers_length : (g : ℕ) (rs : List Rule) → length (rule_numbers g rs) ≡ length rs
+numbers_length g [] = refl
+numbers_length g (span ∷ rs) = ap suc (numbers_length g rs)
+numbers_length g (name ∷ rs) = ap suc (numbers_length g rs)
+numbers_length g (text ∷ rs) = ap suc (numbers_length g rs)
+numbers_length g (assign_op ∷ rs) = ap suc (numbers_length g rs)
+numbers_length g (un_op ∷ rs) = ap suc (numbers_length g rs)
+numbers_length g (bin_op ∷ rs) = ap suc (numbers_length g rs)
+numbers_length g (count s ∷ rs) = ap suc (numbers_length (suc g) rs)
+numbers_length g (flag s ∷ rs) = ap suc (numbers_length (suc g) rs)
 
-pub numbers-count : (k : ℕ) → length (numbers_of k) ≡ length (record_of k).rules
-numbers-count k = numbers-length (length (record_of k).always) (record_of k).rules
+pub numbers_count : (k : ℕ) → length (numbers_of k) ≡ length (record_of k).rules
+numbers_count k = numbers_length (length (record_of k).always) (record_of k).rules
 
 abbrev pub every : (Record → Bool) → List Record → Bool
 every t [] = true
@@ -65,16 +65,16 @@ at_most f n k e h = leb-true (f (record_of k)) n (at_place (λ r. leb (f r) n) _
 
 -- how many fields a record has
 pub fields_at : (k n : ℕ) → k < no_kind → n ≡ get_or length_table k 0 → n ≡ length (record_of k).rules
-fields_at k n h e = e ∙ number_at (λ r. length r.rules) k h
+fields_at k n h e = e ∙ number_at_lem (λ r. length r.rules) k h
 
-pub few-fields : (k : ℕ) → k < no_kind → length (record_of k).rules ≤ most_fields
-few-fields k = at_most (λ r. length r.rules) most_fields k refl
+pub few_fields : (k : ℕ) → k < no_kind → length (record_of k).rules ≤ most_fields
+few_fields k = at_most (λ r. length r.rules) most_fields k refl
 
-pub few-always : (k : ℕ) → k < no_kind → length (record_of k).always ≤ 1
-few-always k = at_most (λ r. length r.always) 1 k refl
+pub few_always : (k : ℕ) → k < no_kind → length (record_of k).always ≤ 1
+few_always k = at_most (λ r. length r.always) 1 k refl
 
-pub few-parts : (k : ℕ) → k < no_kind → length (record_of k).always + length (told_sorts (record_of k).rules) ≤ most_groups
-few-parts k = at_most (λ r. length r.always + length (told_sorts r.rules)) most_groups k refl
+pub few_parts : (k : ℕ) → k < no_kind → length (record_of k).always + length (told_sorts (record_of k).rules) ≤ most_groups
+few_parts k = at_most (λ r. length r.always + length (told_sorts r.rules)) most_groups k refl
 
 -- the sort of a record's parts, by groups
 pub sort_at : (k g : ℕ) → k < no_kind → g < most_groups → get_or sort_table (most_groups * k + g) 0 ≡ get_or (three (sort_number Expr) (sort_numbers (group_sorts (record_of k)))) g 0

@@ -21,11 +21,11 @@ use Rattle.rules.specs.KeyKinds.{Keyed, keyed_here, keyed_calls, keyed_calls_all
 use Rattle.rules.specs.Standing.{expr_at, exprs_at, nodes_at, clause_at, clauses_at, stmt_at, stmts_at, entry_at, Loaded, Here, Row, stop, next}
 use Rattle.rules.specs.Typing.{dot_of}
 use Rattle.rules.proofs.Exprs.{by_kind}
-use Rattle.rules.proofs.Forest.{joined, parts_of, Left, left-row, left_at, left_over, exprs_join, skip_least}
+use Rattle.rules.proofs.Forest.{joined, parts_of, Left, left_row, left_at_lem, left_over, exprs_join, skip_least}
 use Rattle.rules.proofs.Walks.{all_joined}
 use Rattle.rules.proofs.Parts.{stop as end', ◌also◌, pick, parts}
-use Rattle.rules.proofs.Records.{entry_at_lem, guard_at, let_at, emit_at, assign_at, do_at, limits_at, denies_at, mints_at, after_at, stmts_next, clauses-next, no_stmts, no_clauses}
-use Rattle.rules.proofs.Standing.{stands, exprs_next, row_first, row_rest, row_nth, row-take}
+use Rattle.rules.proofs.Records.{entry_at_lem, guard_at, let_at, emit_at, assign_at, do_at, limits_at, denies_at, mints_at, after_at, stmts_next, clauses_next, no_stmts, no_clauses}
+use Rattle.rules.proofs.Standing.{stands, exprs_next, row_first, row_rest, row_nth, row_take}
 use Rattle.lookups.specs.Lines.{EntryAt}
 use Rattle.key_kinds.specs.Uses.{call_at}
 use Rattle.grammar.specs.Kinds as kinds
@@ -63,9 +63,9 @@ module _ (s S : List ℕ) where
       ∙ calls_add i (j - i) (k - j)
       ∙ ap (λ l. calls s S i j ++ calls_in s S l (k - j)) (let q : i + (j - i) ≡ j = omega arith in q)
 
-  other-line : (i : ℕ) → kind_at S i ≢ kinds.call → call_at s S i ≡ []
+  other_line : (i : ℕ) → kind_at S i ≢ kinds.call → call_at s S i ≡ []
   unfolding call_at
-  other-line i h = rw (call_at, ne_eqb (kind_at S i) kinds.call h) refl
+  other_line i h = rw (call_at, ne_eqb (kind_at S i) kinds.call h) refl
 
 -- ------------------------------------------------------------ expressions
 
@@ -78,14 +78,14 @@ own (field l s e n m) = []
 own (call l s c es) = keyed_here (dot_of c) es
 own (wrap l s w e) = []
 
-own-parts : (e : Expr) → keyed_calls e ≡ own e ++ keyed_calls_all (parts_of e)
+own_parts : (e : Expr) → keyed_calls e ≡ own e ++ keyed_calls_all (parts_of e)
 unfolding keyed_calls keyed_calls_all parts_of
-own-parts (leaf l s k) = refl
-own-parts (unary l s o e) = sym (append-nil _)
-own-parts (binary l s o a b) = ap (λ ks. keyed_calls a ++ ks) (sym (append-nil _))
-own-parts (field l s e n m) = sym (append-nil _)
-own-parts (call l s c es) = refl
-own-parts (wrap l s w e) = sym (append-nil _)
+own_parts (leaf l s k) = refl
+own_parts (unary l s o e) = sym (append-nil _)
+own_parts (binary l s o a b) = ap (λ ks. keyed_calls a ++ ks) (sym (append-nil _))
+own_parts (field l s e n m) = sym (append-nil _)
+own_parts (call l s c es) = refl
+own_parts (wrap l s w e) = sym (append-nil _)
 
 calls_joined : (es fs : Exprs) → keyed_calls_all (joined es fs) ≡ keyed_calls_all es ++ keyed_calls_all fs
 unfolding keyed_calls_all
@@ -96,10 +96,10 @@ unfolding keyed_calls_all keyed_in list
 all_listed nil = refl
 all_listed (more e es) = ap (λ ks. keyed_calls e ++ ks) (all_listed es)
 
-keyed-append : (es fs : List Expr) → keyed_in (es ++ fs) ≡ keyed_in es ++ keyed_in fs
+keyed_append : (es fs : List Expr) → keyed_in (es ++ fs) ≡ keyed_in es ++ keyed_in fs
 unfolding keyed_in
-keyed-append [] fs = refl
-keyed-append (e ∷ es) fs = ap (λ ks. keyed_calls e ++ ks) (keyed-append es fs) ∙ sym (append_assoc (keyed_calls e) _ _)
+keyed_append [] fs = refl
+keyed_append (e ∷ es) fs = ap (λ ks. keyed_calls e ++ ks) (keyed_append es fs) ∙ sym (append_assoc (keyed_calls e) _ _)
 
 module _ {s S : List ℕ} (d : Loaded s S) where
   own_at : {i : ℕ} → Here S grammar.Expr i → own (expr_at s i) ≡ call_at s S i
@@ -113,9 +113,9 @@ module _ {s S : List ℕ} (d : Loaded s S) where
   unfolding calls_in keyed_calls_all
   left_calls zero e l = rw (left_over d l (omega arith)) refl
   left_calls (suc k) {i} {end} {es} e l =
-      let a = left_at d l (omega arith) in
+      let a = left_at_lem d l (omega arith) in
       ap keyed_calls_all a.is
-      ∙ ap (λ ks. ks ++ keyed_calls_all a.rest) (own-parts (expr_at s i))
+      ∙ ap (λ ks. ks ++ keyed_calls_all a.rest) (own_parts (expr_at s i))
       ∙ append_assoc (own (expr_at s i)) _ _
       ∙ rw (← calls_joined (parts_of (expr_at s i)) a.rest, left_calls k (let q : end - suc i ≡ k = omega arith in q) a.inside, own_at a.here) refl
 
@@ -134,8 +134,8 @@ module _ {s S : List ℕ} (d : Loaded s S) where
   bare_calls {i} {es} h b =
       ap keyed_in b.are
       ∙ all_listed (exprs_at s b.count (suc i))
-      ∙ left_calls d (end_at S i - suc i) (rw b.ends refl) (left-row d b.row)
-      ∙ sym (calls_next s S i (end_at S i) h ∙ rw (other-line s S i b.kind) refl)
+      ∙ left_calls d (end_at S i - suc i) (rw b.ends refl) (left_row d b.row)
+      ∙ sym (calls_next s S i (end_at S i) h ∙ rw (other_line s S i b.kind) refl)
 
   one_expr : {j : ℕ} → Here S grammar.Expr j → list (exprs_at s 1 j) ≡ expr_at s j ∷ []
   unfolding list exprs_at take_nodes exprs_of
@@ -170,15 +170,15 @@ module _ {s S : List ℕ} (d : Loaded s S) where
         ends = q.2;
         are =
             rw (q.0, append-nil, maybe_expr a (suc i) q.3 (λ z. row_nth 0 (omega arith) r), maybe_expr b (skip S a (suc i)) q.4 (λ z. row_nth a (omega arith) r))
-            (sym (ap list (exprs_join b d (row-take a (omega arith) r)) ∙ list-joined _ _));
+            (sym (ap list (exprs_join b d (row_take a (omega arith) r)) ∙ list-joined _ _));
         kind = omega arith;
       })
       also end')
       h.kind.0 h.kind.1 refl
 
-  stmt-bare : (i : ℕ) → Here S grammar.Stmt i → Bare s S i (body_exprs (stmt_at s i ∷ []))
+  stmt_bare : (i : ℕ) → Here S grammar.Stmt i → Bare s S i (body_exprs (stmt_at s i ∷ []))
   unfolding body_exprs list exprs_at take_nodes exprs_of
-  stmt-bare i h =
+  stmt_bare i h =
       pick {P = λ k. kind_at S i ≡ k → Bare s S i (body_exprs (stmt_at s i ∷ []))} {i = kinds.guard} {n = 5} (kind_at S i)
       ((λ e. let q = guard_at d h e in record { count = 1; row = q.1; ends = q.2; are = rw q.0 (sym (one_expr (row_first q.1))); kind = omega arith })
       also (λ e. let q = let_at d h e in record { count = 1; row = q.1; ends = q.2; are = rw q.0 (sym (one_expr (row_first q.1))); kind = omega arith })
@@ -207,13 +207,13 @@ clause_first (denies e) cs = refl
 clause_first mints cs = refl
 clause_first (after t f) cs = sym (append_assoc (present t) _ _ ∙ ap (λ es. present t ++ es) (append_assoc (present f) _ _))
 
-stmt-first : (t : Stmt) (ts : List Stmt) → body_exprs (t ∷ ts) ≡ body_exprs (t ∷ []) ++ body_exprs ts
+stmt_first : (t : Stmt) (ts : List Stmt) → body_exprs (t ∷ ts) ≡ body_exprs (t ∷ []) ++ body_exprs ts
 unfolding body_exprs
-stmt-first (guard e) ts = refl
-stmt-first (bind x e) ts = refl
-stmt-first (emit x es) ts = sym (append_assoc es _ _)
-stmt-first (assign a o t v) ts = refl
-stmt-first (do' e) ts = refl
+stmt_first (guard e) ts = refl
+stmt_first (bind x e) ts = refl
+stmt_first (emit x es) ts = sym (append_assoc es _ _)
+stmt_first (assign a o t v) ts = refl
+stmt_first (do' e) ts = refl
 
 module _ {s S : List ℕ} (d : Loaded s S) where
   -- the records of a row, the m from line i on having the expressions f m i
@@ -224,7 +224,7 @@ module _ {s S : List ℕ} (d : Loaded s S) where
   row_calls f g z n c {i = i} stop = ap keyed_in (z i) ∙ sym (calls_none s S i i (omega arith))
   row_calls f g z n c {m = suc m} {i} (next h r) =
       ap keyed_in (n m i h)
-      ∙ keyed-append (g i) (f m (end_at S i))
+      ∙ keyed_append (g i) (f m (end_at S i))
       ∙ rw (c i h, row_calls f g z n c r) refl
       ∙ sym (calls_split s S i (end_at S i) (skip S m (end_at S i)) (omega (arith, h.after)) (omega (arith, skip_least r)))
 
@@ -232,15 +232,15 @@ module _ {s S : List ℕ} (d : Loaded s S) where
   unfolding clause_exprs
   clauses_calls =
       row_calls (λ m i. clause_exprs (clauses_at s m i)) (λ i. clause_exprs (clause_at s i ∷ [])) (λ i. ap clause_exprs (no_clauses s i))
-      (λ m i h. ap clause_exprs (clauses-next d m h.within) ∙ clause_first (clause_at s i) (clauses_at s m (end_at S i)))
+      (λ m i h. ap clause_exprs (clauses_next d m h.within) ∙ clause_first (clause_at s i) (clauses_at s m (end_at S i)))
       (λ i h. bare_calls d h.after (clause_bare d i h))
 
   stmts_calls : {m i : ℕ} → Row S grammar.Stmt m i → keyed_in (body_exprs (stmts_at s m i)) ≡ calls s S i (skip S m i)
   unfolding body_exprs
   stmts_calls =
       row_calls (λ m i. body_exprs (stmts_at s m i)) (λ i. body_exprs (stmt_at s i ∷ [])) (λ i. ap body_exprs (no_stmts s i))
-      (λ m i h. ap body_exprs (stmts_next d m h.within) ∙ stmt-first (stmt_at s i) (stmts_at s m (end_at S i)))
-      (λ i h. bare_calls d h.after (stmt-bare d i h))
+      (λ m i h. ap body_exprs (stmts_next d m h.within) ∙ stmt_first (stmt_at s i) (stmts_at s m (end_at S i)))
+      (λ i h. bare_calls d h.after (stmt_bare d i h))
 
 -- ------------------------------------------------------------ parameters
 
@@ -274,7 +274,7 @@ module _ (s S : List ℕ) where
     quiet_tree {i = i} (held {l = l} h y r) (formed a p fs) q =
         let k : kind_at S i ≡ l.kind = y.kind in
         calls_next s S i (end_at S i) (all_le r)
-        ∙ rw (other-line s S i (λ z. absurd (omega (arith, k, z, a.1, q.1))), quiet_trees r fs (quiet_parts l (omega (arith, a.0, q.0)) (omega (arith, a.1, q.1)) p)) refl
+        ∙ rw (other_line s S i (λ z. absurd (omega (arith, k, z, a.1, q.1))), quiet_trees r fs (quiet_parts l (omega (arith, a.0, q.0)) (omega (arith, a.1, q.1)) p)) refl
 
     quiet_trees : {n i j : ℕ} {ts : Nodes} {σs : List grammar.Sort} → HeldAll S n i j ts → FormedAll σs ts → Quiets σs → calls s S i j ≡ []
     quiet_trees {i = i} no_tree none_due q = calls_none s S i i (omega arith)
@@ -303,7 +303,7 @@ entry_calls {s} {S} {e} h =
     let b = skip_least p.clauses in
     let c = skip_least p.body in
     ap (λ x. keyed_in (entry_exprs x)) p.is
-    ∙ keyed-append (clause_exprs (clauses_at s (clause_count S e) j)) (body_exprs (stmts_at s (body_count S e) k))
+    ∙ keyed_append (clause_exprs (clauses_at s (clause_count S e) j)) (body_exprs (stmts_at s (body_count S e) k))
     ∙ rw (clauses_calls d p.clauses, stmts_calls d p.body, p.ends) refl
     ∙ sym (calls_split s S j k (end_at S e) (omega (arith, b)) (omega (arith, c, p.ends)))
     ∙ sym (calls_split s S (suc e) j (end_at S e) (omega (arith, a)) (omega (arith, b, c, p.ends)) ∙ rw (params_calls d p.params) refl)

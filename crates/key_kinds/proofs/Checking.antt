@@ -23,7 +23,7 @@ use Rattle.rules.specs.Standing.{node_at, nodes_at, expr_at, exprs_at, named_at,
 use Rattle.rules.specs.Typing.{Dot, ident_of, dot_of}
 use Rattle.rules.proofs.Exprs.{call_at_lem, dot_at_lem, ident_at, is_dot_at}
 use Rattle.rules.proofs.Records.{named}
-use Rattle.rules.proofs.Rows.{records, RowWalk, row_over, row_here, row-found, row_onward}
+use Rattle.rules.proofs.Rows.{records, RowWalk, row_over, row_here, row_found, row_onward}
 use Rattle.rules.proofs.Standing.{stands, exprs_next, row_first, row_rest, row_nth}
 use Rattle.refusals.specs.Answers.{Answers}
 use Rattle.lookups.specs.Found.{ItemAt}
@@ -35,10 +35,10 @@ use Rattle.refusals.specs.declared.refusal.Refusal.{Refusal}
 use Rattle.refusals.specs.declared.refusal.Done.{Done}
 use Rattle.refusals.specs.declared.refusal.Done.TheVariants.{Fine, Refused}
 use Rattle.lookups.proofs.Fields.{items_at}
-use Rattle.lookups.proofs.Items.{entries_of, entries_next, entries-other}
+use Rattle.lookups.proofs.Items.{entries_of, entries_next, entries_other}
 use Rattle.key_kinds.specs.Uses.{keyed_at, call_at, names_at, uses_at, entry_uses, item_uses, MapNamed, kind_of, Noted, KeyMarks, Passed, Judged, OneEntry, InEntry}
 use Rattle.key_kinds.proofs.Calls.{calls, calls_next, calls_none, entry_calls}
-use Rattle.key_kinds.proofs.Seen.{use_judged, none_judged, passed_start, passed-next, passed-refused, passed_over, all_judged}
+use Rattle.key_kinds.proofs.Seen.{use_judged, none_judged, passed_start, passed_next, passed_refused, passed_over, all_judged}
 use Rattle.grammar.specs.Kinds as kinds
 use Rattle.sheet.specs.Line.{most_lines}
 
@@ -62,10 +62,10 @@ module _ {s S : List ℕ} (d : Loaded s S) {i : ℕ} (w : i < line_count S) wher
   a_call : kind_at S i ≡ kinds.call → Here S grammar.Expr i
   a_call e = record { within = w; kind = (omega arith, omega arith); after = all_le (stands d i w).held }
 
-  some-args : (m : ℕ) → Row S grammar.Expr (suc m) (suc i) → exprs_at s m (end_at S (suc i)) ≡ cond (eqb m 0) nil (more (expr_at s (end_at S (suc i))) (exprs_at s (m - 1) (end_at S (end_at S (suc i)))))
+  some_args : (m : ℕ) → Row S grammar.Expr (suc m) (suc i) → exprs_at s m (end_at S (suc i)) ≡ cond (eqb m 0) nil (more (expr_at s (end_at S (suc i))) (exprs_at s (m - 1) (end_at S (end_at S (suc i)))))
   unfolding exprs_at take_nodes exprs_of
-  some-args zero r = refl
-  some-args (suc m) r = rw (ne_eqb (suc m) 0 (omega arith), let q : suc m - 1 ≡ m = omega arith in q) (exprs_next d m (end_at S (suc i)) (row_first (row_rest r)).within)
+  some_args zero r = refl
+  some_args (suc m) r = rw (ne_eqb (suc m) 0 (omega arith), let q : suc m - 1 ≡ m = omega arith in q) (exprs_next d m (end_at S (suc i)) (row_first (row_rest r)).within)
 
   call-is : call_at s S i ≡ cond (keyed_at s S i) ((name_at s S (suc (suc i)), expr_at s (end_at S (suc i))) ∷ []) []
   unfolding call_at keyed_at
@@ -78,7 +78,7 @@ module _ {s S : List ℕ} (d : Loaded s S) {i : ℕ} (w : i < line_count S) wher
           let f = row_first c.1 in
           rw (call_at, keyed_at, q)
           (here_by (dot_of (expr_at s (suc i))) (exprs_at s (call_arg_count S i) (end_at S (suc i))) _ (name_at s S (suc (suc i))) (expr_at s (end_at S (suc i))) _ (eqb (call_arg_count S i) 0) (eqb (kind_at S (suc i)) kinds.dot) (eqb (kind_at S (suc (suc i))) kinds.id) _
-          (is_dot_at d f) (some-args (call_arg_count S i) c.1) (λ z. ident_at d (row_first (dot_at_lem d f (eqb-true (kind_at S (suc i)) kinds.dot z)).1)) refl)
+          (is_dot_at d f) (some_args (call_arg_count S i) c.1) (λ z. ident_at d (row_first (dot_at_lem d f (eqb-true (kind_at S (suc i)) kinds.dot z)).1)) refl)
 
   -- the map and the key of a keyed call
   key_at : keyed_at s S i ≡ true → Here S grammar.Expr (end_at S (suc i)) × (suc (suc i) < line_count S)
@@ -195,10 +195,10 @@ module _ (s S ks ls : List ℕ) (e end at : ℕ) (w : Walking s S ks ls e end at
 
     module _ (ms : List ℕ) (r : Done) (j : Judged s S ls ms (uses_at s S e at) r) where
       pub walk_next : r ≡ Fine → Walking s S ks ms e end (at + 1)
-      walk_next q = record { one = w.one; stop = w.stop; passed = passed-next s S ks ls _ _ w.passed ms _ _ r turn j q }
+      walk_next q = record { one = w.one; stop = w.stop; passed = passed_next s S ks ls _ _ w.passed ms _ _ r turn j q }
 
       pub walk_refused : (why : Refusal) → r ≡ Refused why → Judged s S ks ms (entry_uses s e) (Refused why)
-      walk_refused why q = passed-refused s S ks ls _ _ w.passed ms _ _ r turn j why q
+      walk_refused why q = passed_refused s S ks ls _ _ w.passed ms _ _ r turn j why q
 
 -- ------------------------------------------------------------ items
 
@@ -216,13 +216,13 @@ module _ (s S : List ℕ) (i k : ℕ) (ek : k ≡ kind_at S i) where
   entry-judged ks ls r q j = rw (item_uses, ← ek, eq-eqb k kinds.entry q) j
 
 -- the uses of an item and those of the items behind it
-item-next : {s S : List ℕ} (m : Model) → m ≡ model_in s → Loaded s S → {i : ℕ} → Here S grammar.Item i → (ts : List Node) → uses m (entries_of (node_at s i ∷ ts)) ≡ item_uses s S i ++ uses m (entries_of ts)
+item_next : {s S : List ℕ} (m : Model) → m ≡ model_in s → Loaded s S → {i : ℕ} → Here S grammar.Item i → (ts : List Node) → uses m (entries_of (node_at s i ∷ ts)) ≡ item_uses s S i ++ uses m (entries_of ts)
 unfolding item_uses uses entry_uses names_at
-item-next {s} {S} m em d {i} h ts = by_cases (eqb (kind_at S i) kinds.entry) refl
+item_next {s} {S} m em d {i} h ts = by_cases (eqb (kind_at S i) kinds.entry) refl
   where
     by_cases : (t : Bool) → eqb (kind_at S i) kinds.entry ≡ t → uses m (entries_of (node_at s i ∷ ts)) ≡ item_uses s S i ++ uses m (entries_of ts)
     by_cases true q = ap (uses m) (entries_next d h ts (eqb-true (kind_at S i) kinds.entry q)) ∙ rw (item_uses, q, ← em) refl
-    by_cases false q = ap (uses m) (entries-other d h ts (eqb-false (kind_at S i) kinds.entry q)) ∙ rw (item_uses, q) refl
+    by_cases false q = ap (uses m) (entries_other d h ts (eqb-false (kind_at S i) kinds.entry q)) ∙ rw (item_uses, q) refl
 
 -- no use is seen
 no_marks : {s S : List ℕ} → FewLines s S → KeyMarks s S [] (replicate most_lines 0)
@@ -247,8 +247,8 @@ all_items : {s S : List ℕ} (ls : List ℕ) (r : Done) → FewLines s S → Jud
 unfolding check_key_kinds
 all_items {s} {S} ls r f j = all_judged s S (replicate most_lines 0) ls _ r (no_marks f) j
 
-pub items-start : (s S : List ℕ) (left : ℕ) → FewLines s S → left ≡ item_count S 0 → Items s S (replicate most_lines 0) left 1
-items-start s S left f e =
+pub items_start : (s S : List ℕ) (left : ℕ) → FewLines s S → left ≡ item_count S 0 → Items s S (replicate most_lines 0) left 1
+items_start s S left f e =
     let q = items_at f.loaded in
     rw e
     (record {
@@ -265,21 +265,21 @@ module _ (s S ls : List ℕ) (left at : ℕ) (w : Items s S ls left at) where
     here : Here S grammar.Item at
     here = row_here w.walk h
 
-    pub item-here : ItemAt s S at
-    item-here = record { loaded = w.lines.loaded; here = here }
+    pub item_here : ItemAt s S at
+    item_here = record { loaded = w.lines.loaded; here = here }
 
     item_turn : (ts : List Node) → uses (model_in s) (entries_of (node_at s at ∷ ts)) ≡ item_uses s S at ++ uses (model_in s) (entries_of ts)
-    item_turn = item-next (model_in s) refl w.lines.loaded here
+    item_turn = item_next (model_in s) refl w.lines.loaded here
 
     module _ (ms : List ℕ) (r : Done) (j : Judged s S ls ms (item_uses s S at) r) where
-      pub items-next : (at' : ℕ) → r ≡ Fine → at' ≡ end_at S at → Items s S ms (left - 1) at'
-      items-next at' q a =
+      pub items_next : (at' : ℕ) → r ≡ Fine → at' ≡ end_at S at → Items s S ms (left - 1) at'
+      items_next at' q a =
           record {
             lines = w.lines;
-            walk = row_onward records w.walk h at' a (λ ts z. passed-next s S _ ls _ _ z ms _ _ r (item_turn ts) j q);
+            walk = row_onward records w.walk h at' a (λ ts z. passed_next s S _ ls _ _ z ms _ _ r (item_turn ts) j q);
           }
 
       pub items_refused : (why : Refusal) → r ≡ Refused why → Answers (check_key_kinds (model_in s)) (done_of s (Refused why))
       items_refused why q =
-          row-found records w.walk h
-          (λ ts z. all_items ms (Refused why) w.lines (passed-refused s S _ ls _ _ z ms _ _ r (item_turn ts) j why q))
+          row_found records w.walk h
+          (λ ts z. all_items ms (Refused why) w.lines (passed_refused s S _ ls _ _ z ms _ _ r (item_turn ts) j why q))

@@ -27,7 +27,7 @@ use Rattle.lookups.specs.Lines.{EntryAt, ExprAt}
 use Rattle.lookups.specs.declared.model.Found.{Found}
 use Rattle.lookups.specs.declared.model.Found.TheVariants.{At, Nothing}
 use Rattle.lookups.proofs.Tables.{one_place}
-use Rattle.lookups.proofs.Types.{type-name}
+use Rattle.lookups.proofs.Types.{type_name_lem}
 use Rattle.key_kinds.specs.Uses.{keyed_at, names_at, MapNamed}
 use Rattle.grammar.specs.Kinds as kinds
 
@@ -57,10 +57,10 @@ module _ (s S : List ℕ) (i k : ℕ) (ek : k ≡ kind_at S i) where
         by_cases false true z t = absurd (let w : ◌≡◌ {A = ℕ} 0 1 = cc in omega arith)
         by_cases false false z t = refl
 
-    pub is-keyed : (eqb m 0 || not (eqb k1 kinds.dot && eqb k2 kinds.id)) ≡ false → (p : ℕ) (x : Name) → x ≡ name_at s S (i + 1)
+    pub is_keyed_lem : (eqb m 0 || not (eqb k1 kinds.dot && eqb k2 kinds.id)) ≡ false → (p : ℕ) (x : Name) → x ≡ name_at s S (i + 1)
         → p ≡ index_in x (split (bytes "set get contains insert remove credit debit ")) → ltb p 7 ≡ keyed_at s S i
     unfolding shape split ended
-    is-keyed h p x ex ep =
+    is_keyed_lem h p x ex ep =
         sym
         (by_shape
         ∙ by_cases (eqb m 0) (eqb k1 kinds.dot && eqb k2 kinds.id) h _
@@ -91,7 +91,7 @@ module _ (s S : List ℕ) (x : Name) (d : Loaded s S) (r : Found) (n : FieldName
       unfolding is_keyed found_field split ended
       keyed =
           let g = field_at_lem d at.kind.0 at.kind.1 in
-          let q : type_name (field_at s f).ty ≡ y = rw g.0 (sym (ey ∙ ap (name_at s S) (add-one f) ∙ type-name s S (suc f) (record { loaded = d; here = g.1 }))) in
+          let q : type_name (field_at s f).ty ≡ y = rw g.0 (sym (ey ∙ ap (name_at s S) (add-one f) ∙ type_name_lem s S (suc f) (record { loaded = d; here = g.1 }))) in
           rw (is_keyed, ← at.found, q, ep) (one_place y ("Map" ∷ "Registry" ∷ []))
 
       pub is-map : p < 2 → MapNamed s S x (At f)
@@ -150,7 +150,7 @@ module _ (s S : List ℕ) (e key : ℕ) (x : Name) (at left : ℕ) (l : Looking 
     told : b ≡ name_of x (param_at s at)
     told =
         let p = param_at_lem l.loaded here.within (omega (arith, here.kind.0, here.kind.1)) in
-        eb ∙ rw (p.0, ← type-name s S (suc at) (record { loaded = l.loaded; here = p.1 })) refl
+        eb ∙ rw (p.0, ← type_name_lem s S (suc at) (record { loaded = l.loaded; here = p.1 })) refl
 
     pub look_found : b ≡ true → true ≡ is_name_key (names_at s e) (expr_at s key)
     look_found q = seek_found grammar.Param params_at s S _ _ left at l param_at params h b told q

@@ -55,8 +55,8 @@ cells false false k e = e
 
 module _ {s S : List ℕ} (d : Loaded s S) (u : Use) (f : ℕ) (n : FieldNamed s S u.map (At f)) where
   -- two names are the same where their fields are
-  same-field : (x : Name) (g : ℕ) → FieldNamed s S x (At g) → same x u.map ≡ eqb g f
-  same-field x g m = by_cases (eqb g f) refl (same x u.map) refl
+  same_field : (x : Name) (g : ℕ) → FieldNamed s S x (At g) → same x u.map ≡ eqb g f
+  same_field x g m = by_cases (eqb g f) refl (same x u.map) refl
     where
       by_cases : (t : Bool) → eqb g f ≡ t → (v : Bool) → same x u.map ≡ v → v ≡ t
       by_cases true p v q =
@@ -73,7 +73,7 @@ module _ {s S : List ℕ} (d : Loaded s S) (u : Use) (f : ℕ) (n : FieldNamed s
   put_use seen ks h k e =
       record {
         size = length-set ks f _ ∙ k.size;
-        tells = λ v g m. rw (same-field v.map g m, k.tells v g m) (by_cases v g (eqb g f) refl);
+        tells = λ v g m. rw (same_field v.map g m, k.tells v g m) (by_cases v g (eqb g f) refl);
       }
     where
       by_cases : (v : Use) (g : ℕ) (t : Bool) → eqb g f ≡ t
@@ -136,8 +136,8 @@ module _ (s S : List ℕ) where
         record { fine = λ q. rw e at p; stops = λ why q. absurd (let z : ◌≡◌ {A = ℕ} 0 1 = cc in omega arith) }
 
     module _ (ms : List ℕ) (here rest : List Use) (r : Done) (e : left ≡ here ++ rest) (j : Judged s S ls ms here r) where
-      pub passed-next : r ≡ Fine → Passed s S ks ms all rest
-      passed-next q =
+      pub passed_next : r ≡ Fine → Passed s S ks ms all rest
+      passed_next q =
           record {
             passed = λ seen k.
                 let a = p.passed seen k in
@@ -145,8 +145,8 @@ module _ (s S : List ℕ) where
                 (b.0, b.1, λ us x y. a.2 us x (rw (e, append_assoc here rest us) (b.2 (rest ++ us) x y)));
           }
 
-      pub passed-refused : (why : Refusal) → r ≡ Refused why → Judged s S ks ms all (Refused why)
-      passed-refused why q =
+      pub passed_refused : (why : Refusal) → r ≡ Refused why → Judged s S ks ms all (Refused why)
+      passed_refused why q =
           record {
             fine = λ z. absurd (let w : ◌≡◌ {A = ℕ} 0 1 = cc in omega arith);
             stops = λ why' z seen us k.

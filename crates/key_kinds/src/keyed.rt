@@ -56,7 +56,7 @@ fn is_name_param(sheet: &[u8], lines: &[u16], x: &[u8], param: usize) -> bool
 // Whether the key is a bare name of any Q_Name parameter of the entry.
 pub fn is_name_key(sheet: &[u8], lines: &[u16], entry: usize, key: usize) -> bool
     requires entry_at { EntryAt sheet.now lines.now entry }
-    requires expr_at { ExprAt sheet.now lines.now key }
+    requires key_at { ExprAt sheet.now lines.now key }
     ensures { result ≡ is_name_key (names_at sheet.now entry) (expr_at sheet.now key) }
 {
     if kind(lines, key) != kinds::ID {

@@ -13,7 +13,7 @@ use Rattle.sheet.specs.Scratch.{kind_at, end_at, line_count}
 use Rattle.rules.specs.Ast.{nodes, param_of, field_of}
 use Rattle.rules.specs.Standing.{node_at, nodes_at, type_at, field_at, param_at, Loaded}
 use Rattle.rules.proofs.Parts.{stop, ◌also◌, pick, parts}
-use Rattle.rules.proofs.Standing.{Stands, stands, nodes-next, parts_behind, row_behind, row_first}
+use Rattle.rules.proofs.Standing.{Stands, stands, nodes_next, parts_behind, row_behind, row_first}
 use Rattle.lookups.specs.Found.{FoundKind}
 use Rattle.lookups.specs.Lines.{TypeAt}
 use Rattle.lookups.specs.declared.model.Found.{Found}
@@ -26,12 +26,12 @@ pub record TypeBehind (s S : List ℕ) (i : ℕ) : Type 0 where
   pub param : (param_at s i).ty ≡ type_at s (suc i)
   pub field : (field_at s i).ty ≡ type_at s (suc i)
 
-first-type : {s S : List ℕ} {i : ℕ} (d : Loaded s S) (rs : List grammar.Sort) (t : Stands s S i) → sorts t.line.parts ≡ copies 1 grammar.Ty ++ rs → TypeBehind s S i
+first_type : {s S : List ℕ} {i : ℕ} (d : Loaded s S) (rs : List grammar.Sort) (t : Stands s S i) → sorts t.line.parts ≡ copies 1 grammar.Ty ++ rs → TypeBehind s S i
 unfolding copies param_at field_at param_of field_of type_at nodes_at
-first-type {s} {S} {i} d rs t e =
+first_type {s} {S} {i} d rs t e =
     let here = row_first (row_behind 1 rs t e) in
     let ps : nodes t.parts ≡ node_at s (suc i) ∷ nodes_at s (length rs) (end_at S (suc i)) =
-    ap nodes (parts_behind t ∙ rw e refl) ∙ nodes-next d (length rs) (suc i) here.within in
+    ap nodes (parts_behind t ∙ rw e refl) ∙ nodes_next d (length rs) (suc i) here.within in
     record { typed = record { loaded = d; here = here }; param = rw (t.here, ps) refl; field = rw (t.here, ps) refl }
 
 type_behind : (s S : List ℕ) (i k : ℕ) → Loaded s S → i < line_count S → kind_at S i ≡ k → kinds.field ≤ k → k < kinds.type → TypeBehind s S i
@@ -39,8 +39,8 @@ unfolding sorts copies
 type_behind s S i k d h e a b =
     let t = stands d i h in
     pick {P = λ k. t.line.kind ≡ k → TypeBehind s S i} {i = kinds.field} {n = 2} k
-    ((λ q. let g = parts t.line kinds.field t.parted q in first-type d (copies g.0 grammar.Expr ++ []) t (rw g.1 refl))
-    also (λ q. let g = parts t.line kinds.param t.parted q in first-type d [] t (rw g refl))
+    ((λ q. let g = parts t.line kinds.field t.parted q in first_type d (copies g.0 grammar.Expr ++ []) t (rw g.1 refl))
+    also (λ q. let g = parts t.line kinds.param t.parted q in first_type d [] t (rw g refl))
     also stop)
     a b (sym t.says.kind ∙ e)
 
@@ -49,8 +49,8 @@ module _ (k : ℕ) (s S : List ℕ) (d : Loaded s S) (r : Found) (i : ℕ) (e : 
   pub behind : TypeBehind s S i
   behind = let q : FoundKind S k (At i) = rw e at o in type_behind s S i k d q.0 q.1 a b
 
-  pub found-typed : TypeAt s S (i + 1)
-  found-typed = rw (add-one i) behind.typed
+  pub found_typed : TypeAt s S (i + 1)
+  found_typed = rw (add-one i) behind.typed
 
-  pub found-next : length S < 18446744073709551616 → Fits w64 (i + 1)
-  found-next h = record { fits = omega (arith, behind.typed.here.within) }
+  pub found_next : length S < 18446744073709551616 → Fits w64 (i + 1)
+  found_next h = record { fits = omega (arith, behind.typed.here.within) }

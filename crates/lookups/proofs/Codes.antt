@@ -11,13 +11,13 @@ use Rattle.rules.specs.Asking.{Ty, Int, Boolean, Address, Asset, Word64, TName, 
 use Rattle.rules.specs.Kept.{types, ty_of_mark, IsCode, ty_from}
 use Rattle.rules.specs.Types.{compatible, eq_ty, one_word}
 use Rattle.rules.proofs.AnyTable.{tells}
-use Rattle.rules.proofs.Keeps.{code-tells}
+use Rattle.rules.proofs.Keeps.{code_tells}
 use Rattle.lookups.proofs.Types.{beyond}
 use Rattle.rules.specs.Codes as codes
 
-pub code_of : (c : ℕ) → IsCode c → (ty_of_mark c ≡ some (ty_from c)) × (code (ty_from c) ≡ c)
+pub code_of_lem : (c : ℕ) → IsCode c → (ty_of_mark c ≡ some (ty_from c)) × (code (ty_from c) ≡ c)
 unfolding ty_from
-code_of c h = let t = tells c h.0 h.1 in rw (ty_from, t.1) (refl, t.2)
+code_of_lem c h = let t = tells c h.0 h.1 in rw (ty_from, t.1) (refl, t.2)
 
 pub code_is : (t : Ty) → IsCode (code t)
 unfolding code
@@ -33,13 +33,13 @@ code_is Collection = (omega arith, omega arith)
 code_is Unknown = (omega arith, omega arith)
 
 -- the type of a code that is a type's
-pub from-code : (c : ℕ) (t : Ty) → c ≡ code t → ty_from c ≡ t
+pub from_code : (c : ℕ) (t : Ty) → c ≡ code t → ty_from c ≡ t
 unfolding ty_from
-from-code c t e = rw (ty_from, e, code-tells t) refl
+from_code c t e = rw (ty_from, e, code_tells t) refl
 
 -- `is_type` of a mark
-pub code-from : (c : ℕ) → (leb codes.int c && leb c codes.unknown) ≡ true → IsCode c
-code-from c e = let q = (and-eq-true_iff (leb codes.int c) (leb c codes.unknown)).0 e in (leb-true codes.int c q.0, leb-true c codes.unknown q.1)
+pub code_from : (c : ℕ) → (leb codes.int c && leb c codes.unknown) ≡ true → IsCode c
+code_from c e = let q = (and-eq-true_iff (leb codes.int c) (leb c codes.unknown)).0 e in (leb-true codes.int c q.0, leb-true c codes.unknown q.1)
 
 pub untold : (c : ℕ) → (leb codes.int c && leb c codes.unknown) ≡ false → ty_of_mark c ≡ none
 unfolding ty_of_mark
@@ -52,7 +52,7 @@ untold (suc n) e =
 -- What `type_code` meets.
 module _ (c : ℕ) (b : Bool) (e : b ≡ (leb codes.int c && leb c codes.unknown)) where
   pub code-kept : b ≡ true → c ≡ code (ty_from c)
-  code-kept q = sym (code_of c (code-from c (sym e ∙ q))).1
+  code-kept q = sym (code_of_lem c (code_from c (sym e ∙ q))).1
 
   pub code_lost : b ≡ false → codes.unknown ≡ code (ty_from c)
   unfolding ty_from code
@@ -63,7 +63,7 @@ pub same_code : (c k : ℕ) → codes.int ≤ k → k < codes.unknown → eqb (c
 same_code c k h g = by_cases (leb codes.int c && leb c codes.unknown) refl
   where
     by_cases : (b : Bool) → (leb codes.int c && leb c codes.unknown) ≡ b → eqb (code (ty_from c)) k ≡ eqb c k
-    by_cases true e = rw (code_of c (code-from c e)).1 refl
+    by_cases true e = rw (code_of_lem c (code_from c e)).1 refl
     by_cases false e =
         let n : c ≢ k = λ q. true≢false (sym (rw (le-leb codes.int c (omega arith), le-leb c codes.unknown (omega arith)) refl) ∙ e) in
         rw (← code_lost c false (sym e) refl, ne_eqb c k n, ne_eqb codes.unknown k (λ q. omega arith)) refl

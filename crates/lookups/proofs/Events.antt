@@ -16,7 +16,7 @@ use Rattle.rules.specs.Ast.{Event, item_of, event_of}
 use Rattle.rules.specs.Model.{item_model, joined, build, event_named}
 use Rattle.rules.specs.Standing.{node_name, node_at, nodes_at, event_at, model_in, Loaded, Here}
 use Rattle.rules.proofs.Parts.{stop, ◌also◌, pick}
-use Rattle.rules.proofs.Rows.{records, RowWalk, row_over, row_here, row-found, row_onward}
+use Rattle.rules.proofs.Rows.{records, RowWalk, row_over, row_here, row_found, row_onward}
 use Rattle.rules.proofs.Standing.{stands}
 use Rattle.lookups.specs.Found.{node_kind, of_kind, found_node}
 use Rattle.lookups.specs.declared.model.Found.TheVariants.{At, Nothing}
@@ -29,30 +29,30 @@ use Rattle.grammar.specs.Kinds as kinds
 abbrev event_name : Event → Name
 event_name e = e.name
 
-item-events : (t : Node) → kinds.state ≤ node_kind t → node_kind t < kinds.field → (item_model (item_of t)).events ≡ cond (eqb (node_kind t) kinds.event) (event_of t ∷ []) []
+item_events : (t : Node) → kinds.state ≤ node_kind t → node_kind t < kinds.field → (item_model (item_of t)).events ≡ cond (eqb (node_kind t) kinds.event) (event_of t ∷ []) []
 unfolding node_kind item_model item_of event_of
-item-events (node i l ps) a b =
+item_events (node i l ps) a b =
     pick {P = λ k. l.kind ≡ k → (item_model (item_of (node i l ps))).events ≡ cond (eqb l.kind kinds.event) (event_of (node i l ps) ∷ []) []} {i = kinds.state} {n = 5} l.kind
     ((λ e. rw e refl) also (λ e. rw e refl) also (λ e. rw e refl) also (λ e. rw e refl) also (λ e. rw e refl) also stop)
     a b refl
 
 -- an event, or none, before others
-first-event : (x : Name) (es : List Event) (t : Node) (b : Bool)
+first_event : (x : Name) (es : List Event) (t : Node) (b : Bool)
     → first_named event_name x (cond b (event_of t ∷ []) [] ++ es) ≡ cond (b && same x (node_name t)) (some (event_of t)) (first_named event_name x es)
 unfolding first_named event_of node_name
-first-event x es (node i l ps) true = by_cases (same x l.name) refl
+first_event x es (node i l ps) true = by_cases (same x l.name) refl
   where
     by_cases : (c : Bool) → same x l.name ≡ c
         → first_named event_name x (event_of (node i l ps) ∷ es) ≡ cond c (some (event_of (node i l ps))) (first_named event_name x es)
     by_cases true e = rw (first_named, e) refl
     by_cases false e = rw (first_named, e) refl
-first-event x es t false = refl
+first_event x es t false = refl
 
 -- the same of records
-first-node : (x : Name) (ts : List Node) (t : Node)
+first_node : (x : Name) (ts : List Node) (t : Node)
     → first_named node_name x (of_kind kinds.event (t ∷ ts)) ≡ cond (eqb (node_kind t) kinds.event && same x (node_name t)) (some t) (first_named node_name x (of_kind kinds.event ts))
 unfolding first_named of_kind
-first-node x ts t = by_cases (eqb (node_kind t) kinds.event) (same x (node_name t)) refl refl
+first_node x ts t = by_cases (eqb (node_kind t) kinds.event) (same x (node_name t)) refl refl
   where
     by_cases : (b c : Bool) → eqb (node_kind t) kinds.event ≡ b → same x (node_name t) ≡ c
         → first_named node_name x (of_kind kinds.event (t ∷ ts)) ≡ cond (b && c) (some t) (first_named node_name x (of_kind kinds.event ts))
@@ -68,9 +68,9 @@ EventsGoing s S x left at =
     × (first_named node_name x (of_kind kinds.event (nodes_at s (item_count S 0) 1)) ≡ first_named node_name x (of_kind kinds.event ts)))
     s S left at
 
-pub events-start : (s S : List ℕ) (x : Name) (m : ℕ) → Loaded s S → m ≡ item_count S 0 → EventsGoing s S x m 1
+pub events_start : (s S : List ℕ) (x : Name) (m : ℕ) → Loaded s S → m ≡ item_count S 0 → EventsGoing s S x m 1
 unfolding event_named
-events-start s S x m d e = let q = items_at d in rw e (record { loaded = d; row = q.1; known = (rw q.0 refl, refl) })
+events_start s S x m d e = let q = items_at d in rw e (record { loaded = d; row = q.1; known = (rw q.0 refl, refl) })
 
 module _ (s S : List ℕ) (x : Name) (left at : ℕ) (g : EventsGoing s S x left at) where
   pub events_over : left ≤ 0 → EventNamed s S x Nothing
@@ -91,22 +91,22 @@ module _ (s S : List ℕ) (x : Name) (left at : ℕ) (g : EventsGoing s S x left
     unfolding build joined event_at
     told ts =
         let first : (item_model (item_of (node_at s at))).events ≡ cond (eqb (node_kind (node_at s at)) kinds.event) (event_of (node_at s at) ∷ []) [] =
-        item-events (node_at s at) (omega (arith, here.0, item.kind.0)) (omega (arith, here.0, item.kind.1)) in
-        rw (first, first-event x (build (map item_of ts)).events (node_at s at) (eqb (node_kind (node_at s at)) kinds.event), here.0, here.1, q) refl
+        item_events (node_at s at) (omega (arith, here.0, item.kind.0)) (omega (arith, here.0, item.kind.1)) in
+        rw (first, first_event x (build (map item_of ts)).events (node_at s at) (eqb (node_kind (node_at s at)) kinds.event), here.0, here.1, q) refl
 
-    told-node : (ts : List Node) → first_named node_name x (of_kind kinds.event (node_at s at ∷ ts)) ≡ cond b (some (node_at s at)) (first_named node_name x (of_kind kinds.event ts))
-    told-node ts = rw (first-node x ts (node_at s at), here.0, here.1, q) refl
+    told_node : (ts : List Node) → first_named node_name x (of_kind kinds.event (node_at s at ∷ ts)) ≡ cond b (some (node_at s at)) (first_named node_name x (of_kind kinds.event ts))
+    told_node ts = rw (first_node x ts (node_at s at), here.0, here.1, q) refl
 
     pub events_hit : b ≡ true → EventNamed s S x (At at)
     unfolding found_event found_node
     events_hit e =
-        row-found records g h
+        row_found records g h
         (λ ts k.
         record {
           found = sym (k.0 ∙ told ts ∙ rw e refl);
-          node = sym (k.1 ∙ told-node ts ∙ rw e refl);
+          node = sym (k.1 ∙ told_node ts ∙ rw e refl);
           kind = (item.within, eqb-true (kind_at S at) kinds.event ((and-eq-true_iff (eqb (kind_at S at) kinds.event) (same x (name_at s S at))).0 (sym q ∙ e)).0);
         })
 
     pub events_turn : (at' : ℕ) → b ≡ false → at' ≡ end_at S at → EventsGoing s S x (left - 1) at'
-    events_turn at' e y = row_onward records g h at' y (λ ts k. (k.0 ∙ told ts ∙ rw e refl, k.1 ∙ told-node ts ∙ rw e refl))
+    events_turn at' e y = row_onward records g h at' y (λ ts k. (k.0 ∙ told ts ∙ rw e refl, k.1 ∙ told_node ts ∙ rw e refl))

@@ -25,7 +25,7 @@ use Rattle.rules.proofs.Parts.{stop as end, ◌also◌, pick, parts}
 use Rattle.rules.proofs.Lookups.{or_none, last_append}
 use Rattle.rules.proofs.Records.{group}
 use Rattle.rules.proofs.Rows.{records, RowWalk, row_over, row_here, row_onward}
-use Rattle.rules.proofs.Standing.{Stands, stands, nodes-next}
+use Rattle.rules.proofs.Standing.{Stands, stands, nodes_next}
 use Rattle.lookups.specs.Found.{node_kind, of_kind, found_node, found_field, item_fields, all_fields, model_at, Stretch, FoundKind, Last, ItemAt, Newest, FieldsNamed, FieldNamed}
 use Rattle.lookups.specs.Lines.{RecordsAt}
 use Rattle.lookups.specs.declared.model.Found.{Found}
@@ -49,30 +49,30 @@ last_map {A} {B} g f h x e (a ∷ as') = by_cases (last_named h x as') (same x (
 
 -- ------------------------------------------------------------ the fields of a model
 
-item-fields : (t : Node) → kinds.state ≤ node_kind t → node_kind t < kinds.field → (item_model (item_of t)).fields ≡ map field_of (item_fields t)
+item_fields_lem : (t : Node) → kinds.state ≤ node_kind t → node_kind t < kinds.field → (item_model (item_of t)).fields ≡ map field_of (item_fields t)
 unfolding node_kind item_model item_of item_fields
-item-fields (node i l ps) a b =
+item_fields_lem (node i l ps) a b =
     pick {P = λ k. l.kind ≡ k → (item_model (item_of (node i l ps))).fields ≡ map field_of (item_fields (node i l ps))} {i = kinds.state} {n = 5} l.kind
     ((λ e. rw e refl) also (λ e. rw e refl) also (λ e. rw e refl) also (λ e. rw e refl) also (λ e. rw e refl) also end)
     a b refl
 
 -- ... which the item at a line declares
-pub item-here : {s S : List ℕ} {i : ℕ} → Loaded s S → Here S grammar.Item i → (item_model (item_of (node_at s i))).fields ≡ map field_of (item_fields (node_at s i))
+pub item_here : {s S : List ℕ} {i : ℕ} → Loaded s S → Here S grammar.Item i → (item_model (item_of (node_at s i))).fields ≡ map field_of (item_fields (node_at s i))
 unfolding node_kind
-item-here {s} {S} {i} d h =
+item_here {s} {S} {i} d h =
     let t = stands d i h.within in
     let k : node_kind (node_at s i) ≡ kind_at S i = rw t.here (sym t.says.kind) in
-    item-fields (node_at s i) (omega (arith, k, h.kind.0)) (omega (arith, k, h.kind.1))
+    item_fields_lem (node_at s i) (omega (arith, k, h.kind.0)) (omega (arith, k, h.kind.1))
 
-row-fields : {s S : List ℕ} {m i : ℕ} → Loaded s S → Row S grammar.Item m i → (build (map item_of (nodes_at s m i))).fields ≡ map field_of (all_fields (nodes_at s m i))
+row_fields : {s S : List ℕ} {m i : ℕ} → Loaded s S → Row S grammar.Item m i → (build (map item_of (nodes_at s m i))).fields ≡ map field_of (all_fields (nodes_at s m i))
 unfolding nodes_at take_nodes nodes build joined
-row-fields d stop = refl
-row-fields {s} {S} {m = suc m} {i} d (next h r) =
+row_fields d stop = refl
+row_fields {s} {S} {m = suc m} {i} d (next h r) =
     rw (
-      nodes-next d m i h.within,
+      nodes_next d m i h.within,
       map-append field_of (item_fields (node_at s i)) (all_fields (nodes_at s m (end_at S i))),
-      ← item-here d h,
-      ← row-fields d r,
+      ← item_here d h,
+      ← row_fields d r,
     )
     refl
 
@@ -101,7 +101,7 @@ all_kind k e d stop = refl
 all_kind {s} {S} {m = suc m} {i} k e d (next h r) =
     let t = stands d i h.within in
     let q : eqb (node_kind (node_at s i)) k ≡ true = rw (t.here, ← t.says.kind, e i h) (eq-eqb k k refl) in
-    rw (nodes-next d m i h.within, of_kind, q) (ap (λ ts. node_at s i ∷ ts) (all_kind k e d r))
+    rw (nodes_next d m i h.within, of_kind, q) (ap (λ ts. node_at s i ∷ ts) (all_kind k e d r))
 
 no_fields : (t : Node) → node_kind t ≢ kinds.state → item_fields t ≡ []
 unfolding item_fields node_kind
@@ -115,20 +115,20 @@ module _ (s S : List ℕ) (i : ℕ) (h : ItemAt s S i) (k : ℕ) (e : k ≡ kind
   abbrev t : Stands s S i
   t = stands h.loaded i h.here.within
 
-  kind-is : t.line.kind ≡ k
-  kind-is = sym (e ∙ t.says.kind)
+  kind_is : t.line.kind ≡ k
+  kind_is = sym (e ∙ t.says.kind)
 
   pub not_state : k ≢ kinds.state → item_fields (node_at s i) ≡ []
   unfolding node_kind
-  not_state q = no_fields (node_at s i) (rw (t.here, kind-is) q)
+  not_state q = no_fields (node_at s i) (rw (t.here, kind_is) q)
 
   pub of_state : (m j : ℕ) → k ≡ kinds.state → m ≡ field_count S i → j ≡ i + 1 → (item_fields (node_at s i) ≡ nodes_at s m j) × Row S grammar.Field m j
   of_state m j q c y =
-      let p = parts t.line kinds.state t.parted (kind-is ∙ q) in
+      let p = parts t.line kinds.state t.parted (kind_is ∙ q) in
       let o = group h.loaded h.here.within grammar.Field p.0 p.1 in
       let z : j ≡ suc i = omega arith in
       let b : m ≡ p.0 = c ∙ o.3 in
-      rw (z, b) (its_fields t (kind-is ∙ q) ∙ o.0, o.2)
+      rw (z, b) (its_fields t (kind_is ∙ q) ∙ o.0, o.2)
 
 module _ (s S : List ℕ) (x : Name) (i : ℕ) (f : Found) (h : ItemAt s S i) (k : ℕ) (e : k ≡ kind_at S i) where
   pub other : k ≢ kinds.state → Newest s S x i f f
@@ -175,13 +175,13 @@ pub record FieldsGoing (s S : List ℕ) (x : Name) (m i left at : ℕ) (f : Foun
   pub walk : RowWalk grammar.Item nodes_at (λ ts. last_named node_name x (all_fields (nodes_at s m i)) ≡ or_else (last_named node_name x (all_fields ts)) (found_node s f)) s S left at
   pub kind : FoundKind S kinds.field f
 
-pub fields-start : (s S : List ℕ) (x : Name) (m i : ℕ) → RecordsAt grammar.Item s S m i → FieldsGoing s S x m i m i Nothing
+pub fields_start : (s S : List ℕ) (x : Name) (m i : ℕ) → RecordsAt grammar.Item s S m i → FieldsGoing s S x m i m i Nothing
 unfolding found_node
-fields-start s S x m i h = record { items = h; walk = record { loaded = h.loaded; row = h.row; known = sym (or_none _) }; kind = tt }
+fields_start s S x m i h = record { items = h; walk = record { loaded = h.loaded; row = h.row; known = sym (or_none _) }; kind = tt }
 
 module _ (s S : List ℕ) (x : Name) (m i left at : ℕ) (f : Found) (g : FieldsGoing s S x m i left at f) where
-  pub fields-item : 0 < left → ItemAt s S at
-  fields-item h = record { loaded = g.items.loaded; here = row_here g.walk h }
+  pub fields_item : 0 < left → ItemAt s S at
+  fields_item h = record { loaded = g.items.loaded; here = row_here g.walk h }
 
   pub fields_turn : (at' : ℕ) (f' : Found) → 0 < left → Newest s S x at f f' → at' ≡ end_at S at → FieldsGoing s S x m i (left - 1) at' f'
   fields_turn at' f' h e q =
@@ -195,7 +195,7 @@ module _ (s S : List ℕ) (x : Name) (m i left at : ℕ) (f : Found) (g : Fields
 
   -- an item that is no state
   pub fields-skip : (at' k : ℕ) → 0 < left → k ≡ kind_at S at → k ≢ kinds.state → at' ≡ end_at S at → FieldsGoing s S x m i (left - 1) at' f
-  fields-skip at' k h e n q = fields_turn at' f h (other s S x at f (fields-item h) k e n) q
+  fields-skip at' k h e n q = fields_turn at' f h (other s S x at f (fields_item h) k e n) q
 
   pub fields_over : left ≤ 0 → FieldsNamed s S x m i f
   unfolding last_named or_else field_named model_at
@@ -205,7 +205,7 @@ module _ (s S : List ℕ) (x : Name) (m i left at : ℕ) (f : Found) (g : Fields
         found =
             as_field s f
             ∙ ap (Option.map field_of) last
-            ∙ sym (rw (row-fields g.items.loaded g.items.row) (last_map field_of (λ y. y.name) node_name x field-name (all_fields (nodes_at s m i))));
+            ∙ sym (rw (row_fields g.items.loaded g.items.row) (last_map field_of (λ y. y.name) node_name x field-name (all_fields (nodes_at s m i))));
         node = last;
         kind = g.kind;
       }

@@ -19,9 +19,9 @@ use Rattle.grammar.specs.Kinds as kinds
 abbrev pub entries_of : List Node → List Entry
 entries_of ts = (build (map item_of ts)).entries
 
-is-entry : (t : Node) → node_kind t ≡ kinds.entry → (item_model (item_of t)).entries ≡ entry_of t ∷ []
+is_entry : (t : Node) → node_kind t ≡ kinds.entry → (item_model (item_of t)).entries ≡ entry_of t ∷ []
 unfolding node_kind item_model item_of entry_of
-is-entry (node i l ps) e = rw (item_of, e) refl
+is_entry (node i l ps) e = rw (item_of, e) refl
 
 no_entry : (t : Node) → kinds.state ≤ node_kind t → node_kind t < kinds.field → node_kind t ≢ kinds.entry → (item_model (item_of t)).entries ≡ []
 unfolding node_kind item_model item_of
@@ -38,8 +38,8 @@ module _ {s S : List ℕ} (d : Loaded s S) {i : ℕ} (h : Here S grammar.Item i)
   -- an entry is the first of them, any other item is none
   pub entries_next : kind_at S i ≡ kinds.entry → entries_of (node_at s i ∷ ts) ≡ entry_at s i ∷ entries_of ts
   unfolding build joined entry_at
-  entries_next e = rw (is-entry (node_at s i) (kind ∙ e)) refl
+  entries_next e = rw (is_entry (node_at s i) (kind ∙ e)) refl
 
-  pub entries-other : kind_at S i ≢ kinds.entry → entries_of (node_at s i ∷ ts) ≡ entries_of ts
+  pub entries_other : kind_at S i ≢ kinds.entry → entries_of (node_at s i ∷ ts) ≡ entries_of ts
   unfolding build joined
-  entries-other e = rw (no_entry (node_at s i) (omega (arith, kind, h.kind.0)) (omega (arith, kind, h.kind.1)) (λ z. e (sym kind ∙ z))) refl
+  entries_other e = rw (no_entry (node_at s i) (omega (arith, kind, h.kind.0)) (omega (arith, kind, h.kind.1)) (λ z. e (sym kind ∙ z))) refl

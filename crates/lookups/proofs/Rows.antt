@@ -6,14 +6,14 @@ use Prim.Native.Nat.{ℕ, ◌-◌, ◌<◌, ◌≤◌}
 use Rattle.grammar.specs.Grammar as grammar
 use Rattle.sheet.specs.Scratch.{end_at}
 use Rattle.rules.specs.Asking.{Rule, for_each}
-use Rattle.rules.proofs.Rows.{exprs, clauses, stmts, params, Listed, RowWalk, row_over, row_here, row-found, row_onward, seek_found, seek_next, seek_over}
+use Rattle.rules.proofs.Rows.{exprs, clauses, stmts, params, Listed, RowWalk, row_over, row_here, row_found, row_onward, seek_found, seek_next, seek_over}
 use Rattle.refusals.specs.Answers.{Answers}
 use Rattle.lookups.specs.Lines.{RecordAt, RecordsAt}
 use Rattle.refusals.specs.Refusal.{done_of}
 use Rattle.refusals.specs.declared.refusal.Refusal.{Refusal}
 use Rattle.refusals.specs.declared.refusal.Done.{Done}
 use Rattle.refusals.specs.declared.refusal.Done.TheVariants.{Fine, Refused}
-use Rattle.refusals.proofs.Answers.{gives, answers_then, answers-cut}
+use Rattle.refusals.proofs.Answers.{gives, answers_then, answers_cut}
 
 -- the answer for the records that are left is that for the whole
 abbrev pub Turn : {A : Type 0} → grammar.Sort → (List ℕ → ℕ → ℕ → List A) → (A → Rule Unit) → Rule Unit → (s S : List ℕ) → (left at : ℕ) → Type 0
@@ -38,7 +38,7 @@ module _ {A : Type 0} (σ : grammar.Sort) (all : List ℕ → ℕ → ℕ → Li
     module _ (h : 0 < left) (r : Done) (a : Answers (f (one s at)) (done_of s r)) where
       pub turn_refused : (why : Refusal) → r ≡ Refused why → Answers whole (done_of s (Refused why))
       unfolding for_each
-      turn_refused why e = row-found l t h (λ as' k. k (Refused why) (answers-cut s (f (one s at)) (for_each as' f) r a why e))
+      turn_refused why e = row_found l t h (λ as' k. k (Refused why) (answers_cut s (f (one s at)) (for_each as' f) r a why e))
 
       pub turn_next : (j : ℕ) → r ≡ Fine → j ≡ end_at S at → Turn σ all f whole s S (left - 1) j
       unfolding for_each

@@ -22,19 +22,19 @@ abbrev pub values_in : {A : Type 0} → List (String × A) → List A
 values_in [] = []
 values_in (e ∷ es) = e.1 ∷ values_in es
 
-pub place-most : (x : Name) (ws : List (List ℕ)) → index_in x ws ≤ length ws
+pub place_most : (x : Name) (ws : List (List ℕ)) → index_in x ws ≤ length ws
 unfolding index_in
-place-most x [] = omega arith
-place-most x (w ∷ ws) = by_cases (same x w) (place-most x ws)
+place_most x [] = omega arith
+place_most x (w ∷ ws) = by_cases (same x w) (place_most x ws)
   where
     by_cases : (b : Bool) → index_in x ws ≤ length ws → cond b 0 (1 + index_in x ws) ≤ suc (length ws)
     by_cases true h = omega arith
     by_cases false h = omega arith
 
-pub pick-place : {A : Type 0} (x : Name) (es : List (String × A)) (d : A) → pick x es d ≡ get_or (values_in es) (index_in x (words_in es)) d
+pub pick_place : {A : Type 0} (x : Name) (es : List (String × A)) (d : A) → pick x es d ≡ get_or (values_in es) (index_in x (words_in es)) d
 unfolding pick index_in is
-pick-place x [] d = refl
-pick-place x (e ∷ es) d = by_cases (same x (bytes e.0)) (pick-place x es d)
+pick_place x [] d = refl
+pick_place x (e ∷ es) d = by_cases (same x (bytes e.0)) (pick_place x es d)
   where
     by_cases : (b : Bool) → pick x es d ≡ get_or (values_in es) (index_in x (words_in es)) d
         → elim b [ true ↦ e.1 | false ↦ pick x es d ] ≡ get_or (values_in (e ∷ es)) (cond b 0 (1 + index_in x (words_in es))) d

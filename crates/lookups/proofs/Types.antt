@@ -25,10 +25,10 @@ use Rattle.rules.proofs.Parts.{stop, ◌also◌, pick, parts}
 use Rattle.rules.proofs.Places.{there_or_not, no_kind_lem, named_at_lem, type-name_at}
 use Rattle.rules.proofs.Records.{no_nodes}
 use Rattle.rules.proofs.Rows.{Listed}
-use Rattle.rules.proofs.Standing.{stands, beyond as no_record, nodes-next, parts_behind, row_behind, row_nth, node_nth, nodes-length}
+use Rattle.rules.proofs.Standing.{stands, beyond as no_record, nodes_next, parts_behind, row_behind, row_nth, node_nth, nodes-length}
 use Rattle.lookups.specs.Named.{named_codes}
 use Rattle.lookups.specs.Lines.{TypeAt}
-use Rattle.lookups.proofs.Tables.{words_in, values_in, place-most, pick-place, one_of}
+use Rattle.lookups.proofs.Tables.{words_in, values_in, place_most, pick_place, one_of}
 use Rattle.grammar.specs.Kinds as kinds
 use Rattle.rules.specs.Codes as codes
 
@@ -47,9 +47,9 @@ others =
 abbrev table : List (String × Ty)
 table = map (λ w. (w, Int)) integers ++ others
 
-name-place : (x : Name) → ty_of_name x ≡ get_or (values_in table) (index_in x (split (bytes names))) Unknown
+name_place : (x : Name) → ty_of_name x ≡ get_or (values_in table) (index_in x (split (bytes names))) Unknown
 unfolding ty_of_name is_integer_type split ended
-name-place x = one_of x integers Int others Unknown ∙ pick-place x table Unknown
+name_place x = one_of x integers Int others Unknown ∙ pick_place x table Unknown
 
 -- the codes of some types, and Unknown's behind them
 code_at : (ts : List Ty) (p : ℕ) → p ≤ length ts → code (get_or ts p Unknown) ≡ get_or (map code ts ++ (codes.unknown ∷ [])) p 0
@@ -59,25 +59,25 @@ code_at [] (suc p) h = absurd (omega arith)
 code_at (t ∷ ts) zero h = refl
 code_at (t ∷ ts) (suc p) h = code_at ts p (omega arith)
 
-pub name-most : (x : Name) (p : ℕ) → p ≡ index_in x (split (bytes names)) → p < 21
+pub name_most : (x : Name) (p : ℕ) → p ≡ index_in x (split (bytes names)) → p < 21
 unfolding split ended
-name-most x p e = omega (arith, place-most x (words_in table))
+name_most x p e = omega (arith, place_most x (words_in table))
 
 pub named : (x : Name) (p r : ℕ) → p ≡ index_in x (split (bytes names)) → r ≡ get_or named_codes p 0 → r ≡ code (ty_of_name x)
 unfolding code
-named x p r e f = f ∙ rw (name-place x, ← e) (sym (code_at (values_in table) p (omega (arith, name-most x p e))))
+named x p r e f = f ∙ rw (name_place x, ← e) (sym (code_at (values_in table) p (omega (arith, name_most x p e))))
 
-pub type-name : (s S : List ℕ) (i : ℕ) → TypeAt s S i → name_at s S i ≡ type_name (type_at s i)
-type-name s S i h = named_at_lem h.loaded i ∙ sym (type-name_at s i)
+pub type_name_lem : (s S : List ℕ) (i : ℕ) → TypeAt s S i → name_at s S i ≡ type_name (type_at s i)
+type_name_lem s S i h = named_at_lem h.loaded i ∙ sym (type-name_at s i)
 
 -- a test of a type's name
 pub named_word : (s S : List ℕ) (i : ℕ) (x : Name) (w : String) (r : Bool) → TypeAt s S i → x ≡ name_at s S i → r ≡ same x (bytes w) → r ≡ is (type_name (type_at s i)) w
 unfolding is
-named_word s S i x w r h e f = f ∙ ap (λ y. same y (bytes w)) (e ∙ type-name s S i h)
+named_word s S i x w r h e f = f ∙ ap (λ y. same y (bytes w)) (e ∙ type_name_lem s S i h)
 
 pub declared : (s S : List ℕ) (i : ℕ) (x : Name) (r : ℕ) → TypeAt s S i → x ≡ name_at s S i → r ≡ code (ty_of_name x) → r ≡ code (ty_of_decl (type_at s i))
 unfolding ty_of_decl
-declared s S i x r h e f = f ∙ ap (λ y. code (ty_of_name y)) (e ∙ type-name s S i h)
+declared s S i x r h e f = f ∙ ap (λ y. code (ty_of_name y)) (e ∙ type_name_lem s S i h)
 
 -- ------------------------------------------------------------ arguments
 
@@ -92,7 +92,7 @@ args_at s k i = map arg_of (nodes_at s k i)
 
 pub arguments : Listed arg_at args_at
 unfolding args_at arg_at
-arguments = record { empty = λ s i. rw (no_nodes s i) refl; first = λ d m {i} w. rw (nodes-next d m i w) refl }
+arguments = record { empty = λ s i. rw (no_nodes s i) refl; first = λ d m {i} w. rw (nodes_next d m i w) refl }
 
 -- the arguments of a type stand behind it
 args_at_lem : (s S : List ℕ) (i : ℕ) → TypeAt s S i → (args (type_at s i) ≡ args_at s (type_arg_count S i) (suc i)) × Row S grammar.Arg (type_arg_count S i) (suc i)
@@ -152,15 +152,15 @@ length-map f (x ∷ xs) = ap suc (length-map f xs)
 
 -- The arguments of the type at line i, m of them.
 module _ (s S : List ℕ) (i m : ℕ) (h : TypeAt s S i) (c : m ≡ type_arg_count S i) where
-  pub args-here : args (type_at s i) ≡ args_at s m (suc i)
-  args-here = rw c (args_at_lem s S i h).0
+  pub args_here : args (type_at s i) ≡ args_at s m (suc i)
+  args_here = rw c (args_at_lem s S i h).0
 
   pub args_row : Row S grammar.Arg m (suc i)
   args_row = rw c (args_at_lem s S i h).1
 
   pub args_count : length (args (type_at s i)) ≡ m
   unfolding args_at
-  args_count = rw args-here (length-map arg_of (nodes_at s m (suc i)) ∙ nodes-length h.loaded args_row)
+  args_count = rw args_here (length-map arg_of (nodes_at s m (suc i)) ∙ nodes-length h.loaded args_row)
 
 -- What `declared_arg` meets: m arguments, of which it wants the one at line j, of kind n.
 module _ (s S : List ℕ) (i k m : ℕ) (h : TypeAt s S i) (c : m ≡ type_arg_count S i) where
@@ -179,7 +179,7 @@ module _ (s S : List ℕ) (i k m : ℕ) (h : TypeAt s S i) (c : m ≡ type_arg_c
     unfolding arg_at args_at
     nth_there =
         let q = nth_map arg_of (nodes_at s m (suc i)) k _ (node_nth k h.loaded e (args_row s S i m h c)) in
-        rw (args-here s S i m h c, q, ← f) (ap some (arg_told s S j n h.loaded g))
+        rw (args_here s S i m h c, q, ← f) (ap some (arg_told s S j n h.loaded g))
 
     arg_there : declared_arg (type_at s i) k ≡ ty_of_arg (arg_of_kind s S j n)
     unfolding declared_arg

@@ -160,7 +160,7 @@ fn arg_line(lines: &[u16], ty: usize, index: usize) -> usize
 
 // The type of a declared type's argument, Unknown where it has no such type.
 pub fn declared_arg(sheet: &[u8], lines: &[u16], ty: usize, index: usize) -> u8
-    requires type_at { TypeAt sheet.now lines.now ty }
+    requires ty_at { TypeAt sheet.now lines.now ty }
     requires index_bound { index < 2 }
     ensures { result ≡ code (declared_arg (type_at sheet.now ty) index) }
 {

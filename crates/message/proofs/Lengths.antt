@@ -13,8 +13,8 @@ use Rattle.sheet.specs.Line.{Line, most_bytes, most_lines}
 use Rattle.sheet.specs.Load.{lines_of}
 use Rattle.sheet.specs.Scratch.{kind_at, end_at, line_count}
 use Rattle.sheet.specs.Tree.{Node, node, Nodes}
-use Rattle.sheet.proofs.Bytes.{bytes_upto, lines-most, Takes, lines-take}
-use Rattle.sheet.proofs.Loaded.{every-line}
+use Rattle.sheet.proofs.Bytes.{bytes_upto, lines_most, Takes, lines_take}
+use Rattle.sheet.proofs.Loaded.{every_line}
 use Rattle.rules.specs.Text.{Piece, lit, raw, dec, digits, render}
 use Rattle.rules.specs.Ast.{Type', type_name, arg_of, args_of, type_of, field_of, param_of, nodes, blank_node, Arg, Args, anil, amore}
 use Rattle.rules.specs.Declarations.{type_text, arg_text, args_text}
@@ -50,21 +50,21 @@ unfolding weights
 weights_append [] qs = omega arith
 weights_append (p ∷ ps) qs = omega (arith, weights_append ps qs)
 
-digits-few : (k n : ℕ) → length (digits k n) ≤ k
+digits_few : (k n : ℕ) → length (digits k n) ≤ k
 unfolding digits
-digits-few zero n = omega arith
-digits-few (suc k) n = by_cases (eqb (n / 10) 0) (digits-few k (n / 10))
+digits_few zero n = omega arith
+digits_few (suc k) n = by_cases (eqb (n / 10) 0) (digits_few k (n / 10))
   where
     by_cases : (t : Bool) → length (digits k (n / 10)) ≤ k → length (elim t as (λ _. List ℕ) [ true ↦ [] | false ↦ digits k (n / 10) ] ++ ((48 + n % 10) ∷ [])) ≤ suc k
     by_cases true h = omega arith
     by_cases false h = rw length-append (omega arith)
 
-render-few : (ps : List Piece) → length (render ps) ≤ weights ps
+render_few : (ps : List Piece) → length (render ps) ≤ weights ps
 unfolding render weights weight
-render-few [] = omega arith
-render-few (lit w ∷ ps) = rw length-append (omega (arith, render-few ps))
-render-few (raw n ∷ ps) = rw length-append (omega (arith, render-few ps))
-render-few (dec n ∷ ps) = rw length-append (omega (arith, render-few ps, digits-few 39 n))
+render_few [] = omega arith
+render_few (lit w ∷ ps) = rw length-append (omega (arith, render_few ps))
+render_few (raw n ∷ ps) = rw length-append (omega (arith, render_few ps))
+render_few (dec n ∷ ps) = rw length-append (omega (arith, render_few ps, digits_few 39 n))
 
 described : (t : Ty) → length (bytes (describe t)) ≤ 11
 unfolding describe
@@ -145,8 +145,8 @@ record Brief (t : Node) : Type 0 where
   param : length (param_of t).name ≤ 64
   field : length (field_of t).name ≤ 64
   type : BriefType (type_of t)
-  param-type : BriefType (param_of t).ty
-  field-type : BriefType (field_of t).ty
+  param_type : BriefType (param_of t).ty
+  field_type : BriefType (field_of t).ty
 
 -- line i, whose parts stand from line j up to line k
 module _ {s S : List ℕ} {n : ℕ} where
@@ -166,20 +166,20 @@ module _ {s S : List ℕ} {n : ℕ} where
   unfolding node_name param_of field_of
   brief i l r ps h a b =
       let first = first_brief r ps h in
-      record { name = a; param = a; field = a; type = type_brief i l r ps h a b; param-type = first; field-type = first }
+      record { name = a; param = a; field = a; type = type_brief i l r ps h a b; param_type = first; field_type = first }
 
 -- A sheet that is loaded, of at most 16,384 bytes and 1,024 lines.
 module _ (s S : List ℕ) (d : Loaded s S) (small : length s ≤ most_bytes) (few : line_count S ≤ most_lines) where
   sized : {i : ℕ} (t : Stands s S i) → Every (Sized s) (node i t.line t.parts)
-  sized t = every_at t (λ xs e. each_sized (lines_named (lines_of s) 1 0 0 _ xs e) (lines-take (lines_of s) 1 0 _ xs e))
+  sized t = every_at t (λ xs e. each_sized (lines_named (lines_of s) 1 0 0 _ xs e) (lines_take (lines_of s) 1 0 _ xs e))
 
   brief_at : (i : ℕ) → Brief (node_at s i)
   brief_at i =
       there_or_not d i
       (λ w.
       let t = stands d i w in
-      let p = every-line (sized t) in
-      rw t.here (brief i _ t.held p.1 (omega (arith, lines-most s (end_at S i), t.ends)) p.0.short (omega (arith, p.0.short, p.0.takes))))
+      let p = every_line (sized t) in
+      rw t.here (brief i _ t.held p.1 (omega (arith, lines_most s (end_at S i), t.ends)) p.0.short (omega (arith, p.0.short, p.0.takes))))
       (λ w. rw (beyond d i w) (brief {s = s} {S = S} {n = 0} 0 _ {j = 0} no_tree no_more (omega arith) (omega arith) (omega arith)))
 
   dot_brief : (i : ℕ) → length (dot_at s i).name ≤ 64
@@ -234,5 +234,5 @@ module _ (s S : List ℕ) (d : Loaded s S) (small : length s ≤ most_bytes) (fe
   bounded (KeyKinds map key) = omega (arith, brief_at map)
 
 -- the message of every refusal, whatever lines it names
-pub message-short : (s S : List ℕ) (r : Refusal) → Loaded s S → length s ≤ most_bytes → line_count S ≤ most_lines → length (render (refusal_of s r).text) ≤ longest
-message-short s S r d b h = omega (arith, render-few (refusal_of s r).text, bounded s S d b h r)
+pub message_short : (s S : List ℕ) (r : Refusal) → Loaded s S → length s ≤ most_bytes → line_count S ≤ most_lines → length (render (refusal_of s r).text) ≤ longest
+message_short s S r d b h = omega (arith, render_few (refusal_of s r).text, bounded s S d b h r)

@@ -31,7 +31,7 @@ use Rattle.writing.specs.Writing.{Adds}
 use Rattle.writing.proofs.Texts.{literal-plain}
 use Rattle.writing.proofs.Adding.{both, adds_same}
 use Rattle.writing.proofs.Arguments.{render-append}
-use Rattle.writing.proofs.FieldTypes.{param-type}
+use Rattle.writing.proofs.FieldTypes.{param_type}
 use Rattle.grammar.specs.Kinds as kinds
 use Rattle.rules.specs.Codes as codes
 
@@ -116,13 +116,13 @@ module _ (B : List ℕ) (a : ℕ) (U : List ℕ) (b : ℕ) where
     parts t u x y e l = rw (← e) (both t u B a U b W c l x y)
 
     -- ... the first a name between two texts
-    pub name-first : (t x u v : List ℕ) → Adds (t ++ (x ++ u)) B a U b → Adds v U b W c → t ++ (x ++ (u ++ v)) ≡ g → Long B → Adds g B a W c
-    name-first t x u v p q e l =
+    pub name_first : (t x u v : List ℕ) → Adds (t ++ (x ++ u)) B a U b → Adds v U b W c → t ++ (x ++ (u ++ v)) ≡ g → Long B → Adds g B a W c
+    name_first t x u v p q e l =
         parts (t ++ (x ++ u)) v p q (append_assoc t (x ++ u) v ∙ ap (λ w. t ++ w) (append_assoc x u v) ∙ e) l
 
     -- ... the first the text of a type
-    type-first : (ps qs : List Piece) (v : List ℕ) → Adds (render ps) B a U b → Adds v U b W c → v ≡ render qs → render (ps ++ qs) ≡ g → Long B → Adds g B a W c
-    type-first ps qs v p q f e l = parts (render ps) v p q (ap (λ w. render ps ++ w) f ∙ sym (render-append ps qs) ∙ e) l
+    type_first : (ps qs : List Piece) (v : List ℕ) → Adds (render ps) B a U b → Adds v U b W c → v ≡ render qs → render (ps ++ qs) ≡ g → Long B → Adds g B a W c
+    type_first ps qs v p q f e l = parts (render ps) v p q (ap (λ w. render ps ++ w) f ∙ sym (render-append ps qs) ∙ e) l
 
 -- Three parts that were added one behind another, which together are the text g. A name or a description stands between two texts.
 module _ (s : List ℕ) (i : ℕ) (t u g B : List ℕ) (a : ℕ) (U : List ℕ) (b : ℕ) (W : List ℕ) (c : ℕ) (X : List ℕ) (d : ℕ) where
@@ -131,7 +131,7 @@ module _ (s : List ℕ) (i : ℕ) (t u g B : List ℕ) (a : ℕ) (U : List ℕ) 
       → t ++ (type_name (type_at s i) ++ (u ++ (digits 39 (arity (type_name (type_at s i))) ++ v))) ≡ g → Long B → Adds g B a X d
   arity_said S x v k h e f p q r z l =
       let n : k ≡ arity (type_name (type_at s i)) = f ∙ ap arity (e ∙ named_at_lem h i ∙ sym (type-name_at s i)) in
-      name-first B a U b X d g t (type_name (type_at s i)) u (digits 39 k ++ v) (as_type B a U b s i t u p)
+      name_first B a U b X d g t (type_name (type_at s i)) u (digits 39 k ++ v) (as_type B a U b s i t u p)
       (parts U b W c X d (digits 39 k ++ v) (digits 39 k) v q r refl (still_long B a U b _ p l)) (rw n z) l
 
   -- 27
@@ -139,28 +139,28 @@ module _ (s : List ℕ) (i : ℕ) (t u g B : List ℕ) (a : ℕ) (U : List ℕ) 
       → digits 39 n ++ (t ++ (named_at s i ++ (u ++ (digits 39 m ++ [])))) ≡ g → Long B → Adds g B a X d
   literal_said n m p q r z l =
       parts B a U b X d g (digits 39 n) (t ++ (named_at s i ++ (u ++ (digits 39 m ++ [])))) p
-      (name-first U b W c X d _ t (named_at s i) u (digits 39 m ++ []) q (as_last W c X d (digits 39 m) r) refl (still_long B a U b _ p l)) z l
+      (name_first U b W c X d _ t (named_at s i) u (digits 39 m ++ []) q (as_last W c X d (digits 39 m) r) refl (still_long B a U b _ p l)) z l
 
   -- 31
   pub keyed_said : (t' x u' v : List ℕ) → Adds (t' ++ (x ++ u')) B a U b → Adds (t ++ (named_at s i ++ u)) U b W c → Adds v W c X d
       → t' ++ (x ++ (u' ++ (t ++ ((field_at s i).name ++ (u ++ v))))) ≡ g → Long B → Adds g B a X d
   keyed_said t' x u' v p q r z l =
-      name-first B a U b X d g t' x u' (t ++ ((field_at s i).name ++ (u ++ v))) p
-      (name-first U b W c X d _ t (field_at s i).name u v (as_field U b W c s i t u q) r refl (still_long B a U b _ p l)) z l
+      name_first B a U b X d g t' x u' (t ++ ((field_at s i).name ++ (u ++ v))) p
+      (name_first U b W c X d _ t (field_at s i).name u v (as_field U b W c s i t u q) r refl (still_long B a U b _ p l)) z l
 
   -- 35
   pub holds_said : (t' x u' t'' y u'' : List ℕ) → Adds (t ++ (named_at s i ++ u)) B a U b → Adds (t' ++ (x ++ u')) U b W c → Adds (t'' ++ (y ++ u'')) W c X d
       → t ++ ((field_at s i).name ++ (u ++ (t' ++ (x ++ (u' ++ (t'' ++ (y ++ u''))))))) ≡ g → Long B → Adds g B a X d
   holds_said t' x u' t'' y u'' p q r z l =
-      name-first B a U b X d g t (field_at s i).name u (t' ++ (x ++ (u' ++ (t'' ++ (y ++ u''))))) (as_field B a U b s i t u p)
-      (name-first U b W c X d _ t' x u' (t'' ++ (y ++ u'')) q r refl (still_long B a U b _ p l)) z l
+      name_first B a U b X d g t (field_at s i).name u (t' ++ (x ++ (u' ++ (t'' ++ (y ++ u''))))) (as_field B a U b s i t u p)
+      (name_first U b W c X d _ t' x u' (t'' ++ (y ++ u'')) q r refl (still_long B a U b _ p l)) z l
 
 -- ... with the text of a type among them, and the pieces ps behind it: 16
 pub unknown_said : (ps : List Piece) (s : List ℕ) (i : ℕ) (t v g B : List ℕ) (a : ℕ) (U : List ℕ) (b : ℕ) (W : List ℕ) (c : ℕ) (X : List ℕ) (d : ℕ)
     → Adds t B a U b → Adds (render (type_text (type_at s i))) U b W c → Adds v W c X d → v ≡ render ps → t ++ render (type_text (type_at s i) ++ ps) ≡ g → Long B → Adds g B a X d
 unknown_said ps s i t v g B a U b W c X d p q r y z l =
     parts B a U b X d g t (render (type_text (type_at s i) ++ ps)) p
-    (type-first U b W c X d _ (type_text (type_at s i)) ps v q r y refl (still_long B a U b _ p l)) z l
+    (type_first U b W c X d _ (type_text (type_at s i)) ps v q r y refl (still_long B a U b _ p l)) z l
 
 -- 15
 pub inner_said : (ps : Bool → Name → List Piece) (s : List ℕ) (i j : ℕ) (key k : Bool) (t v w g B : List ℕ) (a : ℕ) (U : List ℕ) (b : ℕ) (W : List ℕ) (c : ℕ) (X : List ℕ) (d : ℕ)
@@ -176,8 +176,8 @@ pub emit_said : (ps : String → List Piece) (s : List ℕ) (i k : ℕ) (t u v w
     → v ++ (bytes (describe (ty_from k)) ++ w) ≡ render (ps (describe (ty_from k)))
     → t ++ ((param_at s i).name ++ (u ++ render (type_text (param_at s i).ty ++ ps (describe (ty_from k))))) ≡ g → Long B → Adds g B a X d
 emit_said ps s i k t u v w g B a U b W c X d p q r y z l =
-    name-first B a U b X d g t (param_at s i).name u _ (as_param B a U b s i t u p)
-    (type-first U b W c X d _ (type_text (param_at s i).ty) (ps (describe (ty_from k))) _ (rw (param-type s i) q) r y refl (still_long B a U b _ p l)) z l
+    name_first B a U b X d g t (param_at s i).name u _ (as_param B a U b s i t u p)
+    (type_first U b W c X d _ (type_text (param_at s i).ty) (ps (describe (ty_from k))) _ (rw (param_type s i) q) r y refl (still_long B a U b _ p l)) z l
 
 zero_said : (B : List ℕ) (a : ℕ) (U : List ℕ) (b : ℕ) → Adds (bytes "0") B a U b → Adds (digits 39 0) B a U b
 unfolding digits
@@ -226,16 +226,16 @@ module _ (s : List ℕ) (r q : Refusal) (B : List ℕ) (a : ℕ) (U : List ℕ) 
   told e x = rw e x
 
   -- a name between two texts
-  pub told-name : (t x y u : List ℕ) → r ≡ q → x ≡ y → Adds (t ++ (x ++ u)) B a U b → t ++ (y ++ u) ≡ render (refusal_of s q).text → Adds (render (refusal_of s r).text) B a U b
-  told-name t x y u e f z g = rw (e, ← g, ← f) z
+  pub told_name : (t x y u : List ℕ) → r ≡ q → x ≡ y → Adds (t ++ (x ++ u)) B a U b → t ++ (y ++ u) ≡ render (refusal_of s q).text → Adds (render (refusal_of s r).text) B a U b
+  told_name t x y u e f z g = rw (e, ← g, ← f) z
 
   -- ... of a record, which is read as a type, a field or a parameter
   module _ (i : ℕ) (t u : List ℕ) (e : r ≡ q) (x : Adds (t ++ (named_at s i ++ u)) B a U b) where
-    pub told-type : t ++ (type_name (type_at s i) ++ u) ≡ render (refusal_of s q).text → Adds (render (refusal_of s r).text) B a U b
-    told-type = told-name t _ _ u e (sym (type-name_at s i)) x
+    pub told_type : t ++ (type_name (type_at s i) ++ u) ≡ render (refusal_of s q).text → Adds (render (refusal_of s r).text) B a U b
+    told_type = told_name t _ _ u e (sym (type-name_at s i)) x
 
-    pub told-field : t ++ ((field_at s i).name ++ u) ≡ render (refusal_of s q).text → Adds (render (refusal_of s r).text) B a U b
-    told-field = told-name t _ _ u e (sym (field-name_at s i)) x
+    pub told_field : t ++ ((field_at s i).name ++ u) ≡ render (refusal_of s q).text → Adds (render (refusal_of s r).text) B a U b
+    told_field = told_name t _ _ u e (sym (field-name_at s i)) x
 
-    pub told-param : t ++ ((param_at s i).name ++ u) ≡ render (refusal_of s q).text → Adds (render (refusal_of s r).text) B a U b
-    told-param = told-name t _ _ u e (sym (param-name_at s i)) x
+    pub told_param : t ++ ((param_at s i).name ++ u) ≡ render (refusal_of s q).text → Adds (render (refusal_of s r).text) B a U b
+    told_param = told_name t _ _ u e (sym (param-name_at s i)) x

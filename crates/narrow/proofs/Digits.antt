@@ -71,13 +71,13 @@ flipped a b = by_cases (leb b a) refl
 
 -- What `above` meets: limbs that tell of their own that the number is above most, or the number itself.
 module _ (n : Wide) (most : ℕ) (h : Held n) (f : most < 2 ^ 64) where
-  pub above-high : 0 < n.high → true ≡ not (leb (value_of n) most)
+  pub above_high : 0 < n.high → true ≡ not (leb (value_of n) most)
   unfolding value_of
-  above-high e = rw (lt-leb (value_of n) most (omega arith)) refl
+  above_high e = rw (lt-leb (value_of n) most (omega arith)) refl
 
-  pub above-mid : 65535 < n.mid → true ≡ not (leb (value_of n) most)
+  pub above_mid : 65535 < n.mid → true ≡ not (leb (value_of n) most)
   unfolding value_of
-  above-mid e = rw (lt-leb (value_of n) most (omega arith)) refl
+  above_mid e = rw (lt-leb (value_of n) most (omega arith)) refl
 
   pub above_low : n.high ≤ 0 → ltb most (n.mid * 2 ^ 48 + n.low) ≡ not (leb (value_of n) most)
   unfolding value_of

@@ -30,10 +30,10 @@ narrow_some wide = refl
 narrow_some (narrow {n} h) = rw (ne_eqb n 0 h) refl
 
 -- r is the slot's largest number
-pub told-some : {o : Option ℕ} → Slot o → (r : ℕ) → r ≡ most_of o → r ≢ 0 → o ≡ some r
+pub told_some : {o : Option ℕ} → Slot o → (r : ℕ) → r ≡ most_of o → r ≢ 0 → o ≡ some r
 unfolding most_of
-told-some wide r e h = absurd (h e)
-told-some (narrow g) r e h = rw e refl
+told_some wide r e h = absurd (h e)
+told_some (narrow g) r e h = rw e refl
 
 pub told_none : {o : Option ℕ} → Slot o → (r : ℕ) → r ≡ most_of o → r ≡ 0 → o ≡ none
 unfolding most_of
@@ -85,11 +85,11 @@ values_slot_lem m x = by_cases (field_named m x)
 pub max_some : (x : Name) → is_some (narrow_max x) ≡ not (eqb (most_of (narrow_max x)) 0)
 max_some x = narrow_some (max_slot x)
 
-pub field-some : (m : Model) (x : Name) → is_some (narrow_field m x) ≡ not (eqb (most_of (narrow_field m x)) 0)
-field-some m x = narrow_some (field_slot_lem m x)
+pub field_some : (m : Model) (x : Name) → is_some (narrow_field m x) ≡ not (eqb (most_of (narrow_field m x)) 0)
+field_some m x = narrow_some (field_slot_lem m x)
 
-pub values-some : (m : Model) (x : Name) → is_some (narrow_values m x) ≡ not (eqb (most_of (narrow_values m x)) 0)
-values-some m x = narrow_some (values_slot_lem m x)
+pub values_some : (m : Model) (x : Name) → is_some (narrow_values m x) ≡ not (eqb (most_of (narrow_values m x)) 0)
+values_some m x = narrow_some (values_slot_lem m x)
 
 pub field_told : (m : Model) (x : Name) → most_of (narrow_field m x) ≢ 0 → narrow_field m x ≡ some (most_of (narrow_field m x))
-field_told m x h = told-some (field_slot_lem m x) (most_of (narrow_field m x)) refl h
+field_told m x h = told_some (field_slot_lem m x) (most_of (narrow_field m x)) refl h

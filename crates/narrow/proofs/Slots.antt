@@ -22,8 +22,8 @@ use Rattle.lookups.specs.Lines.{TypeAt}
 use Rattle.lookups.specs.declared.model.Found.{Found}
 use Rattle.lookups.specs.declared.model.Found.TheVariants.{At, Nothing}
 use Rattle.lookups.proofs.Behind.{TypeBehind, behind}
-use Rattle.lookups.proofs.Tables.{words_in, values_in, place-most, pick-place}
-use Rattle.lookups.proofs.Types.{type-name, by_kind, arg_of_kind, there, nth_there, nth_beyond, type_there}
+use Rattle.lookups.proofs.Tables.{words_in, values_in, place_most, pick_place}
+use Rattle.lookups.proofs.Types.{type_name_lem, by_kind, arg_of_kind, there, nth_there, nth_beyond, type_there}
 use Rattle.narrow.specs.Narrow.{most_of, largest}
 use Rattle.grammar.specs.Kinds as kinds
 
@@ -43,13 +43,13 @@ most_at (o ∷ os) zero = refl
 most_at (o ∷ os) (suc p) = most_at os p
 
 module _ (x : Name) (p : ℕ) (e : p ≡ index_in x (split (bytes names))) where
-  pub name-most : p < 5
+  pub name_most : p < 5
   unfolding split ended
-  name-most = omega (arith, place-most x (words_in table))
+  name_most = omega (arith, place_most x (words_in table))
 
   pub max_at : (r : ℕ) → r ≡ get_or largest p 0 → r ≡ most_of (narrow_max x)
   unfolding narrow_max split ended most_of
-  max_at r f = f ∙ sym (ap most_of (pick-place x table none) ∙ rw (← e) (most_at (values_in table) p))
+  max_at r f = f ∙ sym (ap most_of (pick_place x table none) ∙ rw (← e) (most_at (values_in table) p))
 
 -- ------------------------------------------------------------ the second argument
 
@@ -76,7 +76,7 @@ module _ (s S : List ℕ) (i m : ℕ) (h : TypeAt s S i) (c : m ≡ type_arg_cou
 
     pub arg_most : (y : Name) (v : ℕ) → n ≡ kinds.type → y ≡ name_at s S j → v ≡ most_of (narrow_max y) → v ≡ most_of (narrow_arg (get_elem? (args (type_at s i)) 1))
     unfolding narrow_arg
-    arg_most y v q z w = w ∙ rw (second, q, z, type-name s S j (type_there s S i 1 m h c j n e at_second g q)) refl
+    arg_most y v q z w = w ∙ rw (second, q, z, type_name_lem s S j (type_there s S i 1 m h c j n e at_second g q)) refl
 
 -- ------------------------------------------------------------ state fields
 
@@ -93,10 +93,10 @@ module _ (s S : List ℕ) (x : Name) (d : Loaded s S) (r : Found) (f : FieldName
     its_type : TypeBehind s S i
     its_type = behind kinds.field s S d r i e f.kind (omega arith) (omega arith)
 
-    pub field-most : (y : Name) → y ≡ name_at s S (i + 1) → v ≡ most_of (narrow_max y) → v ≡ most_of (narrow_field (model_in s) x)
+    pub field_most : (y : Name) → y ≡ name_at s S (i + 1) → v ≡ most_of (narrow_max y) → v ≡ most_of (narrow_field (model_in s) x)
     unfolding narrow_field found_field
-    field-most y z w = w ∙ rw (narrow_field, ← f.found, e, its_type.field, ← type-name s S (suc i) its_type.typed, z, add-one i) refl
+    field_most y z w = w ∙ rw (narrow_field, ← f.found, e, its_type.field, ← type_name_lem s S (suc i) its_type.typed, z, add-one i) refl
 
-    pub values-most : v ≡ most_of (narrow_arg (get_elem? (args (type_at s (i + 1))) 1)) → v ≡ most_of (narrow_values (model_in s) x)
+    pub values_most : v ≡ most_of (narrow_arg (get_elem? (args (type_at s (i + 1))) 1)) → v ≡ most_of (narrow_values (model_in s) x)
     unfolding narrow_values found_field
-    values-most w = w ∙ rw (narrow_values, ← f.found, e, its_type.field, add-one i) refl
+    values_most w = w ∙ rw (narrow_values, ← f.found, e, its_type.field, add-one i) refl

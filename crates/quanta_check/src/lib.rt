@@ -18,8 +18,8 @@ pub extern "C" fn quanta_check(
     types: &mut [u8],
     message: &mut [u8],
 ) -> Answer
-    ensures message_after { record { answer = result; scratch = scratch.new; types = types.new; message = message.new } ≡ outcome sheet.now scratch.old types.old message.old }
-    ensures length_le_longest { result.length ≤ longest }
+    ensures equals_outcome { record { answer = result; scratch = scratch.new; types = types.new; message = message.new } ≡ outcome sheet.now scratch.old types.old message.old }
+    ensures message_fits { result.length ≤ longest }
 {
     verdict::verdict(sheet, scratch, types, message)
 }

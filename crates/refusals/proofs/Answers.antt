@@ -32,9 +32,9 @@ module _ (s : List ℕ) (p q : Rule Unit) (d : Done) (h : Answers p (done_of s d
   unfolding done_of ◌>>◌
   answers_then e r k = then_fine p q tt (done_of s r) (rw e at h) k
 
-  pub answers-cut : (x : Refusal) → d ≡ Refused x → Answers (p >>= λ _. q) (done_of s (Refused x))
+  pub answers_cut : (x : Refusal) → d ≡ Refused x → Answers (p >>= λ _. q) (done_of s (Refused x))
   unfolding done_of ◌>>◌
-  answers-cut x e = then_refused p q (refusal_of s x) (rw e at h)
+  answers_cut x e = then_refused p q (refusal_of s x) (rw e at h)
 
 -- ------------------------------------------------------------ tests
 

@@ -23,16 +23,16 @@ use Rattle.grammar.specs.Kinds as kinds
 
 -- ------------------------------------------------------------ the kinds with a span
 
-first-span : (g : ℕ) (rs : List Rule) → get_or (rule_numbers g rs) 0 0 ≡ span_rule → (qs : List Rule) × (rs ≡ span ∷ qs)
-first-span g [] e = absurd (omega arith)
-first-span g (span ∷ rs) e = (rs, refl)
-first-span g (name ∷ rs) e = absurd (omega arith)
-first-span g (text ∷ rs) e = absurd (omega arith)
-first-span g (assign_op ∷ rs) e = absurd (omega arith)
-first-span g (un_op ∷ rs) e = absurd (omega arith)
-first-span g (bin_op ∷ rs) e = absurd (omega arith)
-first-span g (count s ∷ rs) e = absurd (omega arith)
-first-span g (flag s ∷ rs) e = absurd (omega arith)
+first_span : (g : ℕ) (rs : List Rule) → get_or (rule_numbers g rs) 0 0 ≡ span_rule → (qs : List Rule) × (rs ≡ span ∷ qs)
+first_span g [] e = absurd (omega arith)
+first_span g (span ∷ rs) e = (rs, refl)
+first_span g (name ∷ rs) e = absurd (omega arith)
+first_span g (text ∷ rs) e = absurd (omega arith)
+first_span g (assign_op ∷ rs) e = absurd (omega arith)
+first_span g (un_op ∷ rs) e = absurd (omega arith)
+first_span g (bin_op ∷ rs) e = absurd (omega arith)
+first_span g (count s ∷ rs) e = absurd (omega arith)
+first_span g (flag s ∷ rs) e = absurd (omega arith)
 
 -- a record whose first field is no SPAN has none
 bare : (k : ℕ) → span_first k ≡ false → spanless (record_of k).rules ≡ true
@@ -53,7 +53,7 @@ place_is s S i r d g = by_cases (span_first (kind_at S i)) refl
   where
     by_cases : (b : Bool) → span_first (kind_at S i) ≡ b → r ≡ place_at s i
     by_cases true f =
-        let q = first-span _ (record_of (kind_at S i)).rules (eqb-true _ 1 f) in
+        let q = first_span _ (record_of (kind_at S i)).rules (eqb-true _ 1 f) in
         let w = is_there d i (λ z. absurd (let x : ◌≡◌ {A = ℕ} 0 1 = cc (rw z at f) in omega arith)) in
         g ∙ sym (placed d w (kind_at S i) q.0 refl q.1)
     by_cases false f = rw f at g ∙ sym (unplaced d i (bare (kind_at S i) f))

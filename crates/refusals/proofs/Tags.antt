@@ -48,45 +48,45 @@ numbers = 12 ∷ 13 ∷ 14 ∷ 15 ∷ 16 ∷ 17 ∷ 18 ∷ 19 ∷ 20 ∷ 21 ∷ 
 abbrev pub places_from : ℕ → List ℕ
 places_from i = places i (length numbers - i)
 
-number_of : (s : List ℕ) (r : Refusal) → (refusal_of s r).number ≡ get_or numbers (tag r) 0
+number_of_lem : (s : List ℕ) (r : Refusal) → (refusal_of s r).number ≡ get_or numbers (tag r) 0
 unfolding refusal_of
-number_of s (NameStored ty) = refl
-number_of s (Arity ty) = refl
-number_of s (OnlyTypes ty) = refl
-number_of s (InnerType ty inner key) = refl
-number_of s (UnknownType ty) = refl
-number_of s (NoArguments ty) = refl
-number_of s (Digest named) = refl
-number_of s (Default field value) = refl
-number_of s (Guardian ty) = refl
-number_of s (Predicate e) = refl
-number_of s (ReachesField target value) = refl
-number_of s (ReachesValues map value) = refl
-number_of s (ReachesEvent emit value) = refl
-number_of s (CollectionLocal value) = refl
-number_of s (AssetSlot target) = refl
-number_of s (NameIntoAddress target value) = refl
-number_of s (WrappingIntoNarrow target value) = refl
-number_of s (LiteralIntoNarrow target value max) = refl
-number_of s (SlotMismatch value slot given) = refl
-number_of s (Recipient arg) = refl
-number_of s (Receiver callee) = refl
-number_of s (KeyedOp callee field) = refl
-number_of s (Amount callee arg) = refl
-number_of s (NameNotParam field arg) = refl
-number_of s (NameWanted field arg) = refl
-number_of s (Holds field arg want got) = refl
-number_of s (Not inner) = refl
-number_of s (Neg inner) = refl
-number_of s (Logical operand) = refl
-number_of s (Arithmetic operand) = refl
-number_of s (Ordering operand) = refl
-number_of s (NamesCompared left) = refl
-number_of s (Compared right l r) = refl
-number_of s (EmitField arg param got) = refl
-number_of s (Dropped made) = refl
-number_of s (Overflow assign) = refl
-number_of s (KeyKinds map key) = refl
+number_of_lem s (NameStored ty) = refl
+number_of_lem s (Arity ty) = refl
+number_of_lem s (OnlyTypes ty) = refl
+number_of_lem s (InnerType ty inner key) = refl
+number_of_lem s (UnknownType ty) = refl
+number_of_lem s (NoArguments ty) = refl
+number_of_lem s (Digest named) = refl
+number_of_lem s (Default field value) = refl
+number_of_lem s (Guardian ty) = refl
+number_of_lem s (Predicate e) = refl
+number_of_lem s (ReachesField target value) = refl
+number_of_lem s (ReachesValues map value) = refl
+number_of_lem s (ReachesEvent emit value) = refl
+number_of_lem s (CollectionLocal value) = refl
+number_of_lem s (AssetSlot target) = refl
+number_of_lem s (NameIntoAddress target value) = refl
+number_of_lem s (WrappingIntoNarrow target value) = refl
+number_of_lem s (LiteralIntoNarrow target value max) = refl
+number_of_lem s (SlotMismatch value slot given) = refl
+number_of_lem s (Recipient arg) = refl
+number_of_lem s (Receiver callee) = refl
+number_of_lem s (KeyedOp callee field) = refl
+number_of_lem s (Amount callee arg) = refl
+number_of_lem s (NameNotParam field arg) = refl
+number_of_lem s (NameWanted field arg) = refl
+number_of_lem s (Holds field arg want got) = refl
+number_of_lem s (Not inner) = refl
+number_of_lem s (Neg inner) = refl
+number_of_lem s (Logical operand) = refl
+number_of_lem s (Arithmetic operand) = refl
+number_of_lem s (Ordering operand) = refl
+number_of_lem s (NamesCompared left) = refl
+number_of_lem s (Compared right l r) = refl
+number_of_lem s (EmitField arg param got) = refl
+number_of_lem s (Dropped made) = refl
+number_of_lem s (Overflow assign) = refl
+number_of_lem s (KeyKinds map key) = refl
 
 -- a number that is below j or from k on, and isn't below j
 either : (j k n : ℕ) → j ≤ n → (ltb n j || leb k n) ≡ true → k ≤ n
@@ -98,28 +98,28 @@ either j k n h = by_cases (ltb n j) (leb k n) refl refl
     by_cases false false p q w = absurd (let z : ◌≡◌ {A = ℕ} 0 1 = cc w in omega arith)
 
 module _ (r : Refusal) where
-  pub number-told : (t n : ℕ) → tag_of the_type r ≡ t → n ≡ get_or numbers t 0 → Numbers r n
-  number-told t n e f = record { numbers = λ s. f ∙ ap (λ k. get_or numbers k 0) (sym e) ∙ sym (number_of s r) }
+  pub number_told : (t n : ℕ) → tag_of the_type r ≡ t → n ≡ get_or numbers t 0 → Numbers r n
+  number_told t n e f = record { numbers = λ s. f ∙ ap (λ k. get_or numbers k 0) (sym e) ∙ sym (number_of_lem s r) }
 
   -- the refusal stands among some whose numbers are all k or above; or all below k
   pub from_keys : (k : ℕ) (ks : List ℕ) → OneOf ks (tag_of the_type r) → every (λ t. leb k (get_or numbers t 0)) ks ≡ true → From k r
-  from_keys k ks h e = record { from = λ s. rw (number_of s r) (leb-true k _ (one_of (λ t. leb k (get_or numbers t 0)) ks (tag r) e h)) }
+  from_keys k ks h e = record { from = λ s. rw (number_of_lem s r) (leb-true k _ (one_of (λ t. leb k (get_or numbers t 0)) ks (tag r) e h)) }
 
   -- ... and so it is among some others below j, where its number is not below j
   pub past_keys : (j k : ℕ) (ks : List ℕ) → From j r → OneOf ks (tag_of the_type r) → every (λ t. ltb (get_or numbers t 0) j || leb k (get_or numbers t 0)) ks ≡ true → From k r
   past_keys j k ks f h e =
       record {
-        from = λ s. rw (number_of s r) (either j k _ (rw (number_of s r) at (f.from s)) (one_of (λ t. ltb (get_or numbers t 0) j || leb k (get_or numbers t 0)) ks (tag r) e h));
+        from = λ s. rw (number_of_lem s r) (either j k _ (rw (number_of_lem s r) at (f.from s)) (one_of (λ t. ltb (get_or numbers t 0) j || leb k (get_or numbers t 0)) ks (tag r) e h));
       }
 
   pub not_from : {P : Type 0} (k : ℕ) (ks : List ℕ) → From k r → OneOf ks (tag_of the_type r) → every (λ t. ltb (get_or numbers t 0) k) ks ≡ true → P
   not_from k ks f h e =
-      absurd (omega (arith, f.from [], number_of [] r, ltb-true (get_or numbers (tag r) 0) k (one_of (λ t. ltb (get_or numbers t 0) k) ks (tag r) e h)))
+      absurd (omega (arith, f.from [], number_of_lem [] r, ltb-true (get_or numbers (tag r) 0) k (one_of (λ t. ltb (get_or numbers t 0) k) ks (tag r) e h)))
 
 -- ------------------------------------------------------------ places
 
-pub line-told : (r q : Refusal) (i : ℕ) → r ≡ q → i ≡ line_of q → i ≡ line_of r
-line-told r q i e f = rw e f
+pub line_told : (r q : Refusal) (i : ℕ) → r ≡ q → i ≡ line_of q → i ≡ line_of r
+line_told r q i e f = rw e f
 
 -- where all but Digest, Receiver and KeyedOp stand
 abbrev pub plain_tags : List ℕ
@@ -167,8 +167,8 @@ plain s (Overflow assign) h = refl
 plain s (KeyKinds map key) h = span_at_lem s key
 
 module _ (s : List ℕ) (r : Refusal) (p : ℕ) where
-  pub place-plain : (i : ℕ) → OneOf plain_tags (tag_of the_type r) → i ≡ line_of r → p ≡ place_at s i → p ≡ (refusal_of s r).place
-  place-plain i h e f = f ∙ ap (place_at s) e ∙ sym (plain s r (one_of (λ k. not (eqb k 6 || (eqb k 20 || eqb k 21))) plain_tags (tag r) refl h))
+  pub place_plain : (i : ℕ) → OneOf plain_tags (tag_of the_type r) → i ≡ line_of r → p ≡ place_at s i → p ≡ (refusal_of s r).place
+  place_plain i h e f = f ∙ ap (place_at s) e ∙ sym (plain s r (one_of (λ k. not (eqb k 6 || (eqb k 20 || eqb k 21))) plain_tags (tag r) refl h))
 
   pub place_digest : (i : ℕ) → r ≡ Digest i → p ≡ place_at s (suc i) → p ≡ (refusal_of s r).place
   unfolding refusal_of
@@ -178,6 +178,6 @@ module _ (s : List ℕ) (r : Refusal) (p : ℕ) where
   unfolding refusal_of
   place_receiver i e f = rw e f
 
-  pub place-keyed : (i j : ℕ) → r ≡ KeyedOp i j → p ≡ (dot_at s i).nspan → p ≡ (refusal_of s r).place
+  pub place_keyed : (i j : ℕ) → r ≡ KeyedOp i j → p ≡ (dot_at s i).nspan → p ≡ (refusal_of s r).place
   unfolding refusal_of
-  place-keyed i j e f = rw e f
+  place_keyed i j e f = rw e f

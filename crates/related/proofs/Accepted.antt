@@ -27,8 +27,8 @@ itself (l ∷ ls) = cons₂ (record { kind = refl; op = refl; spans = refl; part
 -- a sheet that is read, as the lines ls
 module _ (s : List ℕ) (types scratch message : ℕ) (ls : List Line) (read : load s types scratch ≡ lines ls) where
   -- the rules are alike on it and on itself, so every refusal has a number from 12 on
-  pub rules-from_twelve : FromTwelveRes (fresh (check (model_of ls))).res
-  rules-from_twelve = from_twelve (λ x. x) (a_check (lines_like (λ i j. Unit) tt (λ i j h. tt) ⊥ s types scratch ls ls read (itself ls)))
+  pub rules_from_twelve : FromTwelveRes (fresh (check (model_of ls))).res
+  rules_from_twelve = from_twelve (λ x. x) (a_check (lines_like (λ i j. Unit) tt (λ i j h. tt) ⊥ s types scratch ls ls read (itself ls)))
 
   by_result : (r : Res Unit) → (fresh (check (model_of ls))).res ≡ r → FromTwelveRes r → (verdict s types scratch message).number ≡ 0 → (fresh (check (model_of ls))).res ≡ ok tt
   unfolding verdict judge ruled answer_for
@@ -36,7 +36,7 @@ module _ (s : List ℕ) (types scratch message : ℕ) (ls : List Line) (read : l
   by_result (refused r) e h z = absurd (let y : r.number ≡ 0 = rw (read, e) at z in let w : leb 12 0 ≡ true = rw y at h in let v : ◌≡◌ {A = ℕ} 0 1 = cc w in omega arith)
 
   pub zero_passed : (verdict s types scratch message).number ≡ 0 → (fresh (check (model_of ls))).res ≡ ok tt
-  zero_passed z = by_result (fresh (check (model_of ls))).res refl rules-from_twelve z
+  zero_passed z = by_result (fresh (check (model_of ls))).res refl rules_from_twelve z
 
   pub passed_zero : (fresh (check (model_of ls))).res ≡ ok tt → (verdict s types scratch message).number ≡ 0
   unfolding verdict judge ruled answer_for

@@ -102,8 +102,8 @@ SameAsking S a b = S.Lines a.0 b.0 × (a.1 ≡ b.1)
 -- the same result and the same askings, but for the lines; or one side ended in a refusal for the text of a literal
 pub data SameOut (S : Setting) {A : Type 0} (o u : Out A) : Type 0 where
   same_out : o.res ≡ u.res → Forall₂ (SameAsking S) o.log u.log → SameOut S o u
-  text-left : ByTextRes S o.res → SameOut S o u
-  text-right : ByTextRes S u.res → SameOut S o u
+  text_left : ByTextRes S o.res → SameOut S o u
+  text_right : ByTextRes S u.res → SameOut S o u
 
 module _ (S : Setting) (l k : ℕ) (line : S.Lines l k) where
   ended_same : {A : Type 0} {as' bs : List Asking} (r : Res Ty) (f g : Ty → Out A)
@@ -114,37 +114,37 @@ module _ (S : Setting) (l k : ℕ) (line : S.Lines l k) where
     where
       by_cases : SameOut S (f t) (g t) → SameOut S (concluded l (ok t) as' f) (concluded k (ok t) bs g)
       by_cases (same_out e q) = same_out e (append₂ h (cons₂ (line, refl) q))
-      by_cases (text-left s) = text-left s
-      by_cases (text-right s) = text-right s
+      by_cases (text_left s) = text_left s
+      by_cases (text_right s) = text_right s
 
-  ended-text : {A : Type 0} (i : ℕ) (as' : List Asking) (r : Res Ty) (f : Ty → Out A) → ByTextRes S r → ByTextRes S (concluded i r as' f).res
+  ended_text : {A : Type 0} (i : ℕ) (as' : List Asking) (r : Res Ty) (f : Ty → Out A) → ByTextRes S r → ByTextRes S (concluded i r as' f).res
   unfolding concluded
-  ended-text i as' (ok t) f s = absurd s
-  ended-text i as' (refused r) f s = s
+  ended_text i as' (ok t) f s = absurd s
+  ended_text i as' (refused r) f s = s
 
   -- an asking, where the typing is alike and what follows is
   asked-same : {A : Type 0} {o u : Out Ty} (f g : Ty → Out A)
       → SameOut S o u → ((t : Ty) → SameOut S (f t) (g t)) → SameOut S (concluded l o.res o.log f) (concluded k u.res u.log g)
   asked-same {o = o} f g (same_out e h) n = rw (← e) (ended_same o.res f g h n)
-  asked-same {o = o} f g (text-left s) n = text-left (ended-text l o.log o.res f s)
-  asked-same {u = u} f g (text-right s) n = text-right (ended-text k u.log u.res g s)
+  asked-same {o = o} f g (text_left s) n = text_left (ended_text l o.log o.res f s)
+  asked-same {u = u} f g (text_right s) n = text_right (ended_text k u.log u.res g s)
 
 pub outcomes : {S : Setting} {A : Type 0} {p q : Rule A} → Alike S p q → SameOut S (fresh p) (fresh q)
 unfolding fresh
 outcomes (a_ret a) = same_out refl nil₂
 outcomes (a_refuse r h) = same_out refl nil₂
-outcomes (a_left h) = text-left h
-outcomes (a_right h) = text-right h
+outcomes (a_left h) = text_left h
+outcomes (a_right h) = text_right h
 outcomes {S} (a_ask {l = l} {k = k} i h n) = asked-same S l k i _ _ (outcomes h) (λ t. outcomes (n t))
 
 abbrev pub FromTwelveRes : {A : Type 0} → Res A → Type 0
 FromTwelveRes (ok a) = Unit
 FromTwelveRes (refused r) = FromTwelve r
 
-ended-from_twelve : {A : Type 0} (l : ℕ) (as' : List Asking) (r : Res Ty) (f : Ty → Out A) → FromTwelveRes r → ((t : Ty) → FromTwelveRes (f t).res) → FromTwelveRes (concluded l r as' f).res
+ended_from_twelve : {A : Type 0} (l : ℕ) (as' : List Asking) (r : Res Ty) (f : Ty → Out A) → FromTwelveRes r → ((t : Ty) → FromTwelveRes (f t).res) → FromTwelveRes (concluded l r as' f).res
 unfolding concluded
-ended-from_twelve l as' (ok t) f h k = k t
-ended-from_twelve l as' (refused r) f h k = h
+ended_from_twelve l as' (ok t) f h k = k t
+ended_from_twelve l as' (refused r) f h k = h
 
 -- where texts are not free, every refusal has a number from 12 on
 pub from_twelve : {S : Setting} {A : Type 0} {p q : Rule A} → (S.Free → ⊥) → Alike S p q → FromTwelveRes (fresh p).res
@@ -153,4 +153,4 @@ from_twelve n (a_ret a) = tt
 from_twelve n (a_refuse r h) = h
 from_twelve n (a_left h) = absurd (n h.0)
 from_twelve n (a_right h) = absurd (n h.0)
-from_twelve n (a_ask {l = l} {p = p} {f = f} i h k) = ended-from_twelve l (fresh p).log (fresh p).res (λ t. fresh (f t)) (from_twelve n h) (λ t. from_twelve n (k t))
+from_twelve n (a_ask {l = l} {p = p} {f = f} i h k) = ended_from_twelve l (fresh p).log (fresh p).res (λ t. fresh (f t)) (from_twelve n h) (λ t. from_twelve n (k t))

@@ -28,8 +28,8 @@ use Rattle.rules.specs.Computed.{computed}
 use Rattle.rules.specs.Verdict.{model_of, verdict}
 use Rattle.related.specs.Sheets.{results, entries_in, ButOne, Foreign}
 use Rattle.related.proofs.LikeEntries.{idle}
-use Rattle.related.proofs.Sheets.{items-read}
-use Rattle.related.proofs.IdleClauses.{entry-parts, entry-trees, s_nil, s_skip, EntryPair, p_nil, p_entry, idle_clauses}
+use Rattle.related.proofs.Sheets.{items_read}
+use Rattle.related.proofs.IdleClauses.{entry_parts, entry-trees, s_nil, s_skip, EntryPair, p_nil, p_entry, idle_clauses}
 use Rattle.related.proofs.JoinedSheets.{joined_number}
 use Rattle.related.proofs.OneEntry.{all_but_one}
 use Rattle.related.proofs.Texts.{texts_verdict}
@@ -53,9 +53,9 @@ other_text =
     refl
 
 -- a u8 cannot hold it
-number-other : (verdict (level (bytes "300")) 5 (cells_per_line * 5) 100).number ≡ 27
+number_other : (verdict (level (bytes "300")) 5 (cells_per_line * 5) 100).number ≡ 27
 unfolding computed
-number-other = refl
+number_other = refl
 
 abbrev head : List Line → Line
 head [] = record { kind = 0; at = 0; op = 0; spans = []; start = 0; name = []; parts = [] }
@@ -80,8 +80,8 @@ one_entry =
     let xs = lines_with x in
     let ys = lines_with y in
     all_but_one {c = head xs} {e = head (drop 2 xs)} {a = take 1 (drop 1 xs)} {m = take 2 (drop 3 xs)} {z = drop 5 xs} {c' = head ys} {e' = head (drop 2 ys)} {a' = take 1 (drop 1 ys)} {m' = take 2 (drop 3 ys)} {z' = drop 5 ys}
-    (record { read = (entries_with x, 6, cells_per_line * 6, refl); items = (1, next done); one = next (next (next done)); is-entry = refl })
-    (record { read = (entries_with y, 6, cells_per_line * 6, refl); items = (1, next done); one = next (next (next done)); is-entry = refl })
+    (record { read = (entries_with x, 6, cells_per_line * 6, refl); items = (1, next done); one = next (next (next done)); is_entry = refl })
+    (record { read = (entries_with y, 6, cells_per_line * 6, refl); items = (1, next done); one = next (next (next done)); is_entry = refl })
     (cons₂ (record { kind = refl; op = refl; spans = refl; parts = refl; name = inl refl }) nil₂)
     (cons₂ (record { kind = refl; op = refl; spans = refl; parts = refl; name = inl refl }) nil₂)
 
@@ -95,9 +95,9 @@ with_after = entry_with (bytes "entry,0,1,1" ∷ bytes "after,0,0" ∷ [])
 abbrev without-after : List ℕ
 without-after = entry_with (bytes "entry,0,0,1" ∷ [])
 
-first-item : {t : Node} {ns : Nodes} (n : ℕ) → FormedAll (copies n grammar.Item) (more t ns) → Formed grammar.Item t
+first_item : {t : Node} {ns : Nodes} (n : ℕ) → FormedAll (copies n grammar.Item) (more t ns) → Formed grammar.Item t
 unfolding copies
-first-item n f = formed_one (all_formed grammar.Item n f).1
+first_item n f = formed_one (all_formed grammar.Item n f).1
 
 -- with an `after` of no expression, and without it
 idle_after :
@@ -108,10 +108,10 @@ unfolding computed read_lines before
 idle_after =
     let xs = read_lines (load with_after 5 (cells_per_line * 5)) in
     let ys = read_lines (load without-after 4 (cells_per_line * 4)) in
-    let f = items-read with_after 5 (cells_per_line * 5) (head xs) (drop 1 xs) refl in
-    let g = items-read without-after 4 (cells_per_line * 4) (head ys) (drop 1 ys) refl in
-    let p = entry-parts (first-item f.0 f.1) refl in
-    let q = entry-parts (first-item g.0 g.1) refl in
+    let f = items_read with_after 5 (cells_per_line * 5) (head xs) (drop 1 xs) refl in
+    let g = items_read without-after 4 (cells_per_line * 4) (head ys) (drop 1 ys) refl in
+    let p = entry_parts (first_item f.0 f.1) refl in
+    let q = entry_parts (first_item g.0 g.1) refl in
     let a = entry-trees p nil (trees 2 (take 1 (drop 2 xs))) (trees 3 (drop 3 xs)) refl refl in
     let b = entry-trees q nil nil (trees 2 (drop 2 ys)) refl refl in
     let pair : EntryPair _ _ _ _ = record {
@@ -124,11 +124,11 @@ idle_after =
     let result : Model → Res Unit = λ m. (fresh (check m)).res in
     ap result f.2 ∙ idle_clauses (trees 1 (drop 1 xs)) (trees 1 (drop 1 ys)) f.0 f.1 (p_entry pair p_nil) ∙ sym (ap result g.2)
 
-abbrev first-lines : List (List ℕ)
-first-lines = bytes "state,1" ∷ bytes "field,1,x,0" ∷ bytes "type,2,u8,0" ∷ []
+abbrev first_lines : List (List ℕ)
+first_lines = bytes "state,1" ∷ bytes "field,1,x,0" ∷ bytes "type,2,u8,0" ∷ []
 
-abbrev second-lines : List (List ℕ)
-second-lines = bytes "invariant" ∷ bytes "bin,1,eq" ∷ bytes "id,2,y" ∷ bytes "now,3" ∷ []
+abbrev second_lines : List (List ℕ)
+second_lines = bytes "invariant" ∷ bytes "bin,1,eq" ∷ bytes "id,2,y" ∷ bytes "now,3" ∷ []
 
 -- whatever the line's kind
 no_name : {n : Model} {l : Line} → field_named n l.name ≡ none → event_named n l.name ≡ none → Foreign n l
@@ -136,26 +136,26 @@ no_name e f = record { field = λ _. e; event = λ _. f }
 
 -- a first line, and the bytes of both
 abbrev both_bytes : List ℕ
-both_bytes = sheet (bytes "contract,2" ∷ []) ++ (sheet first-lines ++ sheet second-lines)
+both_bytes = sheet (bytes "contract,2" ∷ []) ++ (sheet first_lines ++ sheet second_lines)
 
-both_lines : lines_of both_bytes ≡ bytes "contract,2" ∷ (first-lines ++ second-lines)
+both_lines : lines_of both_bytes ≡ bytes "contract,2" ∷ (first_lines ++ second_lines)
 unfolding computed
 both_lines =
-    ended-append (either 10 10) [] (sheet (bytes "contract,2" ∷ [])) (sheet first-lines ++ sheet second-lines) tt
-    ∙ ap (λ ls. bytes "contract,2" ∷ ls) (ended-append (either 10 10) [] (sheet first-lines) (sheet second-lines) tt)
+    ended-append (either 10 10) [] (sheet (bytes "contract,2" ∷ [])) (sheet first_lines ++ sheet second_lines) tt
+    ∙ ap (λ ls. bytes "contract,2" ∷ ls) (ended-append (either 10 10) [] (sheet first_lines) (sheet second_lines) tt)
 
 -- a state and an invariant in one sheet
 two_in_one : (verdict both_bytes 8 (cells_per_line * 8) 100).number ≡ 0
 unfolding computed read_lines
 two_in_one =
     let c = bytes "contract,1" in
-    let s₁ = sheet (c ∷ first-lines) in
-    let s₂ = sheet (c ∷ second-lines) in
+    let s₁ = sheet (c ∷ first_lines) in
+    let s₂ = sheet (c ∷ second_lines) in
     let x = read_lines (load s₁ 4 (cells_per_line * 4)) in
     let y = read_lines (load s₂ 5 (cells_per_line * 5)) in
-    let one : Reads s₁ 4 (cells_per_line * 4) c first-lines (head x) (drop 1 x) = record { all = refl; read = refl } in
-    let two : Reads s₂ 5 (cells_per_line * 5) c second-lines (head y) (drop 1 y) = record { all = refl; read = refl } in
-    let both : Joins (head x) (head y) (first-lines ++ second-lines) both_bytes 8 (cells_per_line * 8) (bytes "contract,2") (head (read_lines (load both_bytes 8 (cells_per_line * 8)))) = record { all = both_lines; not_early = refl; first = refl; count = refl } in
+    let one : Reads s₁ 4 (cells_per_line * 4) c first_lines (head x) (drop 1 x) = record { all = refl; read = refl } in
+    let two : Reads s₂ 5 (cells_per_line * 5) c second_lines (head y) (drop 1 y) = record { all = refl; read = refl } in
+    let both : Joins (head x) (head y) (first_lines ++ second_lines) both_bytes 8 (cells_per_line * 8) (bytes "contract,2") (head (read_lines (load both_bytes 8 (cells_per_line * 8)))) = record { all = both_lines; not_early = refl; first = refl; count = refl } in
     joined_number one two both 100 100 100
     (no_name refl refl, (no_name refl refl, (no_name refl refl, tt)))
     (no_name refl refl, (no_name refl refl, (no_name refl refl, (no_name refl refl, tt))))

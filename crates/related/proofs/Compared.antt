@@ -10,7 +10,7 @@ use Rattle.rules.specs.Ast.{Entry}
 use Rattle.rules.specs.Asking.{Refusal, Res, ok, refused, Asking, Out, fresh}
 use Rattle.rules.specs.Model.{Model}
 use Rattle.rules.specs.Check.{check_entry, check}
-use Rattle.related.proofs.Alike.{Setting, setting_of, ByTextRes, SameAsking, SameOut, same_out, text-left, text-right, outcomes}
+use Rattle.related.proofs.Alike.{Setting, setting_of, ByTextRes, SameAsking, SameOut, same_out, text_left, text_right, outcomes}
 use Rattle.related.proofs.LikeEntries.{EntryLike}
 use Rattle.related.proofs.LikeCheck.{ModelLike, a_entry, a_check}
 
@@ -34,19 +34,19 @@ module _ (m n : Model) {A : Type 0} {o u : Out A} where
   -- both accepted: the same askings
   pub texts_logs : SameOut (texts m n) o u → (a b : A) → o.res ≡ ok a → u.res ≡ ok b → o.log ≡ u.log
   texts_logs (same_out e h) a b p q = same_log m n h
-  texts_logs (text-left s) a b p q = absurd (rw p at s)
-  texts_logs (text-right s) a b p q = absurd (rw q at s)
+  texts_logs (text_left s) a b p q = absurd (rw p at s)
+  texts_logs (text_right s) a b p q = absurd (rw q at s)
 
   -- the first accepted, the second refused: 27 or 42
   pub texts_number : SameOut (texts m n) o u → (a : A) (r : Refusal) → o.res ≡ ok a → u.res ≡ refused r → (r.number ≡ 27) ⊎ (r.number ≡ 42)
   texts_number (same_out e h) a r p q = absurd (let z : ◌≡◌ {A = ℕ} 0 1 = cc in omega arith)
-  texts_number (text-left s) a r p q = absurd (rw p at s)
-  texts_number (text-right s) a r p q = (rw q at s).1
+  texts_number (text_left s) a r p q = absurd (rw p at s)
+  texts_number (text_right s) a r p q = (rw q at s).1
 
   pub renumbered_result : SameOut (renumbered m n) o u → o.res ≡ u.res
   renumbered_result (same_out e h) = e
-  renumbered_result (text-left s) = none_left m n o.res s
-  renumbered_result (text-right s) = none_left m n u.res s
+  renumbered_result (text_left s) = none_left m n o.res s
+  renumbered_result (text_right s) = none_left m n u.res s
 
 -- request 13
 pub check_texts_logs : (m n : Model) → ModelLike (texts m n) → (fresh (check m)).res ≡ ok tt → (fresh (check n)).res ≡ ok tt → (fresh (check m)).log ≡ (fresh (check n)).log

@@ -14,7 +14,7 @@ use Rattle.sheet.specs.Tree.{Node, node, Nodes, nil, more, before, tree_count}
 use Rattle.sheet.specs.Held.{Formed, formed, FormedAll, none_due, one_due}
 use Rattle.sheet.proofs.Paired.{map₂}
 use Rattle.sheet.proofs.Twins.{twin_map, MovedTwin, MovedTwins}
-use Rattle.sheet.proofs.Trees.{all_formed, first-formed}
+use Rattle.sheet.proofs.Trees.{all_formed, first_formed}
 use Rattle.rules.specs.Text.{Name}
 use Rattle.rules.specs.Ast.{Expr, Field, Entry, Stmt, entry, nodes, param_of, clause_of, stmt_of, item_of}
 use Rattle.rules.specs.Asking.{fresh}
@@ -28,7 +28,7 @@ use Rattle.related.proofs.LikeCheck.{FieldLike}
 use Rattle.related.proofs.LikeEntries.{IdleClause, ClausesLike, c_nil, c_cons, c_skip, EntryLike}
 use Rattle.related.proofs.LikeStatements.{SameEvent, StmtLike}
 use Rattle.related.proofs.TwinExprs.{SettingTwin, nodes_twins, stmt_twin, clause_twin}
-use Rattle.related.proofs.TwinItems.{head_same, all_params, ItemBy, entry~, build_by, items_of, ItemHeads, item_heads, every-field, every-event, all_named, item_like}
+use Rattle.related.proofs.TwinItems.{head_same, all_params, ItemBy, entry~, build_by, items_of, ItemHeads, item_heads, every_field, every_event, all_named, item_like}
 use Rattle.grammar.specs.Kinds as kinds
 
 -- ------------------------------------------------------------ the parts of an entry
@@ -47,12 +47,12 @@ three : {a b c x y z : ℕ} → a ≡ x → b ≡ y → c ≡ z
     → ◌≡◌ {A = List (ℕ × grammar.Sort)} ((a, grammar.Param) ∷ (b, grammar.Clause) ∷ (c, grammar.Stmt) ∷ []) ((x, grammar.Param) ∷ (y, grammar.Clause) ∷ (z, grammar.Stmt) ∷ [])
 three p q r = rw (p, q, r)
 
-pub entry-parts : {i : ℕ} {l : Line} {ps : Nodes} → Formed grammar.Item (node i l ps) → l.kind ≡ kinds.entry → EntryTrees l ps
+pub entry_parts : {i : ℕ} {l : Line} {ps : Nodes} → Formed grammar.Item (node i l ps) → l.kind ≡ kinds.entry → EntryTrees l ps
 unfolding sorts
-entry-parts (formed {l = l} a p fs) e =
+entry_parts (formed {l = l} a p fs) e =
     let m = parts l kinds.entry p e in
-    let u = first-formed grammar.Param _ m.0 (rw (m.1.1.1, append-nil) at fs) in
-    let v = first-formed grammar.Clause _ m.1.0 u.5 in
+    let u = first_formed grammar.Param _ m.0 (rw (m.1.1.1, append-nil) at fs) in
+    let v = first_formed grammar.Clause _ m.1.0 u.5 in
     let w = all_formed grammar.Stmt m.1.1.0 v.5 in
     record {
       params = u.0;
@@ -80,15 +80,15 @@ entry-trees p a b c e n =
     let r = before_same p.clauses _ b _ (ap (at 1) (sym p.counts ∙ n)) q.1 in
     (q.0, r.0, r.1)
 
-take-nodes : (a b : Nodes) → take (tree_count a) (nodes (before a b)) ≡ nodes a
+take_nodes_lem : (a b : Nodes) → take (tree_count a) (nodes (before a b)) ≡ nodes a
 unfolding nodes before
-take-nodes nil b = refl
-take-nodes (more t a) b = ap (λ ns. t ∷ ns) (take-nodes a b)
+take_nodes_lem nil b = refl
+take_nodes_lem (more t a) b = ap (λ ns. t ∷ ns) (take_nodes_lem a b)
 
-drop-nodes : (a b : Nodes) → drop (tree_count a) (nodes (before a b)) ≡ nodes b
+drop_nodes_lem : (a b : Nodes) → drop (tree_count a) (nodes (before a b)) ≡ nodes b
 unfolding nodes before
-drop-nodes nil b = refl
-drop-nodes (more t a) b = drop-nodes a b
+drop_nodes_lem nil b = refl
+drop_nodes_lem (more t a) b = drop_nodes_lem a b
 
 -- the entry of these parts
 abbrev entry_in : (params clauses body : Nodes) → Entry
@@ -101,7 +101,7 @@ entry-is i l ps p =
     let a = p.params in
     let c = p.clauses in
     let b = p.body in
-    rw (z, p.counts, p.all, ← drop-drop (tree_count c) (tree_count a) (nodes (before a (before c b))), take-nodes a (before c b), drop-nodes a (before c b), take-nodes c b, drop-nodes c b)
+    rw (z, p.counts, p.all, ← drop-drop (tree_count c) (tree_count a) (nodes (before a (before c b))), take_nodes_lem a (before c b), drop_nodes_lem a (before c b), take_nodes_lem c b, drop_nodes_lem c b)
 
 -- ------------------------------------------------------------ items in pairs
 
@@ -137,24 +137,24 @@ pairs_by item pair (suc n) (one_due f fs) (p_entry {i = i} {j = j} h r) = rw (en
 heads_pairs : {ns ms : Nodes} (n : ℕ) → FormedAll (copies n grammar.Item) ns → Pairs ns ms → Forall₂ (ItemHeads Head) (map item_of (nodes ns)) (map item_of (nodes ms))
 heads_pairs = pairs_by (λ t u f h. item_heads (λ l k q. q) Head (λ t u f q. head_same f q) f h) (λ l k ps qs h. tt)
 
-module _ (m n : Model) (same-field : (x : Name) → SameField (renumbered m n) x) (same-event : (x : Name) → SameEvent (renumbered m n) x) where
+module _ (m n : Model) (same_field : (x : Name) → SameField (renumbered m n) x) (same-event : (x : Name) → SameEvent (renumbered m n) x) where
   abbrev S : Setting
   S = renumbered m n
 
   named_twin : {t u : Node} → MovedTwin t u → SettingTwin S t u
-  named_twin h = twin_map (all_named S same-field same-event) h
+  named_twin h = twin_map (all_named S same_field same-event) h
 
-  clauses-skip : {ns ms : Nodes} → Skips ns ms → ClausesLike S (map clause_of (nodes ns)) (map clause_of (nodes ms))
+  clauses_skip : {ns ms : Nodes} → Skips ns ms → ClausesLike S (map clause_of (nodes ns)) (map clause_of (nodes ms))
   unfolding nodes
-  clauses-skip s_nil = c_nil
-  clauses-skip (s_twin h r) = c_cons (clause_twin (named_twin h)) (clauses-skip r)
-  clauses-skip (s_skip h r) = c_skip h (clauses-skip r)
+  clauses_skip s_nil = c_nil
+  clauses_skip (s_twin h r) = c_cons (clause_twin (named_twin h)) (clauses_skip r)
+  clauses_skip (s_skip h r) = c_skip h (clauses_skip r)
 
   entry_pair : {l k : Line} {ps qs : Nodes} (h : EntryPair l k ps qs)
       → EntryLike S (entry_in h.left.params h.left.clauses h.left.body) (entry_in h.right.params h.right.clauses h.right.body)
   entry_pair h = record {
     params = all_params _ h.left.formed h.params;
-    clauses = clauses-skip h.clauses;
+    clauses = clauses_skip h.clauses;
     body = map₂ stmt_of stmt_of (λ t u q. stmt_twin (named_twin q)) (nodes_twins h.body);
   }
 
@@ -168,4 +168,4 @@ idle_clauses ns ms k f h =
     let m = items_of ns in
     let n = items_of ms in
     let q = build_by (heads_pairs k f h) in
-    check_renumbered m n (build_by (like_pairs m n (every-field (renumbered m n) q.fields) (every-event (renumbered m n) q.events) k f h))
+    check_renumbered m n (build_by (like_pairs m n (every_field (renumbered m n) q.fields) (every_event (renumbered m n) q.events) k f h))

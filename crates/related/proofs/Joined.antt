@@ -22,7 +22,7 @@ use Rattle.rules.proofs.Pure.{pure_declared}
 use Rattle.related.proofs.Like.{same_new, same-genesis}
 use Rattle.related.proofs.LikeStatements.{a_predicate}
 use Rattle.related.proofs.LikeEntries.{uses_like}
-use Rattle.related.proofs.LikeCheck.{PartLike, a_entry, a_check-field, a_genesis, values_like}
+use Rattle.related.proofs.LikeCheck.{PartLike, a_entry, a_check_field, a_genesis, values_like}
 use Rattle.related.proofs.Compared.{renumbered}
 use Rattle.related.proofs.Unrefused.{Passes, passes_then, passes_parts, passes_both, passes_append, passes_alike}
 use Rattle.related.proofs.Lookups.{field_in, last_before}
@@ -79,10 +79,10 @@ uses_pass seen (u ∷ us) vs a b h k =
     both [] a b = tt
     both (v ∷ vs) a b = (rw ((or_parts (differs v u) (any (differs v) us) b.0).0, a.0), both vs a.1 b.1)
 
-all_uses-append : (m : Model) (es fs : List Entry) → uses m (es ++ fs) ≡ uses m es ++ uses m fs
+all_uses_append : (m : Model) (es fs : List Entry) → uses m (es ++ fs) ≡ uses m es ++ uses m fs
 unfolding uses
-all_uses-append m [] fs = refl
-all_uses-append m (e ∷ es) fs = rw (all_uses-append m es fs) (sym (append_assoc (uses_of m (name_params e.params) (keyed_in (entry_exprs e))) (uses m es) (uses m fs)))
+all_uses_append m [] fs = refl
+all_uses_append m (e ∷ es) fs = rw (all_uses_append m es fs) (sym (append_assoc (uses_of m (name_params e.params) (keyed_in (entry_exprs e))) (uses m es) (uses m fs)))
 
 -- a use is of a Map or Registry
 abbrev OfKeyed : Model → Use → Type 0
@@ -100,10 +100,10 @@ of_keyed m names (k ∷ ks) = by_cases (is_keyed m k.0) refl (of_keyed m names k
     by_cases true e r = (e, r)
     by_cases false e r = r
 
-uses-keyed : (m : Model) (es : List Entry) → All (OfKeyed m) (uses m es)
+uses_keyed : (m : Model) (es : List Entry) → All (OfKeyed m) (uses m es)
 unfolding uses
-uses-keyed m [] = tt
-uses-keyed m (e ∷ es) = all_append (OfKeyed m) (uses_of m (name_params e.params) (keyed_in (entry_exprs e))) (uses m es) (of_keyed m (name_params e.params) (keyed_in (entry_exprs e))) (uses-keyed m es)
+uses_keyed m [] = tt
+uses_keyed m (e ∷ es) = all_append (OfKeyed m) (uses_of m (name_params e.params) (keyed_in (entry_exprs e))) (uses m es) (of_keyed m (name_params e.params) (keyed_in (entry_exprs e))) (uses_keyed m es)
 
 module _ (m n : Model) (disjoint : (x : Name) → is_keyed m x ≡ true → is_keyed n x ≡ true → ⊥) where
   differ_not : (u v : Use) → OfKeyed m u → OfKeyed n v → differs v u ≡ false
@@ -145,7 +145,7 @@ module _ (M N A B : Model) (a : PartLike (renumbered M (joined A B)) M A) (b : P
   before-joined : Passes (before_entries M) → Passes (before_entries N) → Passes (before_entries J)
   unfolding before_entries joined
   before-joined =
-      passes_both (each_joined a.fields b.fields (λ f g q. a_check-field (same_new refl) q) (λ f g q. a_check-field (same_new refl) q))
+      passes_both (each_joined a.fields b.fields (λ f g q. a_check_field (same_new refl) q) (λ f g q. a_check_field (same_new refl) q))
       (passes_both (λ h k. passes_append _ A.events B.events (rw (← a.events) h) (rw (← b.events) k))
       (passes_both
       (λ h k.
@@ -161,8 +161,8 @@ module _ (M N A B : Model) (a : PartLike (renumbered M (joined A B)) M A) (b : P
       let v : uses N N.entries ≡ uses J B.entries = uses_like (renumbered N J) b.entries in
       let us : List Use = uses M M.entries in
       let vs : List Use = uses N N.entries in
-      rw (all_uses-append J A.entries B.entries, ← u, ← v)
-      (uses_pass [] us vs (nothing_seen vs) (agree M N disjoint us vs (uses-keyed M M.entries) (uses-keyed N N.entries)) h k)
+      rw (all_uses_append J A.entries B.entries, ← u, ← v)
+      (uses_pass [] us vs (nothing_seen vs) (agree M N disjoint us vs (uses_keyed M M.entries) (uses_keyed N N.entries)) h k)
 
   pub check-joined : Passes (check M) → Passes (check N) → Passes (check J)
   unfolding check joined

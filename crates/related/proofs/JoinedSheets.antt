@@ -18,7 +18,7 @@ use Rattle.sheet.specs.Tree.{Node, trees}
 use Rattle.sheet.specs.Held.{Formed, formed}
 use Rattle.sheet.specs.Same.{SameLine}
 use Rattle.sheet.specs.Joined.{Reads, Joins}
-use Rattle.sheet.proofs.Joining.{joined-read}
+use Rattle.sheet.proofs.Joining.{joined_read}
 use Rattle.sheet.proofs.Paired.{Opt, opt_none, opt_imp}
 use Rattle.sheet.proofs.Twins.{Twin, twin, Twins, twin_map, twins_map, trees_twins}
 use Rattle.sheet.proofs.Trees.{trees_behind, due-same, rest_due}
@@ -36,9 +36,9 @@ use Rattle.related.proofs.LikeCheck.{PartLike}
 use Rattle.related.proofs.Compared.{renumbered}
 use Rattle.related.proofs.Joined.{check-joined}
 use Rattle.related.proofs.TwinItems.{head_same, items_of, Heads, heads_of, part_of}
-use Rattle.related.proofs.Sheets.{items-read, items-before}
+use Rattle.related.proofs.Sheets.{items_read, items_before}
 use Rattle.related.proofs.Accepted.{zero_passed, passed_zero}
-use Rattle.related.proofs.Lookups.{field_in, last_before, last_behind, first-before, first_behind, found}
+use Rattle.related.proofs.Lookups.{field_in, last_before, last_behind, first_before, first_behind, found}
 use Rattle.related.proofs.Unrefused.{Passes}
 
 -- ------------------------------------------------------------ one of two sheets
@@ -69,12 +69,12 @@ record Half (N M A : Model) : Type 0 where
 half : (s : List ℕ) (types scratch : ℕ) (c : Line) (r a : List Line) (i : ℕ) (N : Model) → load s types scratch ≡ lines (c ∷ r) → Forall₂ SameLine r a → All (Foreign N) r
     → Half N (model_of (c ∷ r)) (items_of (trees i a))
 half s types scratch c r a i N read same foreign =
-    let q = items-read s types scratch c r read in
+    let q = items_read s types scratch c r read in
     let t : Twins (λ i j. Unit) (SameForeign N) (trees 1 r) (trees i a) = trees_twins (λ i j n. tt) (λ l k q. q.0.parts) 1 i tt (same_foreign N foreign same) in
     rw q.2
     (record {
       heads = heads_of (λ l k q. q.0) (HeadForeign N) (field_foreign N) q.0 q.1 t;
-      part = λ J same-field same-event. part_of q.0 q.1 (twins_map (λ l k q. record { same = q.0; field = λ e. same-field l.name (q.1.field e); event = λ e. same-event l.name (q.1.event e) }) t);
+      part = λ J same_field same-event. part_of q.0 q.1 (twins_map (λ l k q. record { same = q.0; field = λ e. same_field l.name (q.1.field e); event = λ e. same-event l.name (q.1.event e) }) t);
     })
 
 module _ {N M A : Model} (h : Half N M A) where
@@ -102,7 +102,7 @@ module _ {M N A B : Model} (p : Half N M A) (q : Half M N B) where
   unfolding field_named event_named joined
   part₁ =
       p.part J (λ x e. rw (last_before x A.fields B.fields (none_there q x e)) (heads_in p x))
-      (λ x e. rw (← p.heads.events, ← q.heads.events) (sym (first-before x M.events N.events e)))
+      (λ x e. rw (← p.heads.events, ← q.heads.events) (sym (first_before x M.events N.events e)))
 
   part₂ : PartLike (renumbered N J) N B
   unfolding field_named event_named joined
@@ -142,13 +142,13 @@ module _ {s₁ s₂ s : List ℕ} {types₁ scratch₁ types₂ scratch₂ types
   pub joined_number : All (Foreign (model_of (c₂ ∷ r₂))) r₁ → All (Foreign (model_of (c₁ ∷ r₁))) r₂
       → (verdict s₁ types₁ scratch₁ message₁).number ≡ 0 → (verdict s₂ types₂ scratch₂ message₂).number ≡ 0 → (verdict s types scratch message).number ≡ 0
   joined_number f g h k =
-      let t = joined-read one two both in
+      let t = joined_read one two both in
       let a = t.0 in
       let b = t.1 in
       let p = half s₁ types₁ scratch₁ c₁ r₁ a 1 (model_of (c₂ ∷ r₂)) one.read t.3 f in
       let q = half s₂ types₂ scratch₂ c₂ r₂ b (1 + length a) (model_of (c₁ ∷ r₁)) two.read t.4 g in
       let e : model_of (c ∷ (a ++ b)) ≡ joined (items_of (trees 1 a)) (items_of (trees (1 + length a) b)) =
-      (items-read s types scratch c (a ++ b) t.2).2 ∙ ap items_of (trees_behind 1 b (due-same (rest_due s₁ types₁ scratch₁ c₁ r₁ one.read) t.3)) ∙ items-before (trees 1 a) (trees (1 + length a) b)
+      (items_read s types scratch c (a ++ b) t.2).2 ∙ ap items_of (trees_behind 1 b (due-same (rest_due s₁ types₁ scratch₁ c₁ r₁ one.read) t.3)) ∙ items_before (trees 1 a) (trees (1 + length a) b)
       in
       passed_zero s types scratch message (c ∷ (a ++ b)) t.2
       (rw e

@@ -111,10 +111,10 @@ list_like (more~ h k) = cons₂ h (list_like k)
 
 -- ------------------------------------------------------------ names
 
-ident-leaf : {S : Setting} {a b : Leaf} → LeafLike S a b → Both (SameField S) (ident_leaf a) (ident_leaf b)
+ident_leaf_lem : {S : Setting} {a b : Leaf} → LeafLike S a b → Both (SameField S) (ident_leaf a) (ident_leaf b)
 unfolding ident_leaf
-ident-leaf (l_text f) = b_none
-ident-leaf {S} (l_same {k = k} h) = by_cases (ident_leaf k) h
+ident_leaf_lem (l_text f) = b_none
+ident_leaf_lem {S} (l_same {k = k} h) = by_cases (ident_leaf k) h
   where
     by_cases : (o : Option Name) → ((x : Name) → o ≡ some x → SameField S x) → Both (SameField S) o o
     by_cases none f = b_none
@@ -126,29 +126,29 @@ ident_like {S} {e} {f} h = by_cases (leaf_like h)
   where
     by_cases : {o u : Option Leaf} → Opt (LeafLike S) o u → Both (SameField S) (elim o [ none ↦ none | some k ↦ ident_leaf k ]) (elim u [ none ↦ none | some k ↦ ident_leaf k ])
     by_cases o_none = b_none
-    by_cases (o_some r) = ident-leaf r
+    by_cases (o_some r) = ident_leaf_lem r
 
 both_same : {A : Type 0} {P : A → Type 0} {o u : Option A} → Both P o u → o ≡ u
 both_same b_none = refl
 both_same (b_some p) = refl
 
-pub ident-same : {S : Setting} {e f : Expr} → ExprLike S e f → ident_of e ≡ ident_of f
-ident-same h = both_same (ident_like h)
+pub ident_same : {S : Setting} {e f : Expr} → ExprLike S e f → ident_of e ≡ ident_of f
+ident_same h = both_same (ident_like h)
 
-pub has-leaf : {S : Setting} {a b : Leaf} (xs : List Name) → LeafLike S a b → leaf_has xs a ≡ leaf_has xs b
+pub has_leaf : {S : Setting} {a b : Leaf} (xs : List Name) → LeafLike S a b → leaf_has xs a ≡ leaf_has xs b
 unfolding leaf_has
-has-leaf xs h = rw (leaf_has, both_same (ident-leaf h))
+has_leaf xs h = rw (leaf_has, both_same (ident_leaf_lem h))
 
 pub is_like : {S : Setting} {e f : Expr} (w : String) → ExprLike S e f → ident_is e w ≡ ident_is f w
 unfolding ident_is
-is_like w h = rw (ident_is, ident-same h)
+is_like w h = rw (ident_is, ident_same h)
 
 pub id_like : {S : Setting} (x : Name) → SameField S x → LeafLike S (id x) (id x)
 unfolding ident_leaf
-id_like {S} x k = l_same (λ y e. same-field y e)
+id_like {S} x k = l_same (λ y e. same_field y e)
   where
-    same-field : (y : Name) → some x ≡ some y → SameField S y
-    same-field y e = let q : x ≡ y = cc in rw (← q) k
+    same_field : (y : Name) → some x ≡ some y → SameField S y
+    same_field y e = let q : x ≡ y = cc in rw (← q) k
 
 -- ------------------------------------------------------------ lookups
 

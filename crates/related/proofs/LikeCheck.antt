@@ -16,14 +16,14 @@ use Rattle.related.proofs.Alike.{Setting, a_ret, Alike, a_same, a_bind, a_then, 
 use Rattle.rules.proofs.Pure.{pure_declared}
 use Rattle.related.proofs.Like.{Head, SameField, ExprLike, leaf~, span_like, id_like, last_like, SameEnv, same_new, same-genesis, same-bound}
 use Rattle.related.proofs.LikeTyping.{AskedLike, name_like, a_ask_of, a_ty_of}
-use Rattle.related.proofs.LikeStatements.{StmtLike, guard~, bind~, emit~, assign~, do~, a_emit, a_assign, a_stmt-types, a_predicate, a_recipient, a_no_asset, a_assets, a_narrow_all}
+use Rattle.related.proofs.LikeStatements.{StmtLike, guard~, bind~, emit~, assign~, do~, a_emit, a_assign, a_stmt_types, a_predicate, a_recipient, a_no_asset, a_assets, a_narrow_all}
 use Rattle.related.proofs.LikeEntries.{ClauseLike, limits~, denies~, mints~, after~, IdleClause, idle, a_clauses, EntryLike, a_sums, a_key_kinds}
 
 pub record FieldLike (S : Setting) (f g : Field) : Type 0 where
   pub head : Head f g
   pub nspan : f.nspan ≡ g.nspan
   pub default : Opt (ExprLike S) f.default g.default
-  pub same-field : SameField S f.name
+  pub same_field : SameField S f.name
 
 -- two models, of whose fields, expressions, statements and entries this holds one by one
 pub record ModelBy (F : Field → Field → Type 0) (E : Expr → Expr → Type 0) (B : Stmt → Stmt → Type 0) (N : Entry → Entry → Type 0) (m n : Model) : Type 0 where
@@ -61,8 +61,8 @@ module _ {S : Setting} where
   a_body e (cons₂ (guard~ h) k) = a_then (a_predicate e h) (a_body e k)
   a_body e (cons₂ (bind~ {x = x} h) k) = a_bind (a_ty_of e h) (λ t. a_then (a_local t h) (a_body (same-bound x t _ _ e) k))
   a_body e (cons₂ (emit~ {x = x} q h) k) = a_then (a_each h (λ a b r. a_then (a_ty_of e r) (a_ret tt))) (a_then (a_emit e x q h) (a_body e k))
-  a_body e (cons₂ (assign~ h j) k) = a_then (a_stmt-types e (assign~ h j)) (a_body e k)
-  a_body e (cons₂ (do~ h) k) = a_then (a_stmt-types e (do~ h)) (a_then (a_recipient e h) (a_body e k))
+  a_body e (cons₂ (assign~ h j) k) = a_then (a_stmt_types e (assign~ h j)) (a_body e k)
+  a_body e (cons₂ (do~ h) k) = a_then (a_stmt_types e (do~ h)) (a_then (a_recipient e h) (a_body e k))
 
   a_clause_assets : {c d : Clause} → ClauseLike S c d → Alike S (clause_assets c) (clause_assets d)
   unfolding clause_assets
@@ -95,23 +95,23 @@ module _ {S : Setting} where
   a_made_up : {Γ Δ : Env} {f g : Field} → SameEnv S Γ Δ → FieldLike S f g → AskedLike S (made_up Γ f) (made_up Δ g)
   unfolding made_up
   a_made_up {f = f} e h = record {
-    expr = rw (h.nspan, ← h.head.name) (leaf~ S.line_zero (id_like f.name h.same-field));
-    ty = rw (← h.head.name, name_like e f.name h.same-field) (a_ret _);
+    expr = rw (h.nspan, ← h.head.name) (leaf~ S.line_zero (id_like f.name h.same_field));
+    ty = rw (← h.head.name, name_like e f.name h.same_field) (a_ret _);
   }
 
   a_default : {Γ Δ : Env} {f g : Field} {v w : Expr} → SameEnv S Γ Δ → FieldLike S f g → ExprLike S v w → Alike S (check_default Γ f v) (check_default Δ g w)
   unfolding check_default
   a_default e h k = a_then (rw (h.head.ty, span_like k) (a_same (search pure_declared))) (a_assign e Set (a_made_up e h) (a_ask_of e k))
 
-  pub a_check-field : {Γ Δ : Env} {f g : Field} → SameEnv S Γ Δ → FieldLike S f g → Alike S (check_field Γ f) (check_field Δ g)
+  pub a_check_field : {Γ Δ : Env} {f g : Field} → SameEnv S Γ Δ → FieldLike S f g → Alike S (check_field Γ f) (check_field Δ g)
   unfolding check_field
-  a_check-field e h =
+  a_check_field e h =
       a_then (rw h.head.ty (a_same (search pure_declared)))
       (a_then (rw (h.head.ty, h.head.name) (a_same (search pure_declared))) (a_some h.default (λ v w k. a_default e h k)))
 
   pub a_genesis : {Γ Δ : Env} {s u : Stmt} → SameEnv S Γ Δ → StmtLike S s u → Alike S (check_genesis Γ s) (check_genesis Δ u)
   unfolding check_genesis
-  a_genesis e h = a_then (a_stmt-types e h) (a_assets h)
+  a_genesis e h = a_then (a_stmt_types e h) (a_assets h)
 
   pub values_like : {fs gs : List Field} → Forall₂ (FieldLike S) fs gs → Forall₂ (FieldLike S) (values fs) (values gs)
   unfolding values
@@ -131,7 +131,7 @@ module _ {S : Setting} where
   unfolding before_entries
   a_before h =
       let e = same_new refl in
-      a_then (a_each h.fields (λ f g k. a_check-field e k))
+      a_then (a_each h.fields (λ f g k. a_check_field e k))
       (a_then (rw h.events (a_same (search pure_declared)))
       (a_then (a_each (values_like h.fields) (λ f g k. rw k.head.ty (a_same (search pure_declared))))
       (a_then (a_each h.entries (λ a b k. rw k.params (a_same (search pure_declared)))) (a_each h.invariants (λ a b k. a_predicate e k)))))

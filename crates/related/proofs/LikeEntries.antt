@@ -17,7 +17,7 @@ use Rattle.rules.specs.Arithmetic.{any, is_op, acknowledged, amount_of, is_minte
 use Rattle.rules.specs.KeyKinds.{Keyed, keyed_here, keyed_calls, keyed_calls_all, present, clause_exprs, body_exprs, entry_exprs, keyed_in, Use, name_params, is_keyed, is_name_key, uses_of, uses, check_key_kinds}
 use Rattle.related.proofs.Alike.{Setting, a_ret, Alike, a_same, a_bind, a_some, a_maybe, a_each}
 use Rattle.rules.proofs.Pure.{pure, p_uses}
-use Rattle.related.proofs.Like.{SameField, Both, b_none, b_some, LeafLike, l_text, l_same, ExprLike, leaf~, unary~, binary~, field~, call~, wrap~, ExprsLike, nil~, more~, span_like, leaf_like, DotLike, dot_like, ident_like, ident-same, has-leaf}
+use Rattle.related.proofs.Like.{SameField, Both, b_none, b_some, LeafLike, l_text, l_same, ExprLike, leaf~, unary~, binary~, field~, call~, wrap~, ExprsLike, nil~, more~, span_like, leaf_like, DotLike, dot_like, ident_like, ident_same, has_leaf}
 use Rattle.related.proofs.LikeTyping.{of_type_lem}
 use Rattle.related.proofs.LikeStatements.{StmtLike, guard~, bind~, emit~, assign~, do~}
 
@@ -62,7 +62,7 @@ pub record EntryLike (S : Setting) (a b : Entry) : Type 0 where
 -- the map's name and the key of a keyed call
 record KeyedLike (S : Setting) (a b : Keyed) : Type 0 where
   map : a.0 ≡ b.0
-  same-field : SameField S a.0
+  same_field : SameField S a.0
   key : ExprLike S a.1 b.1
 
 any_like : {A B : Type 0} {R : A → B → Type 0} {as' : List A} {bs : List B} (p : A → Bool) (q : B → Bool) → ((a : A) (b : B) → R a b → p a ≡ q b) → Forall₂ R as' bs → any p as' ≡ any q bs
@@ -102,7 +102,7 @@ module _ {S : Setting} where
 
       by_cases : {o u : Option Dot} → Opt (DotLike S) o u → by o ≡ by u
       by_cases o_none = refl
-      by_cases (o_some r) = rw (r.name, ident-same r.base)
+      by_cases (o_some r) = rw (r.name, ident_same r.base)
 
   is-int : {e f : Expr} → ExprLike S e f → is_some (int_of e) ≡ is_some (int_of f)
   unfolding int_of is_some literal
@@ -138,7 +138,7 @@ module _ {S : Setting} where
     unfolding mentions
 
     mentions_like : {e f : Expr} (x : Name) → ExprLike S e f → mentions e x ≡ mentions f x
-    mentions_like x (leaf~ l h) = has-leaf (x ∷ []) h
+    mentions_like x (leaf~ l h) = has_leaf (x ∷ []) h
     mentions_like x (unary~ l h) = mentions_like x h
     mentions_like x (binary~ l h k) = rw (mentions_like x h, mentions_like x k)
     mentions_like x (field~ l h) = mentions_like x h
@@ -186,7 +186,7 @@ module _ {S : Setting} where
 
   target_like : {a b c d : Expr} → ExprLike S a c → ExprLike S b d → same_target a b ≡ same_target c d
   unfolding same_target
-  target_like {c = c} h k = rw (same_target, ident-same h) (ap (λ (o : Option Name). elim (ident_of c) [ none ↦ false | some x ↦ elim o [ none ↦ false | some y ↦ same x y ] ]) (ident-same k))
+  target_like {c = c} h k = rw (same_target, ident_same h) (ap (λ (o : Option Name). elim (ident_of c) [ none ↦ false | some x ↦ elim o [ none ↦ false | some y ↦ same x y ] ]) (ident_same k))
 
   without_like : {t u : Expr} {es fs : List Expr} → ExprLike S t u → Forall₂ (ExprLike S) es fs → Opt (Forall₂ (ExprLike S)) (without t es) (without u fs)
   unfolding without
@@ -217,16 +217,16 @@ module _ {S : Setting} where
   addends_like AddTo h k = o_some (terms_like k)
   addends_like SubFrom h k = o_none
 
-  is-mints : {c d : Clause} → ClauseLike S c d → is_mints c ≡ is_mints d
+  is_mints_lem : {c d : Clause} → ClauseLike S c d → is_mints c ≡ is_mints d
   unfolding is_mints
-  is-mints (limits~ h) = refl
-  is-mints (denies~ h) = refl
-  is-mints mints~ = refl
-  is-mints (after~ h k) = refl
+  is_mints_lem (limits~ h) = refl
+  is_mints_lem (denies~ h) = refl
+  is_mints_lem mints~ = refl
+  is_mints_lem (after~ h k) = refl
 
   bounded_like : {a b : Entry} {e f : Expr} → EntryLike S a b → ExprLike S e f → bounded a e ≡ bounded b f
   unfolding bounded bounded_addend is_minted_amount
-  bounded_like {b = b} h k = rw (is-int k, h.params, amount_like (asset_params b.params) k, amount_like (map (λ p. p.name) b.params) k, any_clauses is_mints (λ c d q. is-mints q) idle_mints h.clauses)
+  bounded_like {b = b} h k = rw (is-int k, h.params, amount_like (asset_params b.params) k, amount_like (map (λ p. p.name) b.params) k, any_clauses is_mints (λ c d q. is_mints_lem q) idle_mints h.clauses)
 
   a_sum : {a b : Entry} {s u : Stmt} (ps : List (Name × Ty)) → EntryLike S a b → StmtLike S s u → Alike S (check_sum a ps s) (check_sum b ps u)
   unfolding check_sum
@@ -237,7 +237,7 @@ module _ {S : Setting} where
       a_some (rw (acknowledged_like k) (opt_either (acknowledged w) o_none (addends_like o h k)))
       (λ es fs r.
       let n : any (λ t. not (bounded a t)) es ≡ any (λ t. not (bounded b t)) fs = any_like _ _ (λ e f n. ap not (bounded_like q n)) r in
-      rw n (a_maybe (ident-same h) (λ x. rw (bound_like x q) (a_same (search pure)))))
+      rw n (a_maybe (ident_same h) (λ x. rw (bound_like x q) (a_same (search pure)))))
   a_sum ps q (do~ h) = a_ret tt
 
   pub a_sums : {a b : Entry} {ps qs : List (Name × Ty)} → ps ≡ qs → EntryLike S a b → Alike S (check_arithmetic a ps) (check_arithmetic b qs)
@@ -257,7 +257,7 @@ module _ {S : Setting} where
 
       by_cases : (b : Bool) {o u : Option Name} → Both (SameField S) o u → Forall₂ (KeyedLike S) (by b e o) (by b f u)
       by_cases b b_none = nil₂
-      by_cases true (b_some n) = cons₂ (record { map = refl; same-field = n; key = h }) nil₂
+      by_cases true (b_some n) = cons₂ (record { map = refl; same_field = n; key = h }) nil₂
       by_cases false (b_some n) = nil₂
 
   mutual
@@ -309,18 +309,18 @@ module _ {S : Setting} where
 
   name_key : {e f : Expr} (names : List Name) → ExprLike S e f → is_name_key names e ≡ is_name_key names f
   unfolding is_name_key
-  name_key names h = rw (is_name_key, ident-same h)
+  name_key names h = rw (is_name_key, ident_same h)
 
-is-keyed : (S : Setting) (x : Name) → SameField S x → is_keyed S.left x ≡ is_keyed S.right x
+is_keyed_lem : (S : Setting) (x : Name) → SameField S x → is_keyed S.left x ≡ is_keyed S.right x
 unfolding is_keyed
-is-keyed S x h = of_type_lem false (λ f. is_one (type_name f.ty) ("Map" ∷ "Registry" ∷ [])) (λ f g e. rw e) h
+is_keyed_lem S x h = of_type_lem false (λ f. is_one (type_name f.ty) ("Map" ∷ "Registry" ∷ [])) (λ f g e. rw e) h
 
 module _ (S : Setting) where
   uses_of_lem : {ks js : List Keyed} (names : List Name) → Forall₂ (KeyedLike S) ks js → uses_of S.left names ks ≡ uses_of S.right names js
   unfolding uses_of
   uses_of_lem names nil₂ = refl
   uses_of_lem names (cons₂ {a = i} {b = j} {l₁ = ks} {l₂ = js} h k) =
-      let p : is_keyed S.left i.0 ≡ is_keyed S.right j.0 = rw h.map (is-keyed S j.0 (rw h.map at h.same-field)) in
+      let p : is_keyed S.left i.0 ≡ is_keyed S.right j.0 = rw h.map (is_keyed_lem S j.0 (rw h.map at h.same_field)) in
       by_cases p (rw (h.map, name_key names h.key, span_like h.key)) (uses_of_lem names k)
     where
       told : Keyed → Use

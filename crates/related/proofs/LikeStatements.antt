@@ -19,7 +19,7 @@ use Rattle.rules.specs.Statements.{emit_mismatch, check_emit_field, check_emit_f
 use Rattle.rules.specs.Assets.{makes_asset, no_asset_call, no_asset_calls, consumed_asset_call, asset_calls_consumed, wraps, wraps_any, reaches, narrow_arg, narrow_values, narrow_set, narrow_stmt, wrapped_after, narrow_stmts}
 use Rattle.rules.proofs.Pure.{pure}
 use Rattle.related.proofs.Alike.{Setting, a_ret, Alike, a_same, a_bind, a_then, a_provided, a_some, a_maybe, a_else, a_each, a_for}
-use Rattle.related.proofs.Like.{Head, SameField, Both, b_none, b_some, ExprLike, leaf~, unary~, binary~, field~, call~, wrap~, ExprsLike, nil~, more~, span_like, DotLike, dot_like, call_like, list_like, ident_like, ident-same, has-leaf, is_like, SameEnv}
+use Rattle.related.proofs.Like.{Head, SameField, Both, b_none, b_some, ExprLike, leaf~, unary~, binary~, field~, call~, wrap~, ExprsLike, nil~, more~, span_like, DotLike, dot_like, call_like, list_like, ident_like, ident_same, has_leaf, is_like, SameEnv}
 use Rattle.related.proofs.LikeTyping.{TextOnly, t_ret, a_text, t_expect, of_type_lem, AskedLike, field_in_lem, param_like, a_keyed, int_like, a_typings, a_ask_of, a_ty_of}
 
 -- both models have the same event of this name
@@ -85,13 +85,13 @@ module _ {S : Setting} {Γ Δ : Env} (same : SameEnv S Γ Δ) where
   unfolding emit_mismatch
   mismatch_like want got h = ap (λ (b : Bool). elim (eq_ty want TName) [ true ↦ not (eq_ty got TName) || not b | false ↦ is_ty got (TName ∷ Collection ∷ []) || eq_ty want Collection || (eq_ty got Address && one_word want) ]) (param_like same h)
 
-  a_emit-field : {e f : Expr} (p : Param) → ExprLike S e f → Alike S (check_emit_field Γ e p) (check_emit_field Δ f p)
+  a_emit_field : {e f : Expr} (p : Param) → ExprLike S e f → Alike S (check_emit_field Γ e p) (check_emit_field Δ f p)
   unfolding check_emit_field
-  a_emit-field p h = a_bind (a_ty_of same h) (λ t. rw (span_like h, mismatch_like _ t h) (a_same (search pure)))
+  a_emit_field p h = a_bind (a_ty_of same h) (λ t. rw (span_like h, mismatch_like _ t h) (a_same (search pure)))
 
   pub a_emit : {es fs : List Expr} (x : Name) → SameEvent S x → Forall₂ (ExprLike S) es fs → Alike S (check_emit_fields Γ x es) (check_emit_fields Δ x fs)
   unfolding check_emit_fields
-  a_emit x q h = a_maybe (rw (same.left, same.right) q) (λ d. a_each (zip_like d.params h) (λ a b r. rw r.1 (a_emit-field b.1 r.0)))
+  a_emit x q h = a_maybe (rw (same.left, same.right) q) (λ d. a_each (zip_like d.params h) (λ a b r. rw r.1 (a_emit_field b.1 r.0)))
 
   -- ------------------------------------------------------------ assignments
 
@@ -128,9 +128,9 @@ module _ {S : Setting} {Γ Δ : Env} (same : SameEnv S Γ Δ) where
   fits_like AddTo slot given h = refl
   fits_like SubFrom slot given h = refl
 
-  a_judge-assign : {t u v w : Expr} (o : AssignOp) (slot given : Ty) → ExprLike S t u → ExprLike S v w → Alike S (judge_assign Γ o t v slot given) (judge_assign Δ o u w slot given)
+  a_judge_assign : {t u v w : Expr} (o : AssignOp) (slot given : Ty) → ExprLike S t u → ExprLike S v w → Alike S (judge_assign Γ o t v slot given) (judge_assign Δ o u w slot given)
   unfolding judge_assign
-  a_judge-assign o slot given h k =
+  a_judge_assign o slot given h k =
       a_then (rw (span_like h) (a_same (search pure)))
       (a_then (a_name h (λ x n. a_address o x slot given n k))
       (a_then (a_name h (λ x n. a_wrap x n k))
@@ -138,7 +138,7 @@ module _ {S : Setting} {Γ Δ : Env} (same : SameEnv S Γ Δ) where
 
   pub a_assign : {a b c d : Asked} (o : AssignOp) → AskedLike S a b → AskedLike S c d → Alike S (check_assign Γ o a c) (check_assign Δ o b d)
   unfolding check_assign
-  a_assign o h k = a_bind h.ty (λ t. a_bind k.ty (λ u. a_judge-assign o t u h.expr k.expr))
+  a_assign o h k = a_bind h.ty (λ t. a_bind k.ty (λ u. a_judge_assign o t u h.expr k.expr))
 
   -- ------------------------------------------------------------ statements
 
@@ -146,13 +146,13 @@ module _ {S : Setting} {Γ Δ : Env} (same : SameEnv S Γ Δ) where
   unfolding check_keyed_use
   a_use h = a_some (call_like h) (λ c d r. a_keyed same r.callee (a_typings same r.args))
 
-  pub a_stmt-types : {s u : Stmt} → StmtLike S s u → Alike S (check_stmt_types Γ s) (check_stmt_types Δ u)
+  pub a_stmt_types : {s u : Stmt} → StmtLike S s u → Alike S (check_stmt_types Γ s) (check_stmt_types Δ u)
   unfolding check_stmt_types
-  a_stmt-types (guard~ h) = a_ret tt
-  a_stmt-types (bind~ h) = a_ret tt
-  a_stmt-types (emit~ q h) = a_ret tt
-  a_stmt-types (assign~ {o = o} h k) = a_assign o (a_ask_of same h) (a_ask_of same k)
-  a_stmt-types (do~ h) = a_bind (a_ty_of same h) (λ _. a_use h)
+  a_stmt_types (guard~ h) = a_ret tt
+  a_stmt_types (bind~ h) = a_ret tt
+  a_stmt_types (emit~ q h) = a_ret tt
+  a_stmt_types (assign~ {o = o} h k) = a_assign o (a_ask_of same h) (a_ask_of same k)
+  a_stmt_types (do~ h) = a_bind (a_ty_of same h) (λ _. a_use h)
 
   pub a_predicate : {e f : Expr} → ExprLike S e f → Alike S (expect_predicate Γ e) (expect_predicate Δ f)
   unfolding expect_predicate
@@ -160,7 +160,7 @@ module _ {S : Setting} {Γ Δ : Env} (same : SameEnv S Γ Δ) where
 
   positions_like : {c d : Expr} → ExprLike S c d → positions c ≡ positions d
   unfolding positions
-  positions_like h = rw (positions, ident-same h)
+  positions_like h = rw (positions, ident_same h)
 
   pub a_recipient : {e f : Expr} → ExprLike S e f → Alike S (refuse_name_recipient Γ e) (refuse_name_recipient Δ f)
   unfolding refuse_name_recipient
@@ -215,7 +215,7 @@ module _ {S : Setting} where
     unfolding wraps
 
     wraps_like : {e f : Expr} (xs : List Name) → ExprLike S e f → wraps xs e ≡ wraps xs f
-    wraps_like xs (leaf~ l h) = has-leaf xs h
+    wraps_like xs (leaf~ l h) = has_leaf xs h
     wraps_like xs (unary~ l h) = wraps_like xs h
     wraps_like xs (binary~ l h k) = rw (wraps_like xs h, wraps_like xs k)
     wraps_like xs (field~ l h) = refl

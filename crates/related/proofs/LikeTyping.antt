@@ -16,7 +16,7 @@ use Rattle.rules.specs.Model.{field_named}
 use Rattle.rules.specs.Typing.{Env, ident_leaf, Dot, ident_is, Asked, is_name_param, state_field_of, keyed_field, is_pool, judge_key, check_keys, check_amount, check_keyed_call, expect_keyed_op, expect_asset_receiver, ty_of_ident, ty_of_leaf, ty_of_get, ty_of_call, ask_each, type_call, expect_numeric_or, expect_number, judge_unary, logical, arithmetic, ordering, equality, judge_binary, ty_of_unary, ty_of_binary, asked, typing, typings, ask_of, ty_of}
 use Rattle.rules.proofs.Pure.{pure}
 use Rattle.related.proofs.Alike.{Setting, a_ret, a_left, a_right, a_ask, Alike, a_same, a_bind, a_then, a_provided, a_some}
-use Rattle.related.proofs.Like.{Head, SameField, Both, b_none, b_some, LeafLike, l_text, l_same, ExprLike, leaf~, unary~, binary~, field~, call~, wrap~, ExprsLike, nil~, more~, span_like, line_like, leaf_like, DotLike, dot_like, ident_like, ident-same, is_like, SameEnv}
+use Rattle.related.proofs.Like.{Head, SameField, Both, b_none, b_some, LeafLike, l_text, l_same, ExprLike, leaf~, unary~, binary~, field~, call~, wrap~, ExprsLike, nil~, more~, span_like, line_like, leaf_like, DotLike, dot_like, ident_like, ident_same, is_like, SameEnv}
 
 -- a rule that gives tt, or refuses for the text of a literal
 pub data TextOnly : Rule Unit → Type 1 where
@@ -59,7 +59,7 @@ module _ {S : Setting} {Γ Δ : Env} (same : SameEnv S Γ Δ) where
 
   pub param_like : {e f : Expr} → ExprLike S e f → is_name_param Γ e ≡ is_name_param Δ f
   unfolding is_name_param
-  param_like h = ap₂ by same.params (ident-same h)
+  param_like h = ap₂ by same.params (ident_same h)
     where
       by : List (Name × Ty) → Option Name → Bool
       by ps o = elim o [ none ↦ false | some x ↦ elim (get x ps) [ none ↦ false | some t ↦ eq_ty t TName ] ]
@@ -196,14 +196,14 @@ abbrev AlikeJudge : Setting → (Expr → Expr → Ty → Ty → Rule Ty) → Ty
 AlikeJudge S j = (a b c d : Expr) (t u : Ty) → ExprLike S a c → ExprLike S b d → Alike S (j a b t u) (j c d t u)
 
 module _ {S : Setting} where
-  a_judge-unary : {e f : Expr} (o : UnaryOp) (t : Ty) → ExprLike S e f → Alike S (judge_unary o e t) (judge_unary o f t)
+  a_judge_unary : {e f : Expr} (o : UnaryOp) (t : Ty) → ExprLike S e f → Alike S (judge_unary o e t) (judge_unary o f t)
   unfolding judge_unary expect_numeric_or
-  a_judge-unary Not t h = rw (span_like h) (a_same (search pure))
-  a_judge-unary Neg t h = rw (span_like h) (a_same (search pure))
+  a_judge_unary Not t h = rw (span_like h) (a_same (search pure))
+  a_judge_unary Neg t h = rw (span_like h) (a_same (search pure))
 
-  int-leaf : {a b : Leaf} → LeafLike S a b → (literal a ≡ literal b) ⊎ S.Free
-  int-leaf (l_text f) = inr f
-  int-leaf (l_same h) = inl refl
+  int_leaf : {a b : Leaf} → LeafLike S a b → (literal a ≡ literal b) ⊎ S.Free
+  int_leaf (l_text f) = inr f
+  int_leaf (l_same h) = inl refl
 
   -- the texts of literals are free, or these are the same
   pub int_like : {e f : Expr} → ExprLike S e f → (int_of e ≡ int_of f) ⊎ S.Free
@@ -215,7 +215,7 @@ module _ {S : Setting} where
 
       by_cases : {o u : Option Leaf} → Opt (LeafLike S) o u → (by o ≡ by u) ⊎ S.Free
       by_cases o_none = inl refl
-      by_cases (o_some r) = int-leaf r
+      by_cases (o_some r) = int_leaf r
 
   zero_like : {e f : Expr} → ExprLike S e f → (is_zero_literal e ≡ is_zero_literal f) ⊎ S.Free
   unfolding is_zero_literal
@@ -249,30 +249,30 @@ module _ {S : Setting} where
   unfolding ordering expect_number
   a_ordering a b c d t u h k = rw (span_like h, span_like k) (a_same (search pure))
 
-  a_judge-binary : (o : BinOp) → AlikeJudge S (judge_binary o)
+  a_judge_binary : (o : BinOp) → AlikeJudge S (judge_binary o)
   unfolding judge_binary
-  a_judge-binary Or = a_logical
-  a_judge-binary And = a_logical
-  a_judge-binary Eq = a_equality
-  a_judge-binary Ne = a_equality
-  a_judge-binary Lt = a_ordering
-  a_judge-binary Gt = a_ordering
-  a_judge-binary Le = a_ordering
-  a_judge-binary Ge = a_ordering
-  a_judge-binary Add = a_arithmetic
-  a_judge-binary Sub = a_arithmetic
-  a_judge-binary Mul = a_arithmetic
-  a_judge-binary Div = a_arithmetic
-  a_judge-binary Rem = a_arithmetic
-  a_judge-binary Shr = a_arithmetic
+  a_judge_binary Or = a_logical
+  a_judge_binary And = a_logical
+  a_judge_binary Eq = a_equality
+  a_judge_binary Ne = a_equality
+  a_judge_binary Lt = a_ordering
+  a_judge_binary Gt = a_ordering
+  a_judge_binary Le = a_ordering
+  a_judge_binary Ge = a_ordering
+  a_judge_binary Add = a_arithmetic
+  a_judge_binary Sub = a_arithmetic
+  a_judge_binary Mul = a_arithmetic
+  a_judge_binary Div = a_arithmetic
+  a_judge_binary Rem = a_arithmetic
+  a_judge_binary Shr = a_arithmetic
 
   a_unary : {a b : Asked} (o : UnaryOp) → AskedLike S a b → Alike S (ty_of_unary o a) (ty_of_unary o b)
   unfolding ty_of_unary
-  a_unary o h = a_bind h.ty (λ t. a_judge-unary o t h.expr)
+  a_unary o h = a_bind h.ty (λ t. a_judge_unary o t h.expr)
 
   a_binary : {a b c d : Asked} (o : BinOp) → AskedLike S a c → AskedLike S b d → Alike S (ty_of_binary o a b) (ty_of_binary o c d)
   unfolding ty_of_binary
-  a_binary o h k = a_bind h.ty (λ t. a_bind k.ty (λ u. a_judge-binary o _ _ _ _ t u h.expr k.expr))
+  a_binary o h k = a_bind h.ty (λ t. a_bind k.ty (λ u. a_judge_binary o _ _ _ _ t u h.expr k.expr))
 
 -- ------------------------------------------------------------ the asking
 

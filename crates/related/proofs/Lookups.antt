@@ -30,10 +30,10 @@ last_behind x fs gs e = in_two x fs gs ∙ rw e (or_none _)
 abbrev event_in : Name → List Event → Option Event
 event_in x es = first_named (λ e. e.name) x es
 
-pub first-before : (x : Name) (es ds : List Event) → event_in x ds ≡ none → event_in x (es ++ ds) ≡ event_in x es
+pub first_before : (x : Name) (es ds : List Event) → event_in x ds ≡ none → event_in x (es ++ ds) ≡ event_in x es
 unfolding first_named
-first-before x [] ds h = h
-first-before x (e ∷ es) ds h = ap (λ (o : Option Event). elim (same x e.name) [ true ↦ some e | false ↦ o ]) (first-before x es ds h)
+first_before x [] ds h = h
+first_before x (e ∷ es) ds h = ap (λ (o : Option Event). elim (same x e.name) [ true ↦ some e | false ↦ o ]) (first_before x es ds h)
 
 pub first_behind : (x : Name) (es ds : List Event) → event_in x es ≡ none → event_in x (es ++ ds) ≡ event_in x ds
 unfolding first_named

@@ -15,7 +15,7 @@ use Rattle.sheet.specs.Held.{Due, FormedAll}
 use Rattle.sheet.specs.Same.{SameLine}
 use Rattle.sheet.proofs.Paired.{append₂}
 use Rattle.sheet.proofs.Twins.{twins_map, MovedTwins, moved}
-use Rattle.sheet.proofs.Trees.{trees_behind, first-tree, formed-parts}
+use Rattle.sheet.proofs.Trees.{trees_behind, first_tree, formed_parts}
 use Rattle.rules.specs.Text.{Name}
 use Rattle.rules.specs.Ast.{Entry, entry, nodes, entry_of, item_of}
 use Rattle.rules.specs.Model.{Model, item_model, joined, build}
@@ -25,8 +25,8 @@ use Rattle.related.proofs.Alike.{Setting}
 use Rattle.related.proofs.Compared.{renumbered, entry_renumbered}
 use Rattle.related.proofs.Like.{Head, SameField}
 use Rattle.related.proofs.LikeStatements.{SameEvent}
-use Rattle.related.proofs.Sheets.{items-read, items-before}
-use Rattle.related.proofs.TwinItems.{head_same, items_of, Heads, heads_of, every-field, every-event, all_named, part_of}
+use Rattle.related.proofs.Sheets.{items_read, items_before}
+use Rattle.related.proofs.TwinItems.{head_same, items_of, Heads, heads_of, every_field, every_event, all_named, part_of}
 use Rattle.grammar.specs.Kinds as kinds
 
 -- an entry alone
@@ -34,7 +34,7 @@ one_entry : (i : ℕ) (e : Line) (m : List Line) → Due 1 (e ∷ m) → e.kind 
 unfolding item_of entry_of nodes build
 one_entry i e m d k =
     let z : e.kind - kinds.state ≡ kinds.entry - kinds.state = omega arith in
-    (entry_of (node i e (trees (suc i) m)), rw (first-tree i e m d, z))
+    (entry_of (node i e (trees (suc i) m)), rw (first_tree i e m d, z))
 
 -- the model of the items a, an entry and the items z
 record Divided (M : Model) (a z : Nodes) : Type 0 where
@@ -45,18 +45,18 @@ record Divided (M : Model) (a z : Nodes) : Type 0 where
 
 divided : {c e : Line} {a m z : List Line} → Around c e a m z → Divided (model_of (c ∷ (a ++ ((e ∷ m) ++ z)))) (trees 1 a) (trees (1 + length a + length (e ∷ m)) z)
 divided {c} {e} {a} {m} {z} h =
-    let q = items-read h.read.0 h.read.1 h.read.2 c (a ++ ((e ∷ m) ++ z)) h.read.3 in
+    let q = items_read h.read.0 h.read.1 h.read.2 c (a ++ ((e ∷ m) ++ z)) h.read.3 in
     let A = trees 1 a in
     let E = trees (1 + length a) (e ∷ m) in
     let Z = trees (1 + length a + length (e ∷ m)) z in
     let placed : trees 1 (a ++ ((e ∷ m) ++ z)) ≡ before A (before E Z) = trees_behind 1 ((e ∷ m) ++ z) h.items.1 ∙ ap (before A) (trees_behind (1 + length a) z h.one) in
-    let x = one_entry (1 + length a) e m h.one h.is-entry in
-    let f = formed-parts grammar.Item q.0 A (before E Z) (rw placed at q.1) in
+    let x = one_entry (1 + length a) e m h.one h.is_entry in
+    let f = formed_parts grammar.Item q.0 A (before E Z) (rw placed at q.1) in
     record {
       one = x.0;
-      whole = q.2 ∙ ap items_of placed ∙ items-before A (before E Z) ∙ ap (joined (items_of A)) (items-before E Z ∙ ap (λ (n : Model). joined n (items_of Z)) x.1);
+      whole = q.2 ∙ ap items_of placed ∙ items_before A (before E Z) ∙ ap (joined (items_of A)) (items_before E Z ∙ ap (λ (n : Model). joined n (items_of Z)) x.1);
       ahead = f.0;
-      behind = (formed-parts grammar.Item _ E Z f.1).1;
+      behind = (formed_parts grammar.Item _ E Z f.1).1;
     }
 
 same-results : {A B C : Type 0} (f : A → C) (g : B → C) {as' : List A} {bs : List B} → Forall₂ (λ a b. f a ≡ g b) as' bs → map f as' ≡ map g bs
@@ -74,18 +74,18 @@ module _ {M N : Model} {a z b y : Nodes} (h : Divided M a z) (k : Divided N b y)
   heads : {ns ms : Nodes} → FormedAll (copies (tree_count ns) grammar.Item) ns → MovedTwins ns ms → Heads Head (items_of ns) (items_of ms)
   heads f t = heads_of (λ l k q. q) Head (λ t u f q. head_same f q) _ f t
 
-  same-field : (x : Name) → SameField S x
+  same_field : (x : Name) → SameField S x
   unfolding joined item_model build
-  same-field = every-field S (rw (h.whole, k.whole) (append₂ (heads h.ahead ahead).fields (heads h.behind behind).fields))
+  same_field = every_field S (rw (h.whole, k.whole) (append₂ (heads h.ahead ahead).fields (heads h.behind behind).fields))
 
   same-event : (x : Name) → SameEvent S x
   unfolding joined item_model build
-  same-event = every-event S (rw (h.whole, k.whole) (ap₂ ◌++◌ (heads h.ahead ahead).events (heads h.behind behind).events))
+  same-event = every_event S (rw (h.whole, k.whole) (ap₂ ◌++◌ (heads h.ahead ahead).events (heads h.behind behind).events))
 
   same : {ns ms : Nodes} → FormedAll (copies (tree_count ns) grammar.Item) ns → MovedTwins ns ms → map (result_in M) (items_of ns).entries ≡ map (result_in N) (items_of ms).entries
   same f t =
       same-results (result_in M) (result_in N)
-      (Forall₂.imp (λ x y q. entry_renumbered M N x y q) (part_of {S = S} _ f (twins_map (all_named S same-field same-event) t)).entries)
+      (Forall₂.imp (λ x y q. entry_renumbered M N x y q) (part_of {S = S} _ f (twins_map (all_named S same_field same-event) t)).entries)
 
   but_one : ButOne (length (items_of a).entries) (results M) (results N)
   but_one = record {

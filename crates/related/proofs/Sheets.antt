@@ -15,13 +15,13 @@ use Rattle.rules.specs.Model.{Model, item_model, joined, build}
 use Rattle.rules.specs.Verdict.{model_of}
 use Rattle.related.proofs.Alike.{setting_of}
 use Rattle.related.proofs.LikeCheck.{ModelLike}
-use Rattle.related.proofs.TwinItems.{items_of, contract-parts, model_like}
+use Rattle.related.proofs.TwinItems.{items_of, contract_parts, model_like}
 
 -- a sheet that is read: its items, behind the first line
-pub items-read : (s : List ℕ) (types scratch : ℕ) (c : Line) (r : List Line) → load s types scratch ≡ lines (c ∷ r)
+pub items_read : (s : List ℕ) (types scratch : ℕ) (c : Line) (r : List Line) → load s types scratch ≡ lines (c ∷ r)
     → (m : ℕ) × FormedAll (copies m grammar.Item) (trees 1 r) × (model_of (c ∷ r) ≡ items_of (trees 1 r))
 unfolding model_of contract_of
-items-read s types scratch c r e = let q = root_of s types scratch c r e in let f = contract-parts q.1 in (f.0, f.1, rw q.0)
+items_read s types scratch c r e = let q = root_of s types scratch c r e in let f = contract_parts q.1 in (f.0, f.1, rw q.0)
 
 nodes-before : (a b : Nodes) → nodes (before a b) ≡ nodes a ++ nodes b
 unfolding nodes before
@@ -38,8 +38,8 @@ build-append [] js = refl
 build-append (i ∷ is') js = rw (build-append is' js) (sym (joined_assoc (item_model i) (build is') (build js)))
 
 -- items before others
-pub items-before : (a b : Nodes) → items_of (before a b) ≡ joined (items_of a) (items_of b)
-items-before a b = rw (nodes-before a b, map-append item_of (nodes a) (nodes b)) (build-append (map item_of (nodes a)) (map item_of (nodes b)))
+pub items_before : (a b : Nodes) → items_of (before a b) ≡ joined (items_of a) (items_of b)
+items_before a b = rw (nodes-before a b, map-append item_of (nodes a) (nodes b)) (build-append (map item_of (nodes a)) (map item_of (nodes b)))
 
 -- ------------------------------------------------------------ two sheets with the same records, line by line
 

@@ -7,7 +7,7 @@ use Rattle.grammar.specs.Grammar.{Contract}
 use Rattle.sheet.specs.Line.{Line}
 use Rattle.sheet.specs.Load.{lines, lines_of, load}
 use Rattle.sheet.specs.Same.{SameButText, LineSameButText}
-use Rattle.sheet.proofs.Loading.{loaded-whole}
+use Rattle.sheet.proofs.Loading.{loaded_whole}
 use Rattle.sheet.proofs.Paired.{length₂}
 use Rattle.sheet.proofs.Rereading.{scan_but_text}
 use Rattle.rules.specs.Asking.{Res, ok, refused, fresh}
@@ -29,7 +29,7 @@ module _ (s z : List ℕ) (types scratch message types' scratch' message' : ℕ)
 
   records_but_text : Forall₂ SameButText ls ks
   records_but_text =
-      scan_but_text (lines_of s) (lines_of z) but-text ((0, Contract) ∷ []) 1 0 1 0 ls ks (loaded-whole s types scratch ls read).1 (loaded-whole z types' scratch' ks also-read).1
+      scan_but_text (lines_of s) (lines_of z) but-text ((0, Contract) ∷ []) 1 0 1 0 ls ks (loaded_whole s types scratch ls read).1 (loaded_whole z types' scratch' ks also-read).1
 
   models : ModelLike (texts (model_of ls) (model_of ks))
   models = lines_like (λ l k. l ≡ k) refl (λ i j. ap suc) Unit s types scratch ls ks read records_but_text

@@ -42,9 +42,9 @@ unfolding copies
 all_copies P zero s h = tt
 all_copies P (suc n) s h = (h, all_copies P n s h)
 
-type-parts : (l : Line) → Parted l → (kinds.type ≤ l.kind) × (l.kind < kinds.limits) → All TypeSort (sorts l.parts)
+type_parts : (l : Line) → Parted l → (kinds.type ≤ l.kind) × (l.kind < kinds.limits) → All TypeSort (sorts l.parts)
 unfolding sorts
-type-parts l p a = pick l.kind each_kind a.0 a.1 refl
+type_parts l p a = pick l.kind each_kind a.0 a.1 refl
   where
     each_kind : Numbers (λ k. l.kind ≡ k → All TypeSort (sorts l.parts)) kinds.type 3
     each_kind =
@@ -67,7 +67,7 @@ module _ {L : ℕ → ℕ → Type 0} {Free : Type 0} where
     arg_same : {s : grammar.Sort} {t u : Node} → Formed s t → TypeSort s → Twin L (SameRecord Free) t u → arg_of t ≡ arg_of u
     arg_same {s} (formed {l = l} a p fs) y (twin {i = i} {j = j} {k = k} {ps = ps} {qs = qs} n h r) =
         let b = in_type s l.kind y a in
-        arg_made i j l k ps qs (l.kind - kinds.type) refl (ap (λ (n : ℕ). n - kinds.type) (sym h.kind)) (same_name h (λ q. omega arith)) h.spans (args-same fs (type-parts l p b) r)
+        arg_made i j l k ps qs (l.kind - kinds.type) refl (ap (λ (n : ℕ). n - kinds.type) (sym h.kind)) (same_name h (λ q. omega arith)) h.spans (args-same fs (type_parts l p b) r)
 
     args-same : {ss : List grammar.Sort} {ns ms : Nodes} → FormedAll ss ns → All TypeSort ss → Twins L (SameRecord Free) ns ms → args_of ns ≡ args_of ms
     args-same none_due y no_twin = refl
@@ -77,22 +77,22 @@ module _ {L : ℕ → ℕ → Type 0} {Free : Type 0} where
   unfolding type_of
   type-same {s} (formed {l = l} a p fs) y (twin n h r) =
       let b = in_type s l.kind y a in
-      rw (h.spans, same_name h (λ q. omega arith), args-same fs (type-parts l p b) r)
+      rw (h.spans, same_name h (λ q. omega arith), args-same fs (type_parts l p b) r)
 
-  first-type : {ss : List grammar.Sort} {ns ms : Nodes} → FormedAll (grammar.Ty ∷ ss) ns → Twins L (SameRecord Free) ns ms → type_of (get_or (nodes ns) 0 blank_node) ≡ type_of (get_or (nodes ms) 0 blank_node)
+  first_type : {ss : List grammar.Sort} {ns ms : Nodes} → FormedAll (grammar.Ty ∷ ss) ns → Twins L (SameRecord Free) ns ms → type_of (get_or (nodes ns) 0 blank_node) ≡ type_of (get_or (nodes ms) 0 blank_node)
   unfolding nodes
-  first-type (one_due f fs) (and_twin h r) = type-same f (inl refl) h
+  first_type (one_due f fs) (and_twin h r) = type-same f (inl refl) h
 
   param-same : {t u : Node} → Formed grammar.Param t → Twin L (SameRecord Free) t u → param_of t ≡ param_of u
   unfolding param_of sorts copies
   param-same (formed {l = l} a p fs) (twin n h r) =
-      rw (same_name h (λ q. omega arith), first-type (rw (parts l kinds.param p (omega (arith, a))) at fs) r)
+      rw (same_name h (λ q. omega arith), first_type (rw (parts l kinds.param p (omega (arith, a))) at fs) r)
 
   pub head_same : {t u : Node} → Formed grammar.Field t → Twin L (SameRecord Free) t u → Head (field_of t) (field_of u)
   unfolding field_of sorts copies
   head_same (formed {l = l} a p fs) (twin n h r) =
       let m = parts l kinds.field p (omega (arith, a)) in
-      record { name = same_name h (λ q. omega arith); ty = first-type (rw m.1 at fs) r }
+      record { name = same_name h (λ q. omega arith); ty = first_type (rw m.1 at fs) r }
 
   params_same : {ns ms : Nodes} (ss : List grammar.Sort) (n : ℕ) → FormedAll (copies n grammar.Param ++ ss) ns → Twins L (SameRecord Free) ns ms → map param_of (take n (nodes ns)) ≡ map param_of (take n (nodes ms))
   unfolding nodes copies
@@ -192,16 +192,16 @@ module _ {L : ℕ → ℕ → Type 0} {R : Line → Line → Type 0} {Free : Typ
   heads_of n f h = build_by (items_by (λ t u f q. item_heads f q) n f h)
 
 -- where the fields have the same heads and the events are the same, both models tell the same of every name
-pub every-field : (S : Setting) → Forall₂ Head S.left.fields S.right.fields → (x : Name) → SameField S x
+pub every_field : (S : Setting) → Forall₂ Head S.left.fields S.right.fields → (x : Name) → SameField S x
 unfolding field_named
-every-field S h x = last_like (λ f. f.name) (λ f. f.name) (λ f g q. q.name) x h
+every_field S h x = last_like (λ f. f.name) (λ f. f.name) (λ f g q. q.name) x h
 
-pub every-event : (S : Setting) → S.left.events ≡ S.right.events → (x : Name) → SameEvent S x
+pub every_event : (S : Setting) → S.left.events ≡ S.right.events → (x : Name) → SameEvent S x
 unfolding event_named
-every-event S e x = rw e
+every_event S e x = rw e
 
 pub all_named : (S : Setting) → ((x : Name) → SameField S x) → ((x : Name) → SameEvent S x) → (l k : Line) → SameRecord S.Free l k → SameNamed S l k
-all_named S same-field same-event l k h = record { same = h; field = λ _. same-field l.name; event = λ _. same-event l.name }
+all_named S same_field same-event l k h = record { same = h; field = λ _. same_field l.name; event = λ _. same-event l.name }
 
 module _ {S : Setting} where
   field_twin : (t u : Node) → Formed grammar.Field t → SettingTwin S t u → FieldLike S (field_of t) (field_of u)
@@ -211,7 +211,7 @@ module _ {S : Setting} where
         head = head_same (formed {i = i} a p fs) (twin_map (λ l k q. q.same) (twin n h r));
         nspan = ap (λ (s : List ℕ). get_or s 0 0) h.same.spans;
         default = maybe_twin 1 (nodes_twins r);
-        same-field = h.field (inr (omega (arith, a)));
+        same_field = h.field (inr (omega (arith, a)));
       }
 
   entry_twin : (i j : ℕ) (l k : Line) (ps qs : Nodes) → l.kind ≡ kinds.entry → Parted l → FormedAll (sorts l.parts) ps → SameNamed S l k → Twins S.Lines (SameNamed S) ps qs
@@ -234,15 +234,15 @@ module _ {S : Setting} where
   part_of n f h = build_by (items_by (λ t u f q. item_like f q) n f h)
 
 -- the parts of a contract are its items
-pub contract-parts : {i : ℕ} {l : Line} {ps : Nodes} → Formed grammar.Contract (node i l ps) → (n : ℕ) × FormedAll (copies n grammar.Item) ps
+pub contract_parts : {i : ℕ} {l : Line} {ps : Nodes} → Formed grammar.Contract (node i l ps) → (n : ℕ) × FormedAll (copies n grammar.Item) ps
 unfolding sorts
-contract-parts (formed {l = l} a p fs) = let m = parts l kinds.contract p (omega (arith, a)) in (m.0, rw (m.1, append-nil) at fs)
+contract_parts (formed {l = l} a p fs) = let m = parts l kinds.contract p (omega (arith, a)) in (m.0, rw (m.1, append-nil) at fs)
 
 -- the items of two contracts
 pub model_like : (L : ℕ → ℕ → Type 0) (line_zero : L 0 0) (Free : Type 0) {i : ℕ} {l : Line} {ps qs : Nodes}
     → Formed grammar.Contract (node i l ps) → Twins L (SameRecord Free) ps qs → ModelLike (setting_of L line_zero Free (items_of ps) (items_of qs))
 model_like L line_zero Free {ps = ps} {qs = qs} f h =
     let S = setting_of L line_zero Free (items_of ps) (items_of qs) in
-    let c = contract-parts f in
+    let c = contract_parts f in
     let q = heads_of (λ l k q. q) Head (λ t u f q. head_same f q) c.0 c.1 h in
-    part_of c.0 c.1 (twins_map (all_named S (every-field S q.fields) (every-event S q.events)) h)
+    part_of c.0 c.1 (twins_map (all_named S (every_field S q.fields) (every_event S q.events)) h)

@@ -15,11 +15,11 @@ abbrev bind_res : {A B : Type 0} → Res A → (A → Res B) → Res B
 bind_res (ok a) f = f a
 bind_res (refused r) f = refused r
 
-bind-res : {A B : Type 0} (p : Rule A) (f : A → Rule B) → (fresh (p >>= f)).res ≡ bind_res (fresh p).res (λ a. (fresh (f a)).res)
+bind_res_lem : {A B : Type 0} (p : Rule A) (f : A → Rule B) → (fresh (p >>= f)).res ≡ bind_res (fresh p).res (λ a. (fresh (f a)).res)
 unfolding fresh ◌>>=◌ concluded
-bind-res (ret a) f = refl
-bind-res (refuse r) f = refl
-bind-res (ask g l p k) f = by_cases (fresh p).res (fresh p).log (λ t. bind-res (k t) f)
+bind_res_lem (ret a) f = refl
+bind_res_lem (refuse r) f = refl
+bind_res_lem (ask g l p k) f = by_cases (fresh p).res (fresh p).log (λ t. bind_res_lem (k t) f)
   where
     by_cases : (r : Res Ty) (as' : List Asking) → ((t : Ty) → (fresh (k t >>= f)).res ≡ bind_res (fresh (k t)).res (λ a. (fresh (f a)).res))
         → (concluded l r as' (λ t. fresh (k t >>= f))).res ≡ bind_res (concluded l r as' (λ t. fresh (k t))).res (λ a. (fresh (f a)).res)
@@ -28,11 +28,11 @@ bind-res (ask g l p k) f = by_cases (fresh p).res (fresh p).log (λ t. bind-res 
 
 pub passes_then : {p q : Rule Unit} → Passes p → Passes q → Passes (p >> q)
 unfolding ◌>>◌
-passes_then {p} {q} h k = record { passed = bind-res p (λ _. q) ∙ rw (h.passed, k.passed) }
+passes_then {p} {q} h k = record { passed = bind_res_lem p (λ _. q) ∙ rw (h.passed, k.passed) }
 
 pub passes_parts : {p q : Rule Unit} → Passes (p >> q) → Passes p × Passes q
 unfolding ◌>>◌
-passes_parts {p} {q} h = by_cases (fresh p).res refl (sym (bind-res p (λ _. q)) ∙ h.passed)
+passes_parts {p} {q} h = by_cases (fresh p).res refl (sym (bind_res_lem p (λ _. q)) ∙ h.passed)
   where
     by_cases : (r : Res Unit) → (fresh p).res ≡ r → bind_res r (λ _. (fresh q).res) ≡ ok tt → Passes p × Passes q
     by_cases (ok tt) e k = (record { passed = e }, record { passed = k })

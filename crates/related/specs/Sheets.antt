@@ -45,7 +45,7 @@ pub record Around (c e : Line) (a m z : List Line) : Type 0 where
   pub read : (s : List ℕ) × (types : ℕ) × (scratch : ℕ) × (load s types scratch ≡ lines (c ∷ (a ++ ((e ∷ m) ++ z))))
   pub items : (n : ℕ) × Due n a
   pub one : Due 1 (e ∷ m)
-  pub is-entry : e.kind ≡ kinds.entry
+  pub is_entry : e.kind ≡ kinds.entry
 
 -- the line names no state field of the model n, by an `id` or as a `field`, and no event of it, by an `emit`
 pub record Foreign (n : Model) (l : Line) : Type 0 where

@@ -11,7 +11,7 @@ use Rattle.rules.specs.Asking.{Ty, Int, Boolean, Address, Asset, Word64, TName, 
 use Rattle.rules.specs.Kept.{Table, ty_of_mark, stored, retyped, kept}
 use Rattle.rules.specs.Typing.{Env, stale, asked, typing, ask_of, ty_of}
 use Rattle.rules.proofs.Parts.{stop, ◌also◌, pick}
-use Rattle.rules.proofs.Keeps.{kept-some, kept_again, kept_unmarked}
+use Rattle.rules.proofs.Keeps.{kept_some, kept_again, kept_unmarked}
 use Rattle.rules.specs.Codes as codes
 
 -- the marks 1 to 10 tell a type, each its own
@@ -37,9 +37,9 @@ tells c h k =
 
 module _ (Γ : Env) (e : Expr) (T : Table) where
   -- a line that holds a type is answered from the table, which stays as it was
-  pub from-table : (t : Ty) → stale Γ e ≡ false → ty_of_mark (get_or T (line e) 0) ≡ some t → kept (ty_of Γ e) T ≡ record { res = ok t; table = T }
+  pub from_table : (t : Ty) → stale Γ e ≡ false → ty_of_mark (get_or T (line e) 0) ≡ some t → kept (ty_of Γ e) T ≡ record { res = ok t; table = T }
   unfolding ty_of ask_of asked kept
-  from-table t h q = kept-some (stale Γ e) (line e) (typing Γ e) ret T t h q
+  from_table t h q = kept_some (stale Γ e) (line e) (typing Γ e) ret T t h q
 
   -- the exception: it is typed again, and keeps its type, or gets 11
   pub again : (t : Ty) → stale Γ e ≡ true → ty_of_mark (get_or T (line e) 0) ≡ some t
@@ -48,11 +48,11 @@ module _ (Γ : Env) (e : Expr) (T : Table) where
   again t h q = kept_again (stale Γ e) (line e) (typing Γ e) ret T t h q
 
   -- any other line is typed, and gets the code answered, or 11
-  pub first-time : ty_of_mark (get_or T (line e) 0) ≡ none
+  pub first_time : ty_of_mark (get_or T (line e) 0) ≡ none
       → kept (ty_of Γ e) T
       ≡ record { res = (kept (typing Γ e) T).res; table = set (kept (typing Γ e) T).table (line e) (code_r (kept (typing Γ e) T).res) }
   unfolding ty_of ask_of asked kept stored
-  first-time q = kept_unmarked (stale Γ e) (line e) (typing Γ e) ret T q ∙ both (kept (typing Γ e) T).res _
+  first_time q = kept_unmarked (stale Γ e) (line e) (typing Γ e) ret T q ∙ both (kept (typing Γ e) T).res _
     where
       both : (r : Res Ty) (U : Table) → stored r U (λ u W. kept (ret u) W) ≡ record { res = r; table = U }
       both (ok t) U = refl

@@ -19,10 +19,10 @@ asking none b l o T f = stored o.res (set o.table l (code_r o.res)) f
 asking (some t) false l o T f = f t T
 asking (some t) true l o T f = retyped l o.res o.table f
 
-kept-ask : {A : Type 0} (g : Bool) (l : ℕ) (p : Rule Ty) (k : Ty → Rule A) (T : Table)
+kept_ask : {A : Type 0} (g : Bool) (l : ℕ) (p : Rule Ty) (k : Ty → Rule A) (T : Table)
     → kept (ask g l p k) T ≡ asking (ty_of_mark (get_or T l 0)) g l (kept p T) T (λ t U. kept (k t) U)
 unfolding kept
-kept-ask {A} g l p k T = by_cases (ty_of_mark (get_or T l 0)) g
+kept_ask {A} g l p k T = by_cases (ty_of_mark (get_or T l 0)) g
   where
     f : Ty → Table → Kept A
     f t U = kept (k t) U
@@ -57,23 +57,23 @@ module _ {A B : Type 0} (f' : Ty → Table → Kept B) (f : Ty → Table → Kep
   asked_then (some t) false l o T = e t T
   asked_then (some t) true l o T = retyped_then l o.res o.table
 
-pub kept-bind : {A B : Type 0} (p : Rule A) (f : A → Rule B) (T : Table) → kept (p >>= f) T ≡ and_then (kept p T) (λ a U. kept (f a) U)
+pub kept_bind : {A B : Type 0} (p : Rule A) (f : A → Rule B) (T : Table) → kept (p >>= f) T ≡ and_then (kept p T) (λ a U. kept (f a) U)
 unfolding kept ◌>>=◌ and_then
-kept-bind (ret a) f T = refl
-kept-bind (refuse r) f T = refl
-kept-bind (ask g l p k) f T =
-    kept-ask g l p (λ t. k t >>= f) T
-    ∙ asked_then (λ t U. kept (k t >>= f) U) (λ t U. kept (k t) U) (λ a U. kept (f a) U) (λ t U. kept-bind (k t) f U) (ty_of_mark (get_or T l 0)) g l (kept p T) T
-    ∙ ap (λ o. and_then o (λ a U. kept (f a) U)) (sym (kept-ask g l p k T))
+kept_bind (ret a) f T = refl
+kept_bind (refuse r) f T = refl
+kept_bind (ask g l p k) f T =
+    kept_ask g l p (λ t. k t >>= f) T
+    ∙ asked_then (λ t U. kept (k t >>= f) U) (λ t U. kept (k t) U) (λ a U. kept (f a) U) (λ t U. kept_bind (k t) f U) (ty_of_mark (get_or T l 0)) g l (kept p T) T
+    ∙ ap (λ o. and_then o (λ a U. kept (f a) U)) (sym (kept_ask g l p k T))
 
 -- ... whose outcome is known
 pub then_ok : {A B : Type 0} (p : Rule A) (f : A → Rule B) (T U : Table) (a : A) (o : Kept B) → kept p T ≡ record { res = ok a; table = U } → kept (f a) U ≡ o → kept (p >>= f) T ≡ o
 unfolding and_then
-then_ok p f T U a o e q = kept-bind p f T ∙ ap (λ x. and_then x (λ y S. kept (f y) S)) e ∙ q
+then_ok p f T U a o e q = kept_bind p f T ∙ ap (λ x. and_then x (λ y S. kept (f y) S)) e ∙ q
 
 pub then_refused : {A B : Type 0} (p : Rule A) (f : A → Rule B) (T U : Table) (r : Refusal) → kept p T ≡ record { res = refused r; table = U } → kept (p >>= f) T ≡ record { res = refused r; table = U }
 unfolding and_then
-then_refused p f T U r e = kept-bind p f T ∙ ap (λ x. and_then x (λ y S. kept (f y) S)) e
+then_refused p f T U r e = kept_bind p f T ∙ ap (λ x. and_then x (λ y S. kept (f y) S)) e
 
 -- ------------------------------------------------------------ grouped and replaced
 
@@ -85,20 +85,20 @@ module _ {A B C : Type 0} (f : A → Rule B) (g : B → Rule C) where
     where
       by_cases : (r : Res A) (T : Table)
           → and_then (and_then (record { res = r; table = T }) (λ a T. kept (f a) T)) (λ b T. kept (g b) T) ≡ and_then (record { res = r; table = T }) (λ a T. kept (f a >>= g) T)
-      by_cases (ok a) T = sym (kept-bind (f a) g T)
+      by_cases (ok a) T = sym (kept_bind (f a) g T)
       by_cases (refused x) T = refl
 
   pub kept_assoc : (p : Rule A) (T : Table) → kept ((p >>= f) >>= g) T ≡ kept (p >>= λ a. f a >>= g) T
   kept_assoc p T =
-      kept-bind (p >>= f) g T
-      ∙ ap (λ o. and_then o (λ b T. kept (g b) T)) (kept-bind p f T)
+      kept_bind (p >>= f) g T
+      ∙ ap (λ o. and_then o (λ b T. kept (g b) T)) (kept_bind p f T)
       ∙ regroup (kept p T)
-      ∙ sym (kept-bind p (λ a. f a >>= g) T)
+      ∙ sym (kept_bind p (λ a. f a >>= g) T)
 
 -- what comes behind a rule may be replaced by what does the same
 pub kept_behind : {A B : Type 0} (p : Rule A) (f g : A → Rule B) (T : Table) → ((a : A) (U : Table) → kept (f a) U ≡ kept (g a) U) → kept (p >>= f) T ≡ kept (p >>= g) T
 unfolding and_then
-kept_behind {A} {B} p f g T h = kept-bind p f T ∙ by_cases (kept p T).res (kept p T).table ∙ sym (kept-bind p g T)
+kept_behind {A} {B} p f g T h = kept_bind p f T ∙ by_cases (kept p T).res (kept p T).table ∙ sym (kept_bind p g T)
   where
     by_cases : (r : Res A) (U : Table) → and_then (record { res = r; table = U }) (λ a W. kept (f a) W) ≡ and_then (record { res = r; table = U }) (λ a W. kept (g a) W)
     by_cases (ok a) U = h a U
@@ -107,12 +107,12 @@ kept_behind {A} {B} p f g T h = kept-bind p f T ∙ by_cases (kept p T).res (kep
 -- ... and so may both
 pub kept_both : (p p' q q' : Rule Unit) (T : Table) → kept p T ≡ kept p' T → ((U : Table) → kept q U ≡ kept q' U) → kept (p >>= λ _. q) T ≡ kept (p' >>= λ _. q') T
 kept_both p p' q q' T e h =
-    kept-bind p (λ _. q) T ∙ ap (λ o. and_then o (λ _ U. kept q U)) e ∙ sym (kept-bind p' (λ _. q) T) ∙ kept_behind p' (λ _. q) (λ _. q') T (λ _ U. h U)
+    kept_bind p (λ _. q) T ∙ ap (λ o. and_then o (λ _ U. kept q U)) e ∙ sym (kept_bind p' (λ _. q) T) ∙ kept_behind p' (λ _. q) (λ _. q') T (λ _ U. h U)
 
 -- nothing behind a rule
 pub kept_unit : (p : Rule Unit) (T : Table) → kept (p >>= λ _. ret tt) T ≡ kept p T
 unfolding and_then kept
-kept_unit p T = kept-bind p (λ _. ret tt) T ∙ by_cases (kept p T).res (kept p T).table
+kept_unit p T = kept_bind p (λ _. ret tt) T ∙ by_cases (kept p T).res (kept p T).table
   where
     by_cases : (r : Res Unit) (U : Table) → and_then (record { res = r; table = U }) (λ _ W. kept (ret tt) W) ≡ record { res = r; table = U }
     by_cases (ok u) U = refl
@@ -122,7 +122,7 @@ kept_unit p T = kept-bind p (λ _. ret tt) T ∙ by_cases (kept p T).res (kept p
 pub refused_behind : {A B C : Type 0} (p : Rule A) (f : A → Rule B) (g : A → Rule C) (T U : Table) (r : Refusal) → kept (p >>= f) T ≡ record { res = refused r; table = U }
     → kept (p >>= λ a. f a >>= λ _. g a) T ≡ record { res = refused r; table = U }
 unfolding and_then
-refused_behind {A} {B} {C} p f g T U r e = kept-bind p (λ a. f a >>= λ _. g a) T ∙ by_cases (kept p T).res (kept p T).table (sym (kept-bind p f T) ∙ e)
+refused_behind {A} {B} {C} p f g T U r e = kept_bind p (λ a. f a >>= λ _. g a) T ∙ by_cases (kept p T).res (kept p T).table (sym (kept_bind p f T) ∙ e)
   where
     by_cases : (o : Res A) (W : Table) → and_then (record { res = o; table = W }) (λ a X. kept (f a) X) ≡ record { res = refused r; table = U }
         → and_then (record { res = o; table = W }) (λ a X. kept (f a >>= λ _. g a) X) ≡ record { res = refused r; table = U }
@@ -158,7 +158,7 @@ unfolding kept
 kept-length (ret a) T = refl
 kept-length (refuse r) T = refl
 kept-length (ask g l p k) T =
-    ap (λ o. length o.table) (kept-ask g l p k T)
+    ap (λ o. length o.table) (kept_ask g l p k T)
     ∙ asking_length (λ t U. kept (k t) U) (length T) l (λ t U e. kept-length (k t) U ∙ e) (ty_of_mark (get_or T l 0)) g (kept p T).res (kept p T).table T refl (kept-length p T)
 
 -- a line that has a type keeps it, unless a refusal ends all
@@ -177,7 +177,7 @@ unfolding kept
 kept_holds (ret b) T a i t h e = refl
 kept_holds (refuse r) T a i t h e = refl
 kept_holds (ask g l p k) T a i t h e =
-    let q = kept-ask g l p k T in
+    let q = kept_ask g l p k T in
     ap (λ o. get_or o.table i 0) q
     ∙ asking_holds (λ u U. kept (k u) U) a l i (get_or T i 0) (λ u U w z. kept_holds (k u) U a i t (ap ty_of_mark z ∙ h) w ∙ z)
     (ty_of_mark (get_or T l 0)) g (kept p T).res (kept p T).table T
@@ -202,6 +202,6 @@ unfolding kept
 kept_off (ret a) T i o = refl
 kept_off (refuse r) T i o = refl
 kept_off (ask g l p k) T i o =
-    ap (λ q. get_or q.table i 0) (kept-ask g l p k T)
+    ap (λ q. get_or q.table i 0) (kept_ask g l p k T)
     ∙ asking_off (λ u U. kept (k u) U) l i (get_or T i 0) o.0 (λ u U e. kept_off (k u) U i (o.2 u tt) ∙ e)
     (ty_of_mark (get_or T l 0)) g (kept p T).res (kept p T).table T refl (kept_off p T i o.1)

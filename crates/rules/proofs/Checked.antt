@@ -27,7 +27,7 @@ use Rattle.rules.proofs.Keeps.{Mapped, Afresh, zeros, keeps}
 use Rattle.rules.proofs.Coherence.{C, CEach, c_then, c_list, c_pure, Fits}
 use Rattle.rules.proofs.Lines.{line_lt_after, out_at, fits}
 use Rattle.rules.proofs.Lets.{Past, past_on}
-use Rattle.rules.proofs.Pure.{p_for, p_storable, p_digest, p_guardian, p_event-param, p_entry-param, p_key_kinds}
+use Rattle.rules.proofs.Pure.{p_for, p_storable, p_digest, p_guardian, p_event_param, p_entry_param, p_key_kinds}
 use Rattle.rules.proofs.Whole.{FitsEach, FitsBody, w_predicate, w_entry, w_default, w_genesis}
 use Rattle.rules.proofs.Ordered.{Ordered, defaults, item_exprs, all_exprs, ordered}
 
@@ -149,18 +149,18 @@ plain_body Γ (emit x es ∷ ss) fs i j p o = plain_then Γ es (body_pairs Γ ss
 plain_body Γ (assign s op t v ∷ ss) fs i j p o = plain_then Γ (t ∷ v ∷ []) (body_pairs Γ ss) (body_exprs ss ++ fs) fs i j p o (λ k. plain_body Γ ss fs k j)
 plain_body Γ (do' e ∷ ss) fs i j p o = plain_then Γ (e ∷ []) (body_pairs Γ ss) (body_exprs ss ++ fs) fs i j p o (λ k. plain_body Γ ss fs k j)
 
-plain-item : (M : Model) (x : Item) (fs : List Expr) (i j : ℕ) → Ordered i j (item_exprs x ++ fs) → Passed (item_pairs M x) i j fs
+plain_item : (M : Model) (x : Item) (fs : List Expr) (i j : ℕ) → Ordered i j (item_exprs x ++ fs) → Passed (item_pairs M x) i j fs
 unfolding new in_genesis entry_exprs
-plain-item M (state gs) fs i j o = plain_with (new M []) (defaults gs) fs i j tt o
-plain-item M (event e) fs i j o = (tt, i, omega arith, o)
-plain-item M (invariant e) fs i j o = plain_with (new M []) (e ∷ []) fs i j tt o
-plain-item M (genesis ss) fs i j o = plain_with (in_genesis (new M [])) (body_exprs ss) fs i j tt o
-plain-item M (entry en) fs i j o = plain_then (entry_env M en) (clause_exprs en.clauses) (body_pairs (entry_env M en) en.body) (body_exprs en.body ++ fs) fs i j tt (rw append_assoc at o) (λ k. plain_body (entry_env M en) en.body fs k j)
+plain_item M (state gs) fs i j o = plain_with (new M []) (defaults gs) fs i j tt o
+plain_item M (event e) fs i j o = (tt, i, omega arith, o)
+plain_item M (invariant e) fs i j o = plain_with (new M []) (e ∷ []) fs i j tt o
+plain_item M (genesis ss) fs i j o = plain_with (in_genesis (new M [])) (body_exprs ss) fs i j tt o
+plain_item M (entry en) fs i j o = plain_then (entry_env M en) (clause_exprs en.clauses) (body_pairs (entry_env M en) en.body) (body_exprs en.body ++ fs) fs i j tt (rw append_assoc at o) (λ k. plain_body (entry_env M en) en.body fs k j)
 
 plain_all : (M : Model) (is' : List Item) (i j : ℕ) → Ordered i j (all_exprs is') → All Plain (all_pairs M is')
 plain_all M [] i j o = tt
 plain_all M (x ∷ xs) i j o =
-    let r = plain-item M x (all_exprs xs) i j o in
+    let r = plain_item M x (all_exprs xs) i j o in
     all_append Plain (item_pairs M x) _ r.0 (plain_all M xs r.1 j r.3)
 
 -- ------------------------------------------------------------ what typing each line comes to
@@ -230,8 +230,8 @@ module _ (m : ℕ → Out Ty) (n : ℕ) where
   c_genesis Γ (assign s o t v ∷ ss) h = (w_genesis Q Γ (assign s o t v) (h.0, (h.1.0, tt)), c_genesis Γ ss h.1.1)
   c_genesis Γ (do' e ∷ ss) h = (w_genesis Q Γ (do' e) (h.0, tt), c_genesis Γ ss h.1)
 
-  c_item-entry : (M : Model) (en : Entry) → All FitsIn (item_pairs M (entry en)) → C Q Afresh (check_entry M en)
-  c_item-entry M en h =
+  c_item_entry : (M : Model) (en : Entry) → All FitsIn (item_pairs M (entry en)) → C Q Afresh (check_entry M en)
+  c_item_entry M en h =
       let r = all_split FitsIn (with_env (entry_env M en) (clause_exprs en.clauses)) (body_pairs (entry_env M en) en.body) h in
       w_entry Q M en (each_with (entry_env M en) (clause_exprs en.clauses) r.0) (each_body (entry_env M en) en.body r.1)
 
@@ -273,7 +273,7 @@ module _ (m : ℕ → Out Ty) (n : ℕ) where
   parts M (entry en ∷ is') h =
       let r = all_split FitsIn (item_pairs M (entry en)) (all_pairs M is') h in
       let p = parts M is' r.1 in
-      record { fields = p.fields; invariants = p.invariants; entries = (c_item-entry M en r.0, p.entries); genesis = p.genesis }
+      record { fields = p.fields; invariants = p.invariants; entries = (c_item_entry M en r.0, p.entries); genesis = p.genesis }
 
   c_check : (is' : List Item) → All FitsIn (all_pairs (build is') is') → C Q Afresh (check (build is'))
   unfolding check before_entries
@@ -282,9 +282,9 @@ module _ (m : ℕ → Out Ty) (n : ℕ) where
       let p = parts M is' h in
       c_then Q Afresh _ _
       (c_then Q Afresh _ _ (c_list Q Afresh _ _ p.fields)
-      (c_then Q Afresh _ _ (c_pure Q Afresh (p_for _ (λ e. p_for _ p_event-param)))
+      (c_then Q Afresh _ _ (c_pure Q Afresh (p_for _ (λ e. p_for _ p_event_param)))
       (c_then Q Afresh _ _ (c_pure Q Afresh (p_for _ (λ f. p_guardian f.ty)))
-      (c_then Q Afresh _ _ (c_pure Q Afresh (p_for _ (λ e. p_for _ p_entry-param)))
+      (c_then Q Afresh _ _ (c_pure Q Afresh (p_for _ (λ e. p_for _ p_entry_param)))
       (c_list Q Afresh _ _ p.invariants)))))
       (c_then Q Afresh _ _ (c_list Q Afresh _ _ p.entries)
       (c_then Q Afresh _ _ (c_pure Q Afresh (p_key_kinds M)) (c_list Q Afresh _ _ p.genesis)))
@@ -304,14 +304,14 @@ check-kept n is' o =
 
 -- On a sheet that is read, from a table of zeros: with kept types `check` comes to what it comes to with fresh ones, and the table is
 -- afterwards the marks of the rules' askings.
-pub sheet-kept : (s : List ℕ) (types scratch : ℕ) (ls : List Line) → load s types scratch ≡ lines ls → Kept≡Fresh (length ls) (check (model_of ls))
+pub sheet_kept : (s : List ℕ) (types scratch : ℕ) (ls : List Line) → load s types scratch ≡ lines ls → Kept≡Fresh (length ls) (check (model_of ls))
 unfolding model_of
-sheet-kept s types scratch ls h = check-kept (length ls) (contract_of (trees 0 ls)) (ordered s types scratch ls h)
+sheet_kept s types scratch ls h = check-kept (length ls) (contract_of (trees 0 ls)) (ordered s types scratch ls h)
 
 -- So the whole answer may be told from the kept types.
 pub verdict-kept : (s : List ℕ) (types scratch message : ℕ) → verdict s types scratch message ≡ kept_verdict s types scratch message
 unfolding verdict kept_verdict judge kept_judge ruled
-verdict-kept s types scratch message = by_cases (load s types scratch) (sheet-kept s types scratch)
+verdict-kept s types scratch message = by_cases (load s types scratch) (sheet_kept s types scratch)
   where
     by_cases : (o : LoadResult) → ((ls : List Line) → o ≡ lines ls → Kept≡Fresh (length ls) (check (model_of ls))) → judge message o ≡ kept_judge message o
     by_cases (unread n i) f = refl

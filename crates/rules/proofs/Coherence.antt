@@ -114,10 +114,10 @@ module _ (Q : Bool → ℕ → Rule Ty → Type 0) (R : Rule Ty → Ty → Type 
   unfolding expect_number
   c_number t k e s = search rules
 
-  pub c_judge-unary : (o : UnaryOp) (e : Expr) (t : Ty) → C (judge_unary o e t)
+  pub c_judge_unary : (o : UnaryOp) (e : Expr) (t : Ty) → C (judge_unary o e t)
   unfolding judge_unary
-  c_judge-unary Not e t = search (rules, c_or)
-  c_judge-unary Neg e t = search (rules, c_or)
+  c_judge_unary Not e t = search (rules, c_or)
+  c_judge_unary Neg e t = search (rules, c_or)
 
   pub c_logical : (a b : Expr) (t u : Ty) → C (logical a b t u)
   unfolding logical
@@ -135,30 +135,30 @@ module _ (Q : Bool → ℕ → Rule Ty → Type 0) (R : Rule Ty → Ty → Type 
   unfolding equality
   c_equality a b t u = search rules
 
-  pub c_judge-binary : (o : BinOp) (a b : Expr) (t u : Ty) → C (judge_binary o a b t u)
+  pub c_judge_binary : (o : BinOp) (a b : Expr) (t u : Ty) → C (judge_binary o a b t u)
   unfolding judge_binary
-  c_judge-binary Or = c_logical
-  c_judge-binary And = c_logical
-  c_judge-binary Eq = c_equality
-  c_judge-binary Ne = c_equality
-  c_judge-binary Lt = c_ordering
-  c_judge-binary Gt = c_ordering
-  c_judge-binary Le = c_ordering
-  c_judge-binary Ge = c_ordering
-  c_judge-binary Add = c_arithmetic
-  c_judge-binary Sub = c_arithmetic
-  c_judge-binary Mul = c_arithmetic
-  c_judge-binary Div = c_arithmetic
-  c_judge-binary Rem = c_arithmetic
-  c_judge-binary Shr = c_arithmetic
+  c_judge_binary Or = c_logical
+  c_judge_binary And = c_logical
+  c_judge_binary Eq = c_equality
+  c_judge_binary Ne = c_equality
+  c_judge_binary Lt = c_ordering
+  c_judge_binary Gt = c_ordering
+  c_judge_binary Le = c_ordering
+  c_judge_binary Ge = c_ordering
+  c_judge_binary Add = c_arithmetic
+  c_judge_binary Sub = c_arithmetic
+  c_judge_binary Mul = c_arithmetic
+  c_judge_binary Div = c_arithmetic
+  c_judge_binary Rem = c_arithmetic
+  c_judge_binary Shr = c_arithmetic
 
   pub c_unary : (o : UnaryOp) (a : Asked) → CA a → C (ty_of_unary o a)
   unfolding ty_of_unary
-  c_unary o a h = search (rules, c_judge-unary)
+  c_unary o a h = search (rules, c_judge_unary)
 
   pub c_binary : (o : BinOp) (a b : Asked) → CA a → CA b → C (ty_of_binary o a b)
   unfolding ty_of_binary
-  c_binary o a b h k = search (rules, c_judge-binary)
+  c_binary o a b h k = search (rules, c_judge_binary)
 
   abbrev pub Here : Env → Expr → Type 0
   Here Γ e = Q (stale Γ e) (line e) (typing Γ e)
@@ -177,18 +177,18 @@ module _ (Q : Bool → ℕ → Rule Ty → Type 0) (R : Rule Ty → Ty → Type 
     FitsAll Γ nil = Unit
     FitsAll Γ (more e es) = Fits Γ e × FitsAll Γ es
 
-  fits-here : (Γ : Env) (e : Expr) → Fits Γ e → Here Γ e
-  fits-here Γ (leaf l s k) h = h
-  fits-here Γ (unary l s o e) h = h.0
-  fits-here Γ (binary l s o a b) h = h.0
-  fits-here Γ (field l s e x k) h = h
-  fits-here Γ (call l s c es) h = h.0
-  fits-here Γ (wrap l s w e) h = h.0
+  fits_here : (Γ : Env) (e : Expr) → Fits Γ e → Here Γ e
+  fits_here Γ (leaf l s k) h = h
+  fits_here Γ (unary l s o e) h = h.0
+  fits_here Γ (binary l s o a b) h = h.0
+  fits_here Γ (field l s e x k) h = h
+  fits_here Γ (call l s c es) h = h.0
+  fits_here Γ (wrap l s w e) h = h.0
 
   -- one asking of an expression that fits
   pub c_asked : (Γ : Env) (e : Expr) → Fits Γ e → C (typing Γ e) → CA (asked Γ e (typing Γ e))
   unfolding asked
-  c_asked Γ e h k = (fits-here Γ e h, k, λ t a. tt)
+  c_asked Γ e h k = (fits_here Γ e h, k, λ t a. tt)
 
   mutual
     unfolding typing

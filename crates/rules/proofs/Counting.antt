@@ -14,13 +14,13 @@ pub record Counted (T : List ℕ) (i n : ℕ) : Type 0 where
   pub few : n ≤ i
   pub all : count T ≡ n + count (drop i T)
 
-pub count-start : (T : List ℕ) → Counted T 0 0
-count-start T = record { few = omega arith; all = omega arith }
+pub count_start : (T : List ℕ) → Counted T 0 0
+count_start T = record { few = omega arith; all = omega arith }
 
-count-first : (c : ℕ) (T : List ℕ) → c ≢ 0 → count (c ∷ T) ≡ suc (count T)
+count_first : (c : ℕ) (T : List ℕ) → c ≢ 0 → count (c ∷ T) ≡ suc (count T)
 unfolding count
-count-first zero T h = absurd (h refl)
-count-first (suc c) T h = refl
+count_first zero T h = absurd (h refl)
+count_first (suc c) T h = refl
 
 module _ (T : List ℕ) (i n : ℕ) (h : Counted T i n) where
   pub count_over : length T ≤ i → n ≡ count T
@@ -35,5 +35,5 @@ module _ (T : List ℕ) (i n : ℕ) (h : Counted T i n) where
 
   pub count-mark : i < length T → get_or T i 0 ≢ 0 → Counted T (i + 1) (n + 1)
   count-mark w z =
-      let q : count (drop i T) ≡ suc (count (drop (i + 1) T)) = rw (drop-cons T i 0 w, add-one) (count-first (get_or T i 0) _ z) in
+      let q : count (drop i T) ≡ suc (count (drop (i + 1) T)) = rw (drop-cons T i 0 w, add-one) (count_first (get_or T i 0) _ z) in
       record { few = omega (arith, h.few); all = omega (arith, h.all, q) }

@@ -36,45 +36,45 @@ module _ {s S : List ℕ} (d : Loaded s S) {i : ℕ} (h : Here S grammar.Expr i)
       (ap exprs_of (parts_behind t ∙ rw (e, length-copies) refl), row_behind k [] t (rw append-nil e))
 
   -- ... the first of which is one, and the others m
-  parts-split : (m : ℕ) → sorts t.line.parts ≡ copies (suc m) grammar.Expr
+  parts_split : (m : ℕ) → sorts t.line.parts ≡ copies (suc m) grammar.Expr
       → (exprs_of t.parts ≡ more (expr_at s (suc i)) (exprs_at s m (end_at S (suc i)))) × Row S grammar.Expr (suc m) (suc i)
-  parts-split m e = let q = exprs_behind (suc m) e in (q.0 ∙ exprs_next d m (suc i) (row_first q.1).within, q.1)
+  parts_split m e = let q = exprs_behind (suc m) e in (q.0 ∙ exprs_next d m (suc i) (row_first q.1).within, q.1)
 
-  kind-is : {k : ℕ} → kind_at S i ≡ k → t.line.kind ≡ k
-  kind-is e = sym t.says.kind ∙ e
+  kind_is : {k : ℕ} → kind_at S i ≡ k → t.line.kind ≡ k
+  kind_is e = sym t.says.kind ∙ e
 
   -- its span, where its record starts with one
   span-is : (k : ℕ) (rs : List grammar.Rule) → kind_at S i ≡ k → (grammar.record_of k).rules ≡ grammar.span ∷ rs → span_of t.line ≡ span_at s S i
-  span-is k rs e r = sym (t.spells.span rs (rw (kind-is e) r))
+  span-is k rs e r = sym (t.spells.span rs (rw (kind_is e) r))
 
   pub un_at : kind_at S i ≡ kinds.un → (expr_at s i ≡ unary i (span_at s S i) (get_or unary_ops (op_at S i) Neg) (expr_at s (suc i))) × Row S grammar.Expr 1 (suc i)
   unfolding expr_at expr_of sorts copies
   un_at e =
-      let p = parts-split 0 (rw (parts t.line kinds.un t.parted (kind-is e)) refl) in
-      (rw (t.here, kind-is e, p.0, t.says.op, span-is kinds.un _ e refl) refl, p.1)
+      let p = parts_split 0 (rw (parts t.line kinds.un t.parted (kind_is e)) refl) in
+      (rw (t.here, kind_is e, p.0, t.says.op, span-is kinds.un _ e refl) refl, p.1)
 
   pub bin_at : kind_at S i ≡ kinds.bin
       → (expr_at s i ≡ binary i (span_at s S i) (get_or bin_ops (op_at S i) Shr) (expr_at s (suc i)) (expr_at s (end_at S (suc i)))) × Row S grammar.Expr 2 (suc i)
   unfolding expr_at expr_of sorts copies
   bin_at e =
-      let p = parts-split 1 (rw (parts t.line kinds.bin t.parted (kind-is e)) refl) in
+      let p = parts_split 1 (rw (parts t.line kinds.bin t.parted (kind_is e)) refl) in
       let q = exprs_next d 0 (end_at S (suc i)) (row_first (row_rest p.1)).within in
-      (rw (t.here, kind-is e, p.0, q, t.says.op, span-is kinds.bin _ e refl) refl, p.1)
+      (rw (t.here, kind_is e, p.0, q, t.says.op, span-is kinds.bin _ e refl) refl, p.1)
 
   pub dot_at_lem : kind_at S i ≡ kinds.dot → (expr_at s i ≡ field i (span_at s S i) (expr_at s (suc i)) (name_at s S i) (nspan_at s S i)) × Row S grammar.Expr 1 (suc i)
   unfolding expr_at expr_of sorts copies
   dot_at_lem e =
-      let p = parts-split 0 (rw (parts t.line kinds.dot t.parted (kind-is e)) refl) in
-      (rw (t.here, kind-is e, p.0, t.spells.name, t.spells.nspan (rw (kind-is e) refl), span-is kinds.dot _ e refl) refl, p.1)
+      let p = parts_split 0 (rw (parts t.line kinds.dot t.parted (kind_is e)) refl) in
+      (rw (t.here, kind_is e, p.0, t.spells.name, t.spells.nspan (rw (kind_is e) refl), span-is kinds.dot _ e refl) refl, p.1)
 
   pub call_at_lem : kind_at S i ≡ kinds.call
       → (expr_at s i ≡ call i (span_at s S i) (expr_at s (suc i)) (exprs_at s (call_arg_count S i) (end_at S (suc i)))) × Row S grammar.Expr (suc (call_arg_count S i)) (suc i)
   unfolding expr_at expr_of sorts copies
   call_at_lem e =
-      let g = parts t.line kinds.call t.parted (kind-is e) in
+      let g = parts t.line kinds.call t.parted (kind_is e) in
       let m : call_arg_count S i ≡ g.0 = rw (t.says.second, g.1) refl in
-      let p = parts-split g.0 (rw (g.1, append-nil) refl) in
-      rw m (rw (t.here, kind-is e, p.0, span-is kinds.call _ e refl) refl, p.1)
+      let p = parts_split g.0 (rw (g.1, append-nil) refl) in
+      rw m (rw (t.here, kind_is e, p.0, span-is kinds.call _ e refl) refl, p.1)
 
   abbrev pub Wrapped : Wrap → Type 0
   Wrapped w = (expr_at s i ≡ wrap i (span_at s S i) w (expr_at s (suc i))) × Row S grammar.Expr 1 (suc i)
@@ -84,11 +84,11 @@ module _ {s S : List ℕ} (d : Loaded s S) {i : ℕ} (h : Here S grammar.Expr i)
   wrap_at a =
       pick {P = λ k. kind_at S i ≡ k → (w : Wrap) × Wrapped w} {i = kinds.checked} {n = 2} (kind_at S i)
       ((λ e.
-      let p = parts-split 0 (rw (parts t.line kinds.checked t.parted (kind-is e)) refl) in
-      (Checked, (rw (t.here, kind-is e, p.0, span-is kinds.checked _ e refl) refl, p.1)))
+      let p = parts_split 0 (rw (parts t.line kinds.checked t.parted (kind_is e)) refl) in
+      (Checked, (rw (t.here, kind_is e, p.0, span-is kinds.checked _ e refl) refl, p.1)))
       also (λ e.
-      let p = parts-split 0 (rw (parts t.line kinds.wrapping t.parted (kind-is e)) refl) in
-      (Wrapping, (rw (t.here, kind-is e, p.0, span-is kinds.wrapping _ e refl) refl, p.1)))
+      let p = parts_split 0 (rw (parts t.line kinds.wrapping t.parted (kind_is e)) refl) in
+      (Wrapping, (rw (t.here, kind_is e, p.0, span-is kinds.wrapping _ e refl) refl, p.1)))
       also stop)
       a h.kind.1 refl
 
@@ -99,14 +99,14 @@ module _ {s S : List ℕ} (d : Loaded s S) {i : ℕ} (h : Here S grammar.Expr i)
   unfolding expr_at expr_of
   leaf_at_lem k a b =
       pick {P = LeafAt} {i = kinds.int} {n = 8} k
-      ((λ e. rw (t.here, kind-is e, t.spells.name, span-is kinds.int _ e refl) refl)
-      also (λ e. rw (t.here, kind-is e, t.spells.name, span-is kinds.id _ e refl) refl)
-      also (λ e. rw (t.here, kind-is e, span-is kinds.date _ e refl) refl)
-      also (λ e. rw (t.here, kind-is e, span-is kinds.str _ e refl) refl)
-      also (λ e. rw (t.here, kind-is e, span-is kinds.caller _ e refl) refl)
-      also (λ e. rw (t.here, kind-is e, span-is kinds.native _ e refl) refl)
-      also (λ e. rw (t.here, kind-is e, span-is kinds.inasset _ e refl) refl)
-      also (λ e. rw (t.here, kind-is e, span-is kinds.now _ e refl) refl)
+      ((λ e. rw (t.here, kind_is e, t.spells.name, span-is kinds.int _ e refl) refl)
+      also (λ e. rw (t.here, kind_is e, t.spells.name, span-is kinds.id _ e refl) refl)
+      also (λ e. rw (t.here, kind_is e, span-is kinds.date _ e refl) refl)
+      also (λ e. rw (t.here, kind_is e, span-is kinds.str _ e refl) refl)
+      also (λ e. rw (t.here, kind_is e, span-is kinds.caller _ e refl) refl)
+      also (λ e. rw (t.here, kind_is e, span-is kinds.native _ e refl) refl)
+      also (λ e. rw (t.here, kind_is e, span-is kinds.inasset _ e refl) refl)
+      also (λ e. rw (t.here, kind_is e, span-is kinds.now _ e refl) refl)
       also stop)
       a b
 

@@ -85,8 +85,8 @@ module _ {s S : List ℕ} (d : Loaded s S) {i : ℕ} (h : Here S grammar.Expr i)
   t : Stands s S i
   t = stands d i h.within
 
-  kind-is : {k : ℕ} → kind_at S i ≡ k → t.line.kind ≡ k
-  kind-is e = sym t.says.kind ∙ e
+  kind_is : {k : ℕ} → kind_at S i ≡ k → t.line.kind ≡ k
+  kind_is e = sym t.says.kind ∙ e
 
   one_below : (e : Expr) → expr_at s i ≡ e → parts_of e ≡ more (expr_at s (suc i)) nil → Row S grammar.Expr 1 (suc i) → sorts t.line.parts ≡ copies 1 grammar.Expr → Below
   one_below e q p r f =
@@ -134,20 +134,20 @@ module _ {s S : List ℕ} (d : Loaded s S) {i : ℕ} (h : Here S grammar.Expr i)
   unfolding sorts copies parts_of
   below =
       pick {P = λ k. kind_at S i ≡ k → Below} {i = kinds.int} {n = 14} (kind_at S i)
-      ((λ e. no_below kinds.int (omega arith) (omega arith) e (rw (parts t.line kinds.int t.parted (kind-is e)) refl))
-      also (λ e. no_below kinds.id (omega arith) (omega arith) e (rw (parts t.line kinds.id t.parted (kind-is e)) refl))
-      also (λ e. no_below kinds.date (omega arith) (omega arith) e (rw (parts t.line kinds.date t.parted (kind-is e)) refl))
-      also (λ e. no_below kinds.str (omega arith) (omega arith) e (rw (parts t.line kinds.str t.parted (kind-is e)) refl))
-      also (λ e. no_below kinds.caller (omega arith) (omega arith) e (rw (parts t.line kinds.caller t.parted (kind-is e)) refl))
-      also (λ e. no_below kinds.native (omega arith) (omega arith) e (rw (parts t.line kinds.native t.parted (kind-is e)) refl))
-      also (λ e. no_below kinds.inasset (omega arith) (omega arith) e (rw (parts t.line kinds.inasset t.parted (kind-is e)) refl))
-      also (λ e. no_below kinds.now (omega arith) (omega arith) e (rw (parts t.line kinds.now t.parted (kind-is e)) refl))
-      also (λ e. let q = un_at d h e in one_below _ q.0 refl q.1 (rw (parts t.line kinds.un t.parted (kind-is e)) refl))
-      also (λ e. two_below e (rw (parts t.line kinds.bin t.parted (kind-is e)) refl))
-      also (λ e. let q = dot_at_lem d h e in one_below _ q.0 refl q.1 (rw (parts t.line kinds.dot t.parted (kind-is e)) refl))
-      also (λ e. let g = parts t.line kinds.call t.parted (kind-is e) in call_below g.0 e (rw (g.1, append-nil) refl) (rw (t.says.second, g.1) refl))
-      also (λ e. wrap_below kinds.checked (omega arith) e (rw (parts t.line kinds.checked t.parted (kind-is e)) refl))
-      also (λ e. wrap_below kinds.wrapping (omega arith) e (rw (parts t.line kinds.wrapping t.parted (kind-is e)) refl))
+      ((λ e. no_below kinds.int (omega arith) (omega arith) e (rw (parts t.line kinds.int t.parted (kind_is e)) refl))
+      also (λ e. no_below kinds.id (omega arith) (omega arith) e (rw (parts t.line kinds.id t.parted (kind_is e)) refl))
+      also (λ e. no_below kinds.date (omega arith) (omega arith) e (rw (parts t.line kinds.date t.parted (kind_is e)) refl))
+      also (λ e. no_below kinds.str (omega arith) (omega arith) e (rw (parts t.line kinds.str t.parted (kind_is e)) refl))
+      also (λ e. no_below kinds.caller (omega arith) (omega arith) e (rw (parts t.line kinds.caller t.parted (kind_is e)) refl))
+      also (λ e. no_below kinds.native (omega arith) (omega arith) e (rw (parts t.line kinds.native t.parted (kind_is e)) refl))
+      also (λ e. no_below kinds.inasset (omega arith) (omega arith) e (rw (parts t.line kinds.inasset t.parted (kind_is e)) refl))
+      also (λ e. no_below kinds.now (omega arith) (omega arith) e (rw (parts t.line kinds.now t.parted (kind_is e)) refl))
+      also (λ e. let q = un_at d h e in one_below _ q.0 refl q.1 (rw (parts t.line kinds.un t.parted (kind_is e)) refl))
+      also (λ e. two_below e (rw (parts t.line kinds.bin t.parted (kind_is e)) refl))
+      also (λ e. let q = dot_at_lem d h e in one_below _ q.0 refl q.1 (rw (parts t.line kinds.dot t.parted (kind_is e)) refl))
+      also (λ e. let g = parts t.line kinds.call t.parted (kind_is e) in call_below g.0 e (rw (g.1, append-nil) refl) (rw (t.says.second, g.1) refl))
+      also (λ e. wrap_below kinds.checked (omega arith) e (rw (parts t.line kinds.checked t.parted (kind_is e)) refl))
+      also (λ e. wrap_below kinds.wrapping (omega arith) e (rw (parts t.line kinds.wrapping t.parted (kind_is e)) refl))
       also end')
       h.kind.0 h.kind.1 refl
 
@@ -155,8 +155,8 @@ module _ {s S : List ℕ} (d : Loaded s S) {i : ℕ} (h : Here S grammar.Expr i)
 
 module _ {s S : List ℕ} (d : Loaded s S) where
   -- expressions of a row, and one expression
-  pub left-row : {m i : ℕ} → Row S grammar.Expr m i → Left s S i (skip S m i) (exprs_at s m i)
-  left-row {m} r = record { count = m; row = r; ends = refl; are = refl }
+  pub left_row : {m i : ℕ} → Row S grammar.Expr m i → Left s S i (skip S m i) (exprs_at s m i)
+  left_row {m} r = record { count = m; row = r; ends = refl; are = refl }
 
   pub left_one : {i : ℕ} → Here S grammar.Expr i → Left s S i (end_at S i) (more (expr_at s i) nil)
   unfolding skip
@@ -182,8 +182,8 @@ module _ {s S : List ℕ} (d : Loaded s S) where
       by_cases zero r e q = sym q ∙ no_exprs s i
       by_cases (suc k) r e q = absurd (let z = skip_least r in omega (arith, e, h, z))
 
-  left-some : {i end : ℕ} {e : Expr} {es : Exprs} → Left s S i end (more e es) → i < end
-  left-some {i} {end} {e} {es} l = by_cases l.count l.row l.ends l.are
+  left_some : {i end : ℕ} {e : Expr} {es : Exprs} → Left s S i end (more e es) → i < end
+  left_some {i} {end} {e} {es} l = by_cases l.count l.row l.ends l.are
     where
       by_cases : (k : ℕ) → Row S grammar.Expr k i → skip S k i ≡ end → exprs_at s k i ≡ more e es → i < end
       by_cases zero r q f = absurd (let z : nil ≡ more e es = sym (no_exprs s i) ∙ f in (let w : ◌≡◌ {A = ℕ} 0 1 = cc in omega arith))
@@ -197,9 +197,9 @@ module _ {s S : List ℕ} (d : Loaded s S) where
     pub behind : Left s S (end_at S i) end rest
     pub inside : Left s S (suc i) end (joined (parts_of (expr_at s i)) rest)
 
-  pub left_at : {i end : ℕ} {es : Exprs} → Left s S i end es → i < end → At i end es
+  pub left_at_lem : {i end : ℕ} {es : Exprs} → Left s S i end es → i < end → At i end es
   unfolding skip
-  left_at {i} {end} {es} l h = by_cases l.count l.row l.ends l.are
+  left_at_lem {i} {end} {es} l h = by_cases l.count l.row l.ends l.are
     where
       by_cases : (k : ℕ) → Row S grammar.Expr k i → skip S k i ≡ end → exprs_at s k i ≡ es → At i end es
       by_cases zero r e q = absurd (omega (arith, e))
@@ -215,12 +215,12 @@ module _ {s S : List ℕ} (d : Loaded s S) where
           }
 
   -- a call's arguments, without its callee
-  pub left-args : {i end : ℕ} {es : Exprs} (a : At i end es) → kind_at S i ≡ kinds.call → Left s S (end_at S (suc i)) end (joined (exprs_at s (call_arg_count S i) (end_at S (suc i))) a.rest)
+  pub left_args : {i end : ℕ} {es : Exprs} (a : At i end es) → kind_at S i ≡ kinds.call → Left s S (end_at S (suc i)) end (joined (exprs_at s (call_arg_count S i) (end_at S (suc i))) a.rest)
   unfolding parts_of joined
-  left-args {i} a e =
+  left_args {i} a e =
       let q = call_at_lem d a.here e in
       let l : Left s S (suc i) _ (more (expr_at s (suc i)) (joined (exprs_at s (call_arg_count S i) (end_at S (suc i))) a.rest)) = rw q.0 at a.inside in
-      let x = left_at l (left-some l) in
+      let x = left_at_lem l (left_some l) in
       let y : x.rest ≡ joined (exprs_at s (call_arg_count S i) (end_at S (suc i))) a.rest = cc x.is in
       rw (← y) x.behind
 
@@ -229,13 +229,13 @@ module _ {s S : List ℕ} (d : Loaded s S) where
 module _ {s S : List ℕ} (d : Loaded s S) where
   -- each line from i up to end is that of an expression
   left_here : (k : ℕ) {i end : ℕ} {es : Exprs} → Left s S i end es → i + k < end → Here S grammar.Expr (i + k)
-  left_here zero {i} l h = rw (let e : i + 0 ≡ i = omega arith in e) (left_at d l (omega arith)).here
+  left_here zero {i} l h = rw (let e : i + 0 ≡ i = omega arith in e) (left_at_lem d l (omega arith)).here
   left_here (suc k) {i} l h =
       let e : i + suc k ≡ suc i + k = omega arith in
-      rw e (left_here k (left_at d l (omega arith)).inside (omega arith))
+      rw e (left_here k (left_at_lem d l (omega arith)).inside (omega arith))
 
-  pub here-inside : {i : ℕ} (l : ℕ) → Here S grammar.Expr i → i ≤ l → l < end_at S i → Here S grammar.Expr l
-  here-inside {i} l h a b =
+  pub here_inside : {i : ℕ} (l : ℕ) → Here S grammar.Expr i → i ≤ l → l < end_at S i → Here S grammar.Expr l
+  here_inside {i} l h a b =
       let e : i + (l - i) ≡ l = omega arith in
       rw e at (left_here (l - i) (left_one d h) (omega arith))
 

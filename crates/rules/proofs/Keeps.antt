@@ -92,21 +92,21 @@ settled-marks T (a ∷ rest) h =
 abbrev Above : Table → Table → Type 0
 Above T T1 = (l : ℕ) → Marked T l → Marked T1 l
 
-settled-above : (T T1 : Table) (as' : List Asking) → Above T T1 → All (Settled T) as' → All (Settled T1) as'
-settled-above T T1 as' u h = all_map (Settled T) (Settled T1) (λ a k. (u a.0 k.0, k.1)) as' h
+settled_above : (T T1 : Table) (as' : List Asking) → Above T T1 → All (Settled T) as' → All (Settled T1) as'
+settled_above T T1 as' u h = all_map (Settled T) (Settled T1) (λ a k. (u a.0 k.0, k.1)) as' h
 
-pub code-tells : (t : Ty) → ty_of_mark (code t) ≡ some t
+pub code_tells : (t : Ty) → ty_of_mark (code t) ≡ some t
 unfolding ty_of_mark code
-code-tells Int = refl
-code-tells Boolean = refl
-code-tells Address = refl
-code-tells Asset = refl
-code-tells Word64 = refl
-code-tells TName = refl
-code-tells Time = refl
-code-tells Str = refl
-code-tells Collection = refl
-code-tells Unknown = refl
+code_tells Int = refl
+code_tells Boolean = refl
+code_tells Address = refl
+code_tells Asset = refl
+code_tells Word64 = refl
+code_tells TName = refl
+code_tells Time = refl
+code_tells Str = refl
+code_tells Collection = refl
+code_tells Unknown = refl
 
 pub code-marks : (t : Ty) → (eqb (code t) 0 ≡ false) × (eqb (code t) codes.refused ≡ false)
 unfolding code
@@ -121,9 +121,9 @@ code-marks Str = (refl, refl)
 code-marks Collection = (refl, refl)
 code-marks Unknown = (refl, refl)
 
-pub kept-some : {A : Type 0} (g : Bool) (l : ℕ) (p : Rule Ty) (k : Ty → Rule A) (T : Table) (t : Ty) → g ≡ false → ty_of_mark (get_or T l 0) ≡ some t → kept (ask g l p k) T ≡ kept (k t) T
+pub kept_some : {A : Type 0} (g : Bool) (l : ℕ) (p : Rule Ty) (k : Ty → Rule A) (T : Table) (t : Ty) → g ≡ false → ty_of_mark (get_or T l 0) ≡ some t → kept (ask g l p k) T ≡ kept (k t) T
 unfolding kept
-kept-some g l p k T t h e = rw (e, h, kept)
+kept_some g l p k T t h e = rw (e, h, kept)
 
 pub kept_again : {A : Type 0} (g : Bool) (l : ℕ) (p : Rule Ty) (k : Ty → Rule A) (T : Table) (t : Ty) → g ≡ true → ty_of_mark (get_or T l 0) ≡ some t
     → kept (ask g l p k) T ≡ retyped l (kept p T).res (kept p T).table (λ u U. kept (k u) U)
@@ -201,12 +201,12 @@ pub record Agrees (m : ℕ → Out Ty) (T : Table) {A : Type 0} (x : Kept A) (o 
 abbrev pub Keeps : (ℕ → Out Ty) → {A : Type 0} → Rule A → Table → Type 0
 Keeps m p T = Agrees m T (kept p T) (fresh p)
 
-set-marked : (T : Table) (i c l : ℕ) → eqb c 0 ≡ false → Marked T l → Marked (set T i c) l
-set-marked [] i c l t e = e
-set-marked (x ∷ T) zero c zero t e = t
-set-marked (x ∷ T) zero c (suc l) t e = e
-set-marked (x ∷ T) (suc i) c zero t e = e
-set-marked (x ∷ T) (suc i) c (suc l) t e = set-marked T i c l t e
+set_marked : (T : Table) (i c l : ℕ) → eqb c 0 ≡ false → Marked T l → Marked (set T i c) l
+set_marked [] i c l t e = e
+set_marked (x ∷ T) zero c zero t e = t
+set_marked (x ∷ T) zero c (suc l) t e = e
+set_marked (x ∷ T) (suc i) c zero t e = e
+set_marked (x ∷ T) (suc i) c (suc l) t e = set_marked T i c l t e
 
 holds_marked : (T : Table) (l : ℕ) (t : Ty) → get_or T l 0 ≡ code t → Marked T l
 holds_marked T l t e = rw e (code-marks t).0
@@ -221,7 +221,7 @@ answered m g l p k T gf c q ih =
     let parts : All (Settled T) (fresh p).log = rw c q.parts in
     let U : Table = (kept (k t) T).table in
     let up : Above T U = λ i h. rw ih.table (marks_stay T (fresh (k t)).log i h) in
-    rw (kept-some g l p k T t gf (ap ty_of_mark q.holds ∙ code-tells t), fresh_ok g l p k t (ap (λ (o : Out Ty). o.res) c ∙ q.typed))
+    rw (kept_some g l p k T t gf (ap ty_of_mark q.holds ∙ code_tells t), fresh_ok g l p k t (ap (λ (o : Out Ty). o.res) c ∙ q.typed))
     (record {
       res = ih.res;
       table =
@@ -233,15 +233,15 @@ answered m g l p k T gf c q ih =
       after = λ a e. (
         (ih.after a e).0,
         all_append (Settled U) (fresh p).log ((l, code t) ∷ (fresh (k t)).log)
-            (settled-above T U (fresh p).log up parts)
+            (settled_above T U (fresh p).log up parts)
             ((up l marked, (code-marks t).1), (ih.after a e).1),
       );
     })
 
 -- the mark of a line that has just been typed
-mark-typed : (m : ℕ → Out Ty) (T : Table) (l : ℕ) (t : Ty) → (m l).res ≡ ok t → (get_or T l 0 ≡ 0) ⊎ Right m T l → mark T (l, code t) ≡ set T l (code t)
-mark-typed m T l t e (inl z) = mark-new T l (code t) (eq-eqb (get_or T l 0) 0 z)
-mark-typed m T l t e (inr q) =
+mark_typed : (m : ℕ → Out Ty) (T : Table) (l : ℕ) (t : Ty) → (m l).res ≡ ok t → (get_or T l 0 ≡ 0) ⊎ Right m T l → mark T (l, code t) ≡ set T l (code t)
+mark_typed m T l t e (inl z) = mark-new T l (code t) (eq-eqb (get_or T l 0) 0 z)
+mark_typed m T l t e (inr q) =
     let same : q.type ≡ t = cc (q.typed, e) in
     let holds : get_or T l 0 ≡ code t = q.holds ∙ ap code same in
     mark-settled T (l, code t) (holds_marked T l t holds, (code-marks t).1) ∙ sym (rw holds at (set-get_or T l 0))
@@ -253,12 +253,12 @@ consistent_set m T l t h e s w = λ i. pick i (eqb i l) refl (w i)
     U = set T l (code t)
 
     up : Above T U
-    up i k = set-marked T l (code t) i (code-marks t).0 k
+    up i k = set_marked T l (code t) i (code-marks t).0 k
 
     pick : (i : ℕ) (b : Bool) → eqb i l ≡ b → (get_or T i 0 ≡ 0) ⊎ Right m T i → (get_or U i 0 ≡ 0) ⊎ Right m U i
     pick i true q x =
         rw (eqb-true i l q)
-        (inr (record { type = t; typed = e; holds = get_or-set_same T l (code t) 0 h; parts = settled-above T U (m l).log up s }))
+        (inr (record { type = t; typed = e; holds = get_or-set_same T l (code t) 0 h; parts = settled_above T U (m l).log up s }))
     pick i false q (inl z) = inl (get_or-set_other T l i (code t) 0 (eqb-false i l q) ∙ z)
     pick i false q (inr r) =
         inr
@@ -266,7 +266,7 @@ consistent_set m T l t h e s w = λ i. pick i (eqb i l) refl (w i)
           type = r.type;
           typed = r.typed;
           holds = get_or-set_other T l i (code t) 0 (eqb-false i l q) ∙ r.holds;
-          parts = settled-above T U (m i).log up r.parts;
+          parts = settled_above T U (m i).log up r.parts;
         })
 
 -- an unmarked line is typed and marked
@@ -298,7 +298,7 @@ typed m g l p k T c h z ih next (ok t) e =
     let marked : Marked U l = rw (get_or-set_same S0 l (code t) 0 (rw lv h)) (code-marks t).0 in
     let W : Table = (kept (k t) U).table in
     let up : Above U W = λ i q. rw by_cases.table (marks_stay U (fresh (k t)).log i q) in
-    let uv : Above S0 U = λ i q. set-marked S0 l (code t) i (code-marks t).0 q in
+    let uv : Above S0 U = λ i q. set_marked S0 l (code t) i (code-marks t).0 q in
     rw (kept_none g l p k T z, fresh_ok g l p k t e, ih.res, e)
     (record {
       res = by_cases.res;
@@ -307,11 +307,11 @@ typed m g l p k T c h z ih next (ok t) e =
           ∙ sym
           (marks-append T (fresh p).log ((l, code t) ∷ (fresh (k t)).log)
           ∙ ap (λ (S : Table). marks S ((l, code t) ∷ (fresh (k t)).log)) (sym ih.table)
-          ∙ ap (λ (S : Table). marks S (fresh (k t)).log) (mark-typed m S0 l t mt (wv l)));
+          ∙ ap (λ (S : Table). marks S (fresh (k t)).log) (mark_typed m S0 l t mt (wv l)));
       after = λ a q. (
         (by_cases.after a q).0,
         all_append (Settled W) (fresh p).log ((l, code t) ∷ (fresh (k t)).log)
-            (settled-above S0 W (fresh p).log (λ i x. up i (uv i x)) sv)
+            (settled_above S0 W (fresh p).log (λ i x. up i (uv i x)) sv)
             ((up l marked, (code-marks t).1), (by_cases.after a q).1),
       );
     })

@@ -51,31 +51,31 @@ module _ (P : ℕ → Type 0) (R : Rule Ty → Ty → Type 0) (Γ : Env) where
   mutual
     unfolding line
 
-    pub fits-lines : (e : Expr) → Numbered e → Between (line e) (line_after e) → Fits (OfLine P) R Γ e
-    fits-lines (leaf l s k) h f = f l (omega arith) (omega arith)
-    fits-lines (unary l s o e) h f =
+    pub fits_lines : (e : Expr) → Numbered e → Between (line e) (line_after e) → Fits (OfLine P) R Γ e
+    fits_lines (leaf l s k) h f = f l (omega arith) (omega arith)
+    fits_lines (unary l s o e) h f =
         let z = line_lt_after e h.1 in
-        (f l (omega arith) (omega arith), fits-lines e h.1 (λ x u v. f x (omega arith) v))
-    fits-lines (binary l s o a b) h f =
+        (f l (omega arith) (omega arith), fits_lines e h.1 (λ x u v. f x (omega arith) v))
+    fits_lines (binary l s o a b) h f =
         let y = line_lt_after a h.2 in
         let z = line_lt_after b h.3 in
-        (f l (omega arith) (omega arith), fits-lines a h.2 (λ x u v. f x (omega arith) (omega arith)), fits-lines b h.3 (λ x u v. f x (omega arith) v))
-    fits-lines (field l s e n m) h f = let z = line_lt_after e h.1 in f l (omega arith) (omega arith)
-    fits-lines (call l s c es) h f =
+        (f l (omega arith) (omega arith), fits_lines a h.2 (λ x u v. f x (omega arith) (omega arith)), fits_lines b h.3 (λ x u v. f x (omega arith) v))
+    fits_lines (field l s e n m) h f = let z = line_lt_after e h.1 in f l (omega arith) (omega arith)
+    fits_lines (call l s c es) h f =
         let y = line_lt_after c h.1 in
         let z = lines_le_after (line_after c) es h.2 in
-        (f l (omega arith) (omega arith), fits-lines_all (line_after c) es h.2 (λ x u v. f x (omega arith) v))
-    fits-lines (wrap l s w e) h f =
+        (f l (omega arith) (omega arith), fits_lines_all (line_after c) es h.2 (λ x u v. f x (omega arith) v))
+    fits_lines (wrap l s w e) h f =
         let z = line_lt_after e h.1 in
-        (f l (omega arith) (omega arith), fits-lines e h.1 (λ x u v. f x (omega arith) v))
+        (f l (omega arith) (omega arith), fits_lines e h.1 (λ x u v. f x (omega arith) v))
 
-    fits-lines_all : (i : ℕ) (es : Exprs) → NumberedFrom i es → Between i (lines_after i es) → FitsAll (OfLine P) R Γ es
-    fits-lines_all i nil h f = tt
-    fits-lines_all i (more e es) h f =
+    fits_lines_all : (i : ℕ) (es : Exprs) → NumberedFrom i es → Between i (lines_after i es) → FitsAll (OfLine P) R Γ es
+    fits_lines_all i nil h f = tt
+    fits_lines_all i (more e es) h f =
         let y = line_lt_after e h.1 in
         let z = lines_le_after (line_after e) es h.2 in
         let w = h.0 in
-        (fits-lines e h.1 (λ x u v. f x (omega arith) (omega arith)), fits-lines_all (line_after e) es h.2 (λ x u v. f x (omega arith) v))
+        (fits_lines e h.1 (λ x u v. f x (omega arith) (omega arith)), fits_lines_all (line_after e) es h.2 (λ x u v. f x (omega arith) v))
 
 -- what typing line i of the expression comes to
 abbrev mutual

@@ -35,10 +35,10 @@ unfolding put_if
 same_line true T l c h = get_or-set_same T l c 0 h
 same_line false T l c h = refl
 
-other-line : (b : Bool) (T : Table) (i l c : ℕ) → l ≢ i → get_or (put_if b T i c) l 0 ≡ get_or T l 0
+other_line : (b : Bool) (T : Table) (i l c : ℕ) → l ≢ i → get_or (put_if b T i c) l 0 ≡ get_or T l 0
 unfolding put_if
-other-line true T i l c h = get_or-set_other T i l c 0 h
-other-line false T i l c h = refl
+other_line true T i l c h = get_or-set_other T i l c 0 h
+other_line false T i l c h = refl
 
 -- a line's code after these askings, where it was c before
 abbrev after : ℕ → ℕ → List Asking → ℕ
@@ -61,7 +61,7 @@ unfolding mark refused_in first_code
 one true T (i, c) rest l e h k =
     rw (e, eqb-true i l e, same_line (eqb (get_or T l 0) 0 || eqb c codes.refused) T l c h)
     (step (eqb (get_or T l 0) 0) (eqb c codes.refused) (refused_in l rest) c (get_or T l 0) (first_code l rest) refl refl k)
-one false T (i, c) rest l e h k = rw (e, other-line (eqb (get_or T i 0) 0 || eqb c codes.refused) T i l c (λ q. eqb-false i l e (sym q)))
+one false T (i, c) rest l e h k = rw (e, other_line (eqb (get_or T i 0) 0 || eqb c codes.refused) T i l c (λ q. eqb-false i l e (sym q)))
 
 marked : (as' : List Asking) (T : Table) (l : ℕ) → l < length T → All Coded as' → get_or (marks T as') l 0 ≡ after (get_or T l 0) l as'
 unfolding marks refused_in first_code
@@ -93,12 +93,12 @@ coded_reached l ((i, c) ∷ rest) h = by_cases (eqb i l) (eqb c codes.refused) (
 pub code-reached : {A : Type 0} (p : Rule A) (l : ℕ) → eqb (code_of l (fresh p).log) 0 ≡ not (reached l (fresh p).log)
 code-reached p l = coded_reached l (fresh p).log (coded p)
 
-count-from : (T : Table) (i : ℕ) (asked : List Asking) → ((l : ℕ) → l < length T → eqb (get_or T l 0) 0 ≡ not (reached (i + l) asked)) → count T ≡ reached_from i (length T) asked
+count_from : (T : Table) (i : ℕ) (asked : List Asking) → ((l : ℕ) → l < length T → eqb (get_or T l 0) 0 ≡ not (reached (i + l) asked)) → count T ≡ reached_from i (length T) asked
 unfolding count reached_from
-count-from [] i asked h = refl
-count-from (c ∷ T) i asked h =
+count_from [] i asked h = refl
+count_from (c ∷ T) i asked h =
     by_cases c (reached i asked) (rw (let e : i + 0 ≡ i = omega arith in e) at (h 0 (omega arith)))
-    (count-from T (suc i) asked (λ l q. rw (let e : suc i + l ≡ i + suc l = omega arith in e) (h (suc l) (omega arith))))
+    (count_from T (suc i) asked (λ l q. rw (let e : suc i + l ≡ i + suc l = omega arith in e) (h (suc l) (omega arith))))
   where
     by_cases : (c : ℕ) (b : Bool) → eqb c 0 ≡ not b → count T ≡ reached_from (suc i) (length T) asked
         → count (c ∷ T) ≡ elim b as (λ _. ℕ) [ true ↦ suc (reached_from (suc i) (length T) asked) | false ↦ reached_from (suc i) (length T) asked ]
@@ -112,4 +112,4 @@ pub count-reached : {A : Type 0} (p : Rule A) (n : ℕ) → count (marks (replic
 count-reached p n =
     let T = marks (replicate n 0) (fresh p).log in
     let e : length T ≡ n = length-marks (replicate n 0) (fresh p).log ∙ length-replicate {A = ℕ} n 0 in
-    count-from T 0 (fresh p).log (λ l h. rw (let z : 0 + l ≡ l = omega arith in z) (ap (λ c. eqb c 0) (marks-code p n l (rw e at h)) ∙ code-reached p l)) ∙ rw e refl
+    count_from T 0 (fresh p).log (λ l h. rw (let z : 0 + l ≡ l = omega arith in z) (ap (λ c. eqb c 0) (marks-code p n l (rw e at h)) ∙ code-reached p l)) ∙ rw e refl

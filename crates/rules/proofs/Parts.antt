@@ -31,16 +31,16 @@ groups : (gs : List (ℕ × Sort)) (P : List (ℕ × Sort) → Type 0) → P gs 
 groups [] P h = h
 groups (g ∷ gs) P h = (g.0, groups gs (λ xs. P ((g.0, g.1) ∷ xs)) h)
 
-told-sorts : (as' gs : List (ℕ × Sort)) (ss : List Sort) → sorts_in (as' ++ gs) ≡ sorts_in as' ++ ss → sorts_in gs ≡ ss
-told-sorts [] gs ss e = e
-told-sorts (a ∷ as') gs ss e = told-sorts as' gs ss cc
+told_sorts_lem : (as' gs : List (ℕ × Sort)) (ss : List Sort) → sorts_in (as' ++ gs) ≡ sorts_in as' ++ ss → sorts_in gs ≡ ss
+told_sorts_lem [] gs ss e = e
+told_sorts_lem (a ∷ as') gs ss e = told_sorts_lem as' gs ss cc
 
 -- the parts of a line of kind k
 pub parts : (l : Line) (k : ℕ) → Parted l → l.kind ≡ k → Groups (told_sorts (record_of k).rules) (λ gs. l.parts ≡ (record_of k).always ++ gs)
 parts l k p e =
     let g = p.always in
     let q : sorts_in ((record_of k).always ++ g.0) ≡ group_sorts (record_of k) = rw (← e, ← g.1) p.sorts in
-    rw (← told-sorts (record_of k).always g.0 (told_sorts (record_of k).rules) q) (groups g.0 (λ gs. l.parts ≡ (record_of k).always ++ gs) (rw (← e) g.1))
+    rw (← told_sorts_lem (record_of k).always g.0 (told_sorts (record_of k).rules) q) (groups g.0 (λ gs. l.parts ≡ (record_of k).always ++ gs) (rw (← e) g.1))
 
 -- ... of which its FLAGs tell none or one
 pub flags : (l : Line) (k : ℕ) → Parted l → l.kind ≡ k → (gs : List (ℕ × Sort)) × (l.parts ≡ (record_of k).always ++ gs) × Flagged (record_of k).rules gs

@@ -64,9 +64,9 @@ span_of_lem : (n : Node) → span (expr_of n) ≡ node_span n
 unfolding node_span
 span_of_lem (node i l ps) = (as_expr i l ps).0
 
-type-name_of : (n : Node) → type_name (type_of n) ≡ node_name n
+type_name_of : (n : Node) → type_name (type_of n) ≡ node_name n
 unfolding type_name type_of node_name
-type-name_of (node i l ps) = refl
+type_name_of (node i l ps) = refl
 
 type-span_of : (n : Node) → type_span (type_of n) ≡ node_span n
 unfolding type_span type_of node_span
@@ -82,7 +82,7 @@ type-span_at s i = type-span_of (node_at s i)
 
 pub type-name_at : (s : List ℕ) (i : ℕ) → type_name (type_at s i) ≡ named_at s i
 unfolding type_at named_at
-type-name_at s i = type-name_of (node_at s i)
+type-name_at s i = type_name_of (node_at s i)
 
 -- ------------------------------------------------------------ lines that are there, and others
 

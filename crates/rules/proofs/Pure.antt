@@ -100,13 +100,13 @@ pub p_digest : (x : Name) (t : Type') → Pure (refuse_word64_as_digest x t)
 unfolding refuse_word64_as_digest
 p_digest x t = search pure
 
-pub p_event-param : (p : Param) → Pure (check_event_param p)
+pub p_event_param : (p : Param) → Pure (check_event_param p)
 unfolding check_event_param event_field_type
-p_event-param p = search (pure, p_known, p_digest)
+p_event_param p = search (pure, p_known, p_digest)
 
-pub p_entry-param : (p : Param) → Pure (check_entry_param p)
+pub p_entry_param : (p : Param) → Pure (check_entry_param p)
 unfolding check_entry_param
-p_entry-param p = search (pure, p_guardian, p_digest)
+p_entry_param p = search (pure, p_guardian, p_digest)
 
 mutual
   unfolding no_asset_call
@@ -208,4 +208,4 @@ pub p_local : (e : Expr) (t : Ty) → Pure (check_local e t)
 unfolding check_local
 p_local e t = search pure
 
-pub ruleset pure_declared = (pure, p_guardian, p_storable, p_digest, p_event-param, p_entry-param)
+pub ruleset pure_declared = (pure, p_guardian, p_storable, p_digest, p_event_param, p_entry_param)

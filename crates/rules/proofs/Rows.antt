@@ -13,17 +13,17 @@ use Rattle.rules.specs.Ast.{Expr, more, list, exprs_of}
 use Rattle.rules.specs.Arithmetic.{any}
 use Rattle.rules.specs.Standing.{node_at, nodes_at, expr_at, exprs_at, param_at, params_at, stmt_at, stmts_at, clause_at, clauses_at, Loaded, Here, Row}
 use Rattle.rules.proofs.Lookups.{among_first}
-use Rattle.rules.proofs.Records.{no_nodes, stmts_next, no_stmts, clauses-next, no_clauses, params-next, no_params}
-use Rattle.rules.proofs.Standing.{nodes-next, exprs_next, row_first, row_rest}
+use Rattle.rules.proofs.Records.{no_nodes, stmts_next, no_stmts, clauses_next, no_clauses, params_next, no_params}
+use Rattle.rules.proofs.Standing.{nodes_next, exprs_next, row_first, row_rest}
 
 -- ------------------------------------------------------------ the first record
 
-pub row-some : {S : List ℕ} {σ : grammar.Sort} {m i : ℕ} → 0 < m → Row S σ m i → Row S σ (suc (m - 1)) i
-row-some {m = m} h r = rw (let e : suc (m - 1) ≡ m = omega arith in e) r
+pub row_some : {S : List ℕ} {σ : grammar.Sort} {m i : ℕ} → 0 < m → Row S σ m i → Row S σ (suc (m - 1)) i
+row_some {m = m} h r = rw (let e : suc (m - 1) ≡ m = omega arith in e) r
 
 pub exprs_some : {s S : List ℕ} {m i : ℕ} → Loaded s S → 0 < m → Row S grammar.Expr m i → exprs_at s m i ≡ more (expr_at s i) (exprs_at s (m - 1) (end_at S i))
 exprs_some {s} {m = m} {i} d h r =
-    ap (λ k. exprs_at s k i) (let e : m ≡ suc (m - 1) = omega arith in e) ∙ exprs_next d (m - 1) i (row_first (row-some h r)).within
+    ap (λ k. exprs_at s k i) (let e : m ≡ suc (m - 1) = omega arith in e) ∙ exprs_next d (m - 1) i (row_first (row_some h r)).within
 
 -- what stands at lines one behind another is what stands at each of them
 pub record Listed {A : Type 0} (one : List ℕ → ℕ → A) (all : List ℕ → ℕ → ℕ → List A) : Type 0 where
@@ -31,16 +31,16 @@ pub record Listed {A : Type 0} (one : List ℕ → ℕ → A) (all : List ℕ �
   pub first : {s S : List ℕ} → Loaded s S → (m : ℕ) {i : ℕ} → i < line_count S → all s (suc m) i ≡ one s i ∷ all s m (end_at S i)
 
 pub records : Listed node_at nodes_at
-records = record { empty = no_nodes; first = λ d m {i} w. nodes-next d m i w }
+records = record { empty = no_nodes; first = λ d m {i} w. nodes_next d m i w }
 
 pub stmts : Listed stmt_at stmts_at
 stmts = record { empty = no_stmts; first = stmts_next }
 
 pub clauses : Listed clause_at clauses_at
-clauses = record { empty = no_clauses; first = clauses-next }
+clauses = record { empty = no_clauses; first = clauses_next }
 
 pub params : Listed param_at params_at
-params = record { empty = no_params; first = params-next }
+params = record { empty = no_params; first = params_next }
 
 abbrev pub exprs_in : List ℕ → ℕ → ℕ → List Expr
 exprs_in s m i = list (exprs_at s m i)
@@ -53,9 +53,9 @@ module _ {A : Type 0} {one : List ℕ → ℕ → A} {all : List ℕ → ℕ →
   pub list_none : (s : List ℕ) (m i : ℕ) → m ≤ 0 → all s m i ≡ []
   list_none s m i h = ap (λ k. all s k i) (let e : m ≡ 0 = omega arith in e) ∙ l.empty s i
 
-  pub list-some : {s S : List ℕ} {σ : grammar.Sort} {m i : ℕ} → Loaded s S → 0 < m → Row S σ m i → all s m i ≡ one s i ∷ all s (m - 1) (end_at S i)
-  list-some {s} {m = m} {i} d h r =
-      ap (λ k. all s k i) (let e : m ≡ suc (m - 1) = omega arith in e) ∙ l.first d (m - 1) (row_first (row-some h r)).within
+  pub list_some : {s S : List ℕ} {σ : grammar.Sort} {m i : ℕ} → Loaded s S → 0 < m → Row S σ m i → all s m i ≡ one s i ∷ all s (m - 1) (end_at S i)
+  list_some {s} {m = m} {i} d h r =
+      ap (λ k. all s k i) (let e : m ≡ suc (m - 1) = omega arith in e) ∙ l.first d (m - 1) (row_first (row_some h r)).within
 
 -- ------------------------------------------------------------ a loop over a row
 
@@ -66,7 +66,7 @@ pub record RowWalk {A : Type 0} (σ : grammar.Sort) (all : List ℕ → ℕ → 
   pub known : P (all s left at)
 
 pub row_here : {A : Type 0} {σ : grammar.Sort} {all : List ℕ → ℕ → ℕ → List A} {P : List A → Type 0} {s S : List ℕ} {left at : ℕ} → RowWalk σ all P s S left at → 0 < left → Here S σ at
-row_here w h = row_first (row-some h w.row)
+row_here w h = row_first (row_some h w.row)
 
 module _ {A : Type 0} {σ : grammar.Sort} {one : List ℕ → ℕ → A} {all : List ℕ → ℕ → ℕ → List A} (l : Listed one all) {P : List A → Type 0} {s S : List ℕ} {left at : ℕ} (w : RowWalk σ all P s S left at) where
   pub row_over : left ≤ 0 → P []
@@ -74,14 +74,14 @@ module _ {A : Type 0} {σ : grammar.Sort} {one : List ℕ → ℕ → A} {all : 
 
   module _ (h : 0 < left) where
     known : P (one s at ∷ all s (left - 1) (end_at S at))
-    known = rw (list-some l w.loaded h w.row) at w.known
+    known = rw (list_some l w.loaded h w.row) at w.known
 
     -- what the record at the line tells, whatever is behind it
-    pub row-found : {B : Type 0} → ((as' : List A) → P (one s at ∷ as') → B) → B
-    row-found f = f _ known
+    pub row_found : {B : Type 0} → ((as' : List A) → P (one s at ∷ as') → B) → B
+    row_found f = f _ known
 
     pub row_onward : {Q : List A → Type 0} (at' : ℕ) → at' ≡ end_at S at → ((as' : List A) → P (one s at ∷ as') → Q as') → RowWalk σ all Q s S (left - 1) at'
-    row_onward at' q f = rw q (record { loaded = w.loaded; row = row_rest (row-some h w.row); known = f _ known })
+    row_onward at' q f = rw q (record { loaded = w.loaded; row = row_rest (row_some h w.row); known = f _ known })
 
 -- ------------------------------------------------------------ a search in a row
 
@@ -97,7 +97,7 @@ module _ {A : Type 0} (σ : grammar.Sort) (all : List ℕ → ℕ → ℕ → Li
   module _ (h : 0 < left) (b : Bool) (e : b ≡ p (one s at)) where
     pub seek_found : b ≡ true → true ≡ whole
     unfolding any
-    seek_found q = row-found l w h (λ as' z. sym (z ∙ rw (← e, q) refl))
+    seek_found q = row_found l w h (λ as' z. sym (z ∙ rw (← e, q) refl))
 
     pub seek_next : (at' : ℕ) → b ≡ false → at' ≡ end_at S at → Seeking σ all p whole s S (left - 1) at'
     unfolding any

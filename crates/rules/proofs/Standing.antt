@@ -16,7 +16,7 @@ use Rattle.sheet.specs.Scan.{scan_all}
 use Rattle.sheet.specs.declared.loader.Answer.{Answer}
 use Rattle.sheet.specs.declared.loader.Answer.TheVariants.{Lines}
 use Rattle.sheet.proofs.Holds.{all_le}
-use Rattle.sheet.proofs.Loaded.{whole, loaded, left-size, left-few, answer-lines}
+use Rattle.sheet.proofs.Loaded.{whole, loaded, left_size, left_few, answer_lines}
 use Rattle.rules.specs.Ast.{more as more_exprs, blank_node, nodes, exprs_of}
 use Rattle.rules.specs.Standing.{read_lines, lines_in, drop_lines, trees_from, node_at, nodes_at, expr_at, exprs_at, Loaded, LoadedIn, Here, Row, stop, next}
 
@@ -29,20 +29,20 @@ record Trees (s S : List ℕ) (n i : ℕ) (ns : Nodes) : Type 0 where
 
 -- ------------------------------------------------------------ trees before others
 
-formed-before : {ss rs : List Sort} {ps ns : Nodes} → FormedAll ss ps → FormedAll rs ns → FormedAll (ss ++ rs) (before ps ns)
+formed_before : {ss rs : List Sort} {ps ns : Nodes} → FormedAll ss ps → FormedAll rs ns → FormedAll (ss ++ rs) (before ps ns)
 unfolding before
-formed-before none_due h = h
-formed-before (one_due f fs) h = one_due f (formed-before fs h)
+formed_before none_due h = h
+formed_before (one_due f fs) h = one_due f (formed_before fs h)
 
-held-before : {S : List ℕ} {n i j k : ℕ} {ps ns : Nodes} → HeldAll S n i j ps → HeldAll S n j k ns → HeldAll S n i k (before ps ns)
+held_before : {S : List ℕ} {n i j k : ℕ} {ps ns : Nodes} → HeldAll S n i j ps → HeldAll S n j k ns → HeldAll S n i k (before ps ns)
 unfolding before
-held-before no_tree h = h
-held-before (tree t ts) h = tree t (held-before ts h)
+held_before no_tree h = h
+held_before (tree t ts) h = tree t (held_before ts h)
 
-pub spells-before : {P : ℕ → Line → Type 0} {ps ns : Nodes} → EveryOf P ps → EveryOf P ns → EveryOf P (before ps ns)
+pub spells_before : {P : ℕ → Line → Type 0} {ps ns : Nodes} → EveryOf P ps → EveryOf P ns → EveryOf P (before ps ns)
 unfolding before
-spells-before no_more h = h
-spells-before (and_more e es) h = and_more e (spells-before es h)
+spells_before no_more h = h
+spells_before (and_more e es) h = and_more e (spells_before es h)
 
 -- ------------------------------------------------------------ line by line
 
@@ -52,7 +52,7 @@ below : {s S : List ℕ} {n i : ℕ} {ss : List Sort} {ns : Nodes} → i < n →
 unfolding drop_lines
 below h none_due no_tree no_more = absurd (omega arith)
 below h (one_due (formed a p fs) gs) (tree (held b y r) rs) (and_more (every e es) xs) =
-    record { due = _; formed = formed-before fs gs; held = held-before r rs; spells = spells-before es xs }
+    record { due = _; formed = formed_before fs gs; held = held_before r rs; spells = spells_before es xs }
 
 without_one : (k : ℕ) (ns : Nodes) → drop_lines (suc k) ns ≡ drop_lines 1 (drop_lines k ns)
 unfolding drop_lines
@@ -114,9 +114,9 @@ module _ {s S : List ℕ} (d : Loaded s S) where
   abbrev n : ℕ
   n = line_count S
 
-  from-line : (i : ℕ) → i ≤ n → Trees s S n i (trees_from s i)
+  from_line : (i : ℕ) → i ≤ n → Trees s S n i (trees_from s i)
   unfolding trees_from drop_lines
-  from-line zero h =
+  from_line zero h =
       rw d.one
       (record {
         due = _;
@@ -124,18 +124,18 @@ module _ {s S : List ℕ} (d : Loaded s S) where
         held = tree {j = n} {ns = nil} d.holding.held (rw d.holding.all no_tree);
         spells = and_more d.holding.spells no_more;
       })
-  from-line (suc i) h =
-      let t = from-line i (omega arith) in
+  from_line (suc i) h =
+      let t = from_line i (omega arith) in
       rw (without_one i (trees 0 (lines_in s))) (below h t.formed t.held t.spells)
 
   taken : (i j : ℕ) → i ≤ j → trees_from s j ≡ drop_lines (j - i) (trees_from s i)
   unfolding trees_from
   taken i j h = rw (let e : j ≡ i + (j - i) = omega arith in e) (without_add i (j - i) _ ∙ rw (let f : i + (j - i) - i ≡ j - i = omega arith in f) refl)
 
-  first_of : (i : ℕ) (ns : Nodes) {ss : List Sort} → trees_from s i ≡ ns → i < n → FormedAll ss ns → HeldAll S n i n ns → EveryOf (Spells s S) ns → Stands s S i
+  first_of_lem : (i : ℕ) (ns : Nodes) {ss : List Sort} → trees_from s i ≡ ns → i < n → FormedAll ss ns → HeldAll S n i n ns → EveryOf (Spells s S) ns → Stands s S i
   unfolding node_at drop_lines
-  first_of i nil q h none_due no_tree no_more = absurd (omega arith)
-  first_of i (more t ns) q h (one_due (formed {l = l} {ps = ps} a p fs) gs) (tree (held b y r) rs) (and_more (every e es) xs) =
+  first_of_lem i nil q h none_due no_tree no_more = absurd (omega arith)
+  first_of_lem i (more t ns) q h (one_due (formed {l = l} {ps = ps} a p fs) gs) (tree (held b y r) rs) (and_more (every e es) xs) =
       let w = past_all r ns in
       let behind : trees_from s (suc i) ≡ before ps ns = taken i (suc i) (omega arith) ∙ rw (q, let f : suc i - i ≡ 1 = omega arith in f) refl in
       let end : trees_from s (end_at S i) ≡ ns = taken (suc i) (end_at S i) w.0 ∙ rw behind w.1 in
@@ -154,12 +154,12 @@ module _ {s S : List ℕ} (d : Loaded s S) where
       }
 
   pub stands : (i : ℕ) → i < n → Stands s S i
-  stands i h = let t = from-line i (omega arith) in first_of i (trees_from s i) refl h t.formed t.held t.spells
+  stands i h = let t = from_line i (omega arith) in first_of_lem i (trees_from s i) refl h t.formed t.held t.spells
 
   -- behind the last line stands nothing
   pub none_beyond : (i : ℕ) → n ≤ i → trees_from s i ≡ nil
   none_beyond i h =
-      let none : trees_from s n ≡ nil = no_trees (omega arith) (from-line n (omega arith)).held in
+      let none : trees_from s n ≡ nil = no_trees (omega arith) (from_line n (omega arith)).held in
       rw (taken n i h, none) (without_none (i - n))
 
   pub beyond : (i : ℕ) → n ≤ i → node_at s i ≡ blank_node
@@ -167,22 +167,22 @@ module _ {s S : List ℕ} (d : Loaded s S) where
   beyond i h = rw (none_beyond i h) refl
 
   -- one record, and those behind it
-  pub nodes-next : (k i : ℕ) → i < n → nodes_at s (suc k) i ≡ node_at s i ∷ nodes_at s k (end_at S i)
+  pub nodes_next : (k i : ℕ) → i < n → nodes_at s (suc k) i ≡ node_at s i ∷ nodes_at s k (end_at S i)
   unfolding nodes_at take_nodes nodes
-  nodes-next k i h = rw (stands i h).next refl
+  nodes_next k i h = rw (stands i h).next refl
 
   pub exprs_next : (k i : ℕ) → i < n → exprs_at s (suc k) i ≡ more_exprs (expr_at s i) (exprs_at s k (end_at S i))
   unfolding exprs_at expr_at take_nodes exprs_of
   exprs_next k i h = rw (stands i h).next refl
 
 -- a line's parts are the records behind it
-taken-parts : {ss : List Sort} {ps : Nodes} → FormedAll ss ps → (ns : Nodes) → take_nodes (length ss) (before ps ns) ≡ ps
+taken_parts : {ss : List Sort} {ps : Nodes} → FormedAll ss ps → (ns : Nodes) → take_nodes (length ss) (before ps ns) ≡ ps
 unfolding take_nodes before
-taken-parts none_due ns = refl
-taken-parts (one_due {t = t} f fs) ns = ap (more t) (taken-parts fs ns)
+taken_parts none_due ns = refl
+taken_parts (one_due {t = t} f fs) ns = ap (more t) (taken_parts fs ns)
 
 pub parts_behind : {s S : List ℕ} {i : ℕ} (t : Stands s S i) → t.parts ≡ take_nodes (length (sorts t.line.parts)) (trees_from s (suc i))
-parts_behind t = rw t.behind (sym (taken-parts t.formed _))
+parts_behind t = rw t.behind (sym (taken_parts t.formed _))
 
 -- the first k parts of a line, which are of the sort σ, stand one behind another
 row_of : {S : List ℕ} {n j : ℕ} {σ : Sort} (k : ℕ) (rs : List Sort) {i : ℕ} {ps : Nodes} → n ≡ line_count S → FormedAll (copies k σ ++ rs) ps → HeldAll S n i j ps → Row S σ k i
@@ -207,15 +207,15 @@ pub row_group : {s S : List ℕ} {i : ℕ} (g : ℕ × Sort) (gs : List (ℕ × 
 unfolding sorts
 row_group g gs t e = row_of g.0 (sorts gs) refl (rw e at t.formed) t.held
 
-pub row-second : {s S : List ℕ} {i : ℕ} (g h : ℕ × Sort) (gs : List (ℕ × Sort)) (t : Stands s S i) → t.line.parts ≡ g ∷ h ∷ gs → Row S h.1 h.0 (skip S g.0 (suc i))
+pub row_second : {s S : List ℕ} {i : ℕ} (g h : ℕ × Sort) (gs : List (ℕ × Sort)) (t : Stands s S i) → t.line.parts ≡ g ∷ h ∷ gs → Row S h.1 h.0 (skip S g.0 (suc i))
 unfolding sorts
-row-second g h gs t e =
+row_second g h gs t e =
     let q = rest_of g.1 g.0 _ (rw e at t.formed) t.held in row_of h.0 (sorts gs) refl q.1 q.2
 
-pub row-third : {s S : List ℕ} {i : ℕ} (g h l : ℕ × Sort) (gs : List (ℕ × Sort)) (t : Stands s S i) → t.line.parts ≡ g ∷ h ∷ l ∷ gs
+pub row_third : {s S : List ℕ} {i : ℕ} (g h l : ℕ × Sort) (gs : List (ℕ × Sort)) (t : Stands s S i) → t.line.parts ≡ g ∷ h ∷ l ∷ gs
     → Row S l.1 l.0 (skip S h.0 (skip S g.0 (suc i)))
 unfolding sorts
-row-third g h l gs t e =
+row_third g h l gs t e =
     let q = rest_of g.1 g.0 _ (rw e at t.formed) t.held in
     let r = rest_of h.1 h.0 _ q.1 q.2 in
     row_of l.0 (sorts gs) refl r.1 r.2
@@ -234,31 +234,31 @@ row_nth (suc k) h (next x r) = row_nth k (omega arith) r
 row_nth k h stop = absurd (omega arith)
 
 -- the first k of them
-pub row-take : {S : List ℕ} {σ : Sort} (k : ℕ) {m i : ℕ} → k ≤ m → Row S σ m i → Row S σ k i
-row-take zero h r = stop
-row-take (suc k) h (next x r) = next x (row-take k (omega arith) r)
-row-take (suc k) h stop = absurd (omega arith)
+pub row_take : {S : List ℕ} {σ : Sort} (k : ℕ) {m i : ℕ} → k ≤ m → Row S σ m i → Row S σ k i
+row_take zero h r = stop
+row_take (suc k) h (next x r) = next x (row_take k (omega arith) r)
+row_take (suc k) h stop = absurd (omega arith)
 
-pub skip-next : (S : List ℕ) (k i : ℕ) → skip S (suc k) i ≡ end_at S (skip S k i)
+pub skip_next : (S : List ℕ) (k i : ℕ) → skip S (suc k) i ≡ end_at S (skip S k i)
 unfolding skip
-skip-next S zero i = refl
-skip-next S (suc k) i = skip-next S k (end_at S i)
+skip_next S zero i = refl
+skip_next S (suc k) i = skip_next S k (end_at S i)
 
 pub node_nth : {s S : List ℕ} {σ : Sort} {m i : ℕ} (k : ℕ) → Loaded s S → k < m → Row S σ m i → get_elem? (nodes_at s m i) k ≡ some (node_at s (skip S k i))
 unfolding skip
-node_nth {m = suc m} {i} zero d h (next x r) = rw (nodes-next d m i x.within) refl
-node_nth {m = suc m} {i} (suc k) d h (next x r) = rw (nodes-next d m i x.within) (node_nth k d (omega arith) r)
+node_nth {m = suc m} {i} zero d h (next x r) = rw (nodes_next d m i x.within) refl
+node_nth {m = suc m} {i} (suc k) d h (next x r) = rw (nodes_next d m i x.within) (node_nth k d (omega arith) r)
 node_nth k d h stop = absurd (omega arith)
 
 pub nodes_last : {s S : List ℕ} {σ : Sort} (k : ℕ) {i : ℕ} → Loaded s S → Row S σ (suc k) i → nodes_at s (suc k) i ≡ nodes_at s k i ++ (node_at s (skip S k i) ∷ [])
 unfolding skip nodes_at take_nodes nodes
-nodes_last zero {i} d (next x r) = nodes-next d 0 i x.within
-nodes_last {s} (suc k) {i} d (next x r) = rw (nodes-next d (suc k) i x.within, nodes-next d k i x.within) (ap (λ ts. node_at s i ∷ ts) (nodes_last k d r))
+nodes_last zero {i} d (next x r) = nodes_next d 0 i x.within
+nodes_last {s} (suc k) {i} d (next x r) = rw (nodes_next d (suc k) i x.within, nodes_next d k i x.within) (ap (λ ts. node_at s i ∷ ts) (nodes_last k d r))
 
 pub nodes-length : {s S : List ℕ} {σ : Sort} {m i : ℕ} → Loaded s S → Row S σ m i → length (nodes_at s m i) ≡ m
 unfolding nodes_at take_nodes nodes
 nodes-length d stop = refl
-nodes-length {m = suc m} {i} d (next x r) = rw (nodes-next d m i x.within) (ap suc (nodes-length d r))
+nodes-length {m = suc m} {i} d (next x r) = rw (nodes_next d m i x.within) (ap suc (nodes-length d r))
 
 -- ------------------------------------------------------------ the loader
 
@@ -270,14 +270,14 @@ lines_in_lem s ls e = rw e refl
 pub by_load : (s : List ℕ) (types : ℕ) (S : List ℕ) (ls : List Line) → load s types (length S) ≡ lines ls → Loaded s (take (cells_per_line * length ls) (scratch_after s types S))
 by_load s types S ls e =
     let d = loaded s types S ls e in
-    let c : line_count (take (cells_per_line * length ls) (scratch_after s types S)) ≡ length ls = omega (arith, left-size s types S ls e) in
+    let c : line_count (take (cells_per_line * length ls) (scratch_after s types S)) ≡ length ls = omega (arith, left_size s types S ls e) in
     record { root = d.0; one = rw (lines_in_lem s ls (whole s types S ls e).1) d.1; holding = rw c d.2 }
 
 -- ... where it answers that there are n lines, and leaves U for S
 pub by_answer : (s S U : List ℕ) (types n : ℕ) (r : Answer) → r ≡ answer (load s types (length S)) → r ≡ Lines n → U ≡ scratch_after s types S → LoadedIn s U n
 by_answer s S U types n r a e u =
-    let l = answer-lines (load s types (length S)) (sym e ∙ a) in
+    let l = answer_lines (load s types (length S)) (sym e ∙ a) in
     let X = scratch_after s types S in
     let k = cells_per_line * length l.0 in
-    let h : k ≤ length X = omega (arith, left-size s types S l.0 l.1, length-take k X) in
-    rw (u, l.2) (record { loaded = by_load s types S l.0 l.1; cells = h; few = left-few s types S l.0 l.1 })
+    let h : k ≤ length X = omega (arith, left_size s types S l.0 l.1, length-take k X) in
+    rw (u, l.2) (record { loaded = by_load s types S l.0 l.1; cells = h; few = left_few s types S l.0 l.1 })

@@ -9,7 +9,7 @@ use Rattle.grammar.specs.Grammar as grammar
 use Rattle.sheet.specs.Scratch.{kind_at, end_at, call_arg_count}
 use Rattle.rules.specs.Ast.{Expr, Exprs, nil, more}
 use Rattle.rules.specs.Standing.{expr_at, exprs_at, Loaded, Here}
-use Rattle.rules.proofs.Forest.{joined, parts_of, Left, At, left_one, left_over, left_at, left-args}
+use Rattle.rules.proofs.Forest.{joined, parts_of, Left, At, left_one, left_over, left_at_lem, left_args}
 use Rattle.grammar.specs.Kinds as kinds
 
 -- what is gathered of some expressions and of others behind them
@@ -42,7 +42,7 @@ module _ {s S : List ℕ} {P : Exprs → Type 0} {end at : ℕ} (w : Walk s S P 
 
   module _ (h : at < end) where
     now : At w.loaded at end w.exprs
-    now = left_at w.loaded w.left h
+    now = left_at_lem w.loaded w.left h
 
     pub walk_line : Here S grammar.Expr at
     walk_line = now.here
@@ -64,7 +64,7 @@ module _ {s S : List ℕ} {P : Exprs → Type 0} {end at : ℕ} (w : Walk s S P 
 
       pub walk_args : (at' : ℕ) → kind_at S at ≡ kinds.call → at' ≡ end_at S (suc at)
           → ((es : Exprs) → P (more (expr_at s at) es) → Q (joined (exprs_at s (call_arg_count S at) (end_at S (suc at))) es)) → Walk s S Q end at'
-      walk_args at' k q f = rw q (record { loaded = w.loaded; exprs = _; left = left-args w.loaded now k; known = f now.rest first })
+      walk_args at' k q f = rw q (record { loaded = w.loaded; exprs = _; left = left_args w.loaded now k; known = f now.rest first })
 
     pub walk_less : (at' : ℕ) → at' ≡ end_at S at → end - at' < end - at
     walk_less at' q = omega (arith, now.here.after)

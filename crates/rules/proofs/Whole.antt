@@ -78,15 +78,15 @@ module _ (Q : Bool → ℕ → Rule Ty → Type 0) where
       c_for Q Afresh _ _
       (λ i. w_some (get_elem? (list c.args) i) _ (λ a q. c_bind Q Afresh (ty_of Γ a) _ (c_ty_of Q Afresh Γ a (fits_at Γ c.args i a k q)) (λ _. c_expect Q Afresh _ _ _ _))))
 
-  w_emit-field : (Γ : Env) (e : Expr) (p : Param) → Fits Q Afresh Γ e → C Q Afresh (check_emit_field Γ e p)
+  w_emit_field : (Γ : Env) (e : Expr) (p : Param) → Fits Q Afresh Γ e → C Q Afresh (check_emit_field Γ e p)
   unfolding check_emit_field
-  w_emit-field Γ e p h = c_bind Q Afresh (ty_of Γ e) _ (c_ty_of Q Afresh Γ e h) (λ _. c_expect Q Afresh _ _ _ _)
+  w_emit_field Γ e p h = c_bind Q Afresh (ty_of Γ e) _ (c_ty_of Q Afresh Γ e h) (λ _. c_expect Q Afresh _ _ _ _)
 
   w_zip : (Γ : Env) (es : List Expr) (ps : List Param) → FitsEach Γ es → CEach Q Afresh (λ p. check_emit_field Γ p.0 p.1) (zip es ps)
   unfolding zip
   w_zip Γ [] ps h = tt
   w_zip Γ (e ∷ es) [] h = tt
-  w_zip Γ (e ∷ es) (p ∷ ps) h = (w_emit-field Γ e p h.0, w_zip Γ es ps h.1)
+  w_zip Γ (e ∷ es) (p ∷ ps) h = (w_emit_field Γ e p h.0, w_zip Γ es ps h.1)
 
   w_emit : (Γ : Env) (x : Name) (es : List Expr) → FitsEach Γ es → C Q Afresh (check_emit_fields Γ x es)
   unfolding check_emit_fields

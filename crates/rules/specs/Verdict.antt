@@ -54,7 +54,7 @@ judge most (lines ls) = ruled most (length ls) (fresh (check (model_of ls)))
 unfoldable pub verdict : List ℕ → (types scratch message : ℕ) → Answer
 verdict s types scratch message = judge message (load s types scratch)
 
--- How many bytes a message has at most. No definition rests on it: the verdict call promises it (`message-short` of message/proofs/Lengths).
+-- How many bytes a message has at most. No definition rests on it: the verdict call promises it (`message_short` of message/proofs/Lengths).
 abbrev pub longest : ℕ
 longest = 16384
 

@@ -16,7 +16,7 @@ use Rattle.grammar.specs.Grammar.{Sort, Contract, Item, Field, Param, Ty, Arg, C
 use Rattle.sheet.specs.Line.{Line, read_field, read_fields, good, read_pieces, read_line, fields_of}
 use Rattle.sheet.specs.Load.{lines, lines_of, scan}
 use Rattle.sheet.specs.Held.{Each, no_line, one}
-use Rattle.sheet.proofs.Holds.{judged-lines}
+use Rattle.sheet.proofs.Holds.{judged_lines}
 use Rattle.sheet.proofs.ReadAs.{on_number_lem, on_test, read_as_lem}
 use Rattle.grammar.proofs.TableLaws.{every}
 
@@ -38,8 +38,8 @@ bytes_most p w (b ∷ bs) (suc k) = by_cases (p b) (bytes_most p [] bs k) (bytes
     by_cases true h g = omega arith
     by_cases false h g = omega (arith, length-append w (b ∷ []))
 
-pub lines-most : (s : List ℕ) (k : ℕ) → bytes_upto k (lines_of s) ≤ length s
-lines-most s k = omega (arith, bytes_most (either 10 10) [] s k)
+pub lines_most : (s : List ℕ) (k : ℕ) → bytes_upto k (lines_of s) ≤ length s
+lines_most s k = omega (arith, bytes_most (either 10 10) [] s k)
 
 -- ------------------------------------------------------------ a line
 
@@ -112,12 +112,12 @@ each_next : {P Q : ℕ → Line → Type 0} {j : ℕ} {xs : List Line} → ((k :
 each_next f no_line = no_line
 each_next f (one h hs) = one (f _ _ h) (each_next f hs)
 
-pub lines-take : (ls : List (List ℕ)) (i at : ℕ) (ds : List (ℕ × Sort)) (xs : List Line) → scan i at ds ls ≡ lines xs → Each (Takes ls) 0 xs
+pub lines_take : (ls : List (List ℕ)) (i at : ℕ) (ds : List (ℕ × Sort)) (xs : List Line) → scan i at ds ls ≡ lines xs → Each (Takes ls) 0 xs
 unfolding scan
-lines-take [] i at [] xs e = let n : xs ≡ [] = cc in rw n no_line
-lines-take [] i at (d ∷ ds) xs e = absurd (let z : ◌≡◌ {A = ℕ} 0 1 = cc in omega arith)
-lines-take (l ∷ ls) i at [] xs e = absurd (let z : ◌≡◌ {A = ℕ} 0 1 = cc in omega arith)
-lines-take (l ∷ ls) i at (d ∷ ds) xs e =
-    let r = judged-lines _ _ i _ xs e in
+lines_take [] i at [] xs e = let n : xs ≡ [] = cc in rw n no_line
+lines_take [] i at (d ∷ ds) xs e = absurd (let z : ◌≡◌ {A = ℕ} 0 1 = cc in omega arith)
+lines_take (l ∷ ls) i at [] xs e = absurd (let z : ◌≡◌ {A = ℕ} 0 1 = cc in omega arith)
+lines_take (l ∷ ls) i at (d ∷ ds) xs e =
+    let r = judged_lines _ _ i _ xs e in
     let first_kind : Takes (l ∷ ls) 0 r.0 = omega (arith, line_least d.1 at l r.0 r.2) in
-    rw r.4 (one first_kind (each_next (λ k x h. omega (arith, h)) (lines-take ls _ _ _ _ r.3)))
+    rw r.4 (one first_kind (each_next (λ k x h. omega (arith, h)) (lines_take ls _ _ _ _ r.3)))

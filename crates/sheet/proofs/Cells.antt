@@ -65,10 +65,10 @@ puts_last (p ∷ ps) S i m g h =
     ∙ ap (last_put ps m) (put_last S i p.0 p.1 m (eqb p.0 m) refl g h)
 
 -- a turn of `skip`: a is the line after the tree at line j
-pub skip-more : (S : List ℕ) (k j a : ℕ) → 0 < k → a ≡ end_at S j → skip S k j ≡ skip S (k - 1) a
+pub skip_more : (S : List ℕ) (k j a : ℕ) → 0 < k → a ≡ end_at S j → skip S k j ≡ skip S (k - 1) a
 unfolding skip
-skip-more S zero j a h e = absurd (omega arith)
-skip-more S (suc k) j a h e = rw (e, let p : suc k - 1 ≡ k = omega arith in p)
+skip_more S zero j a h e = absurd (omega arith)
+skip_more S (suc k) j a h e = rw (e, let p : suc k - 1 ≡ k = omega arith in p)
 
 pub skip_none : (S : List ℕ) (k j : ℕ) → k ≤ 0 → skip S k j ≡ j
 unfolding skip
@@ -76,11 +76,11 @@ skip_none S zero j h = refl
 skip_none S (suc k) j h = absurd (omega arith)
 
 -- a turn of `close`: a, b and d parts of line i - 1, and e the line after them
-pub closed-more : (S T : List ℕ) (i a b d e : ℕ) → 0 < i → a ≡ first_count S (i - 1) → b ≡ second_count S (i - 1) → d ≡ third_count S (i - 1)
+pub closed_more : (S T : List ℕ) (i a b d e : ℕ) → 0 < i → a ≡ first_count S (i - 1) → b ≡ second_count S (i - 1) → d ≡ third_count S (i - 1)
     → e ≡ skip S (a + b + d) (i - 1 + 1) → T ≡ put S (i - 1) 2 e → closed i S ≡ closed (i - 1) T
 unfolding closed
-closed-more S T zero a b d e h p q r s t = absurd (omega arith)
-closed-more S T (suc i) a b d e h p q r s t = rw (t, s, p, q, r, let n : suc i - 1 ≡ i = omega arith in n, add-one i)
+closed_more S T zero a b d e h p q r s t = absurd (omega arith)
+closed_more S T (suc i) a b d e h p q r s t = rw (t, s, p, q, r, let n : suc i - 1 ≡ i = omega arith in n, add-one i)
 
 pub closed_none : (S : List ℕ) (i : ℕ) → i ≤ 0 → closed i S ≡ S
 unfolding closed

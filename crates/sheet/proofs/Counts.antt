@@ -13,9 +13,9 @@ use Rattle.grammar.specs.Table.{most_groups, sort_table}
 use Rattle.grammar.specs.Grammar.{no_kind}
 
 -- the deepest of the depths, with the others
-settled-top : (ds : List ℕ) (n : ℕ) → 0 < n → settled ds n ≡ cond (eqb (get_or ds (n - 1) 0) 0) (settled ds (n - 1)) n
+settled_top : (ds : List ℕ) (n : ℕ) → 0 < n → settled ds n ≡ cond (eqb (get_or ds (n - 1) 0) 0) (settled ds (n - 1)) n
 unfolding settled
-settled-top ds n h = ap (settled ds) e ∙ ap (λ k. cond (eqb (get_or ds (n - 1) 0) 0) (settled ds (n - 1)) k) (sym e)
+settled_top ds n h = ap (settled ds) e ∙ ap (λ k. cond (eqb (get_or ds (n - 1) 0) 0) (settled ds (n - 1)) k) (sym e)
   where
     e : n ≡ suc (n - 1)
     e = omega arith
@@ -23,10 +23,10 @@ settled-top ds n h = ap (settled ds) e ∙ ap (λ k. cond (eqb (get_or ds (n - 1
 -- A turn of `settle`: r is the answer, and n the depths of the turn.
 module _ (ds : List ℕ) (n r : ℕ) (e : r ≡ settled ds n) where
   pub settle_stop : 0 < n → (get_or ds (n - 1) 0 ≡ 0 → ⊥) → n ≡ r
-  settle_stop h z = sym (e ∙ settled-top ds n h ∙ rw (ne_eqb (get_or ds (n - 1) 0) 0 z))
+  settle_stop h z = sym (e ∙ settled_top ds n h ∙ rw (ne_eqb (get_or ds (n - 1) 0) 0 z))
 
   pub settle_more : 0 < n → get_or ds (n - 1) 0 ≡ 0 → r ≡ settled ds (n - 1)
-  settle_more h z = e ∙ settled-top ds n h ∙ rw (eq-eqb (get_or ds (n - 1) 0) 0 z)
+  settle_more h z = e ∙ settled_top ds n h ∙ rw (eq-eqb (get_or ds (n - 1) 0) 0 z)
 
   pub settle_over : n ≤ 0 → n ≡ r
   unfolding settled
@@ -34,17 +34,17 @@ module _ (ds : List ℕ) (n r : ℕ) (e : r ≡ settled ds n) where
 
 -- The sort of the next part, by the cells of its line: k is the part's number.
 module _ (S : List ℕ) (i n e a b c r : ℕ) (p : e ≡ cell S i kind_cell) (q : a ≡ first_count S i) (s : b ≡ second_count S i) (t : c ≡ third_count S i) where
-  pub next-first : a + b + c - n < a → r ≡ get_or sort_table (most_groups * (e % kind_range) + 0) 0 → r ≡ next_sort S i n
+  pub next_first : a + b + c - n < a → r ≡ get_or sort_table (most_groups * (e % kind_range) + 0) 0 → r ≡ next_sort S i n
   unfolding next_sort group_at kind_at
-  next-first h g = rw (← p, ← q, ← s, ← t, lt-ltb (a + b + c - n) a h) g
+  next_first h g = rw (← p, ← q, ← s, ← t, lt-ltb (a + b + c - n) a h) g
 
-  pub next-second : a ≤ a + b + c - n → a + b + c - n < a + b → r ≡ get_or sort_table (most_groups * (e % kind_range) + 1) 0 → r ≡ next_sort S i n
+  pub next_second : a ≤ a + b + c - n → a + b + c - n < a + b → r ≡ get_or sort_table (most_groups * (e % kind_range) + 1) 0 → r ≡ next_sort S i n
   unfolding next_sort group_at kind_at
-  next-second f h g = rw (← p, ← q, ← s, ← t, le-ltb (a + b + c - n) a f, lt-ltb (a + b + c - n) (a + b) h) g
+  next_second f h g = rw (← p, ← q, ← s, ← t, le-ltb (a + b + c - n) a f, lt-ltb (a + b + c - n) (a + b) h) g
 
-  pub next-third : a ≤ a + b + c - n → a + b ≤ a + b + c - n → r ≡ get_or sort_table (most_groups * (e % kind_range) + 2) 0 → r ≡ next_sort S i n
+  pub next_third : a ≤ a + b + c - n → a + b ≤ a + b + c - n → r ≡ get_or sort_table (most_groups * (e % kind_range) + 2) 0 → r ≡ next_sort S i n
   unfolding next_sort group_at kind_at
-  next-third f h g = rw (← p, ← q, ← s, ← t, le-ltb (a + b + c - n) a f, le-ltb (a + b + c - n) (a + b) h) g
+  next_third f h g = rw (← p, ← q, ← s, ← t, le-ltb (a + b + c - n) a f, le-ltb (a + b + c - n) (a + b) h) g
 
 pub kind_below : (S : List ℕ) (i e : ℕ) → e ≡ cell S i kind_cell → kind_at S i < no_kind → e % kind_range < no_kind
 unfolding kind_at

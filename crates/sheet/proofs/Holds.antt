@@ -16,17 +16,17 @@ use Rattle.sheet.specs.Held.{Says, Held, held, HeldAll, no_tree, tree, Due, done
 use Rattle.sheet.proofs.Due.{length-sorts, length-due}
 use Rattle.sheet.proofs.Cells.{length-put, cell_same, cell_other, length_puts, puts_below, puts_last}
 
-after-lines : (l : Line) (r : LoadResult) (xs : List Line) → after l r ≡ lines xs → (ys : List Line) × (r ≡ lines ys) × (xs ≡ l ∷ ys)
-after-lines l (lines ys) xs e = (ys, refl, cc)
-after-lines l (refused n i) xs e = absurd (let z : ◌≡◌ {A = ℕ} 0 1 = cc in omega arith)
+after_lines : (l : Line) (r : LoadResult) (xs : List Line) → after l r ≡ lines xs → (ys : List Line) × (r ≡ lines ys) × (xs ≡ l ∷ ys)
+after_lines l (lines ys) xs e = (ys, refl, cc)
+after_lines l (refused n i) xs e = absurd (let z : ◌≡◌ {A = ℕ} 0 1 = cc in omega arith)
 
 -- a turn of `scan` that gives lines has read one
-pub judged-lines : (b : Bool) (r : Read) (i : ℕ) (f : Line → LoadResult) (xs : List Line) → judged i b r f ≡ lines xs
+pub judged_lines : (b : Bool) (r : Read) (i : ℕ) (f : Line → LoadResult) (xs : List Line) → judged i b r f ≡ lines xs
     → (x : Line) × (ys : List Line) × (r ≡ good x) × (f x ≡ lines ys) × (xs ≡ x ∷ ys)
 unfolding judged
-judged-lines true r i f xs e = absurd (let z : ◌≡◌ {A = ℕ} 0 1 = cc in omega arith)
-judged-lines false (bad n) i f xs e = absurd (let z : ◌≡◌ {A = ℕ} 0 1 = cc in omega arith)
-judged-lines false (good x) i f xs e = let r = after-lines x (f x) xs e in (x, r.0, refl, r.1, r.2)
+judged_lines true r i f xs e = absurd (let z : ◌≡◌ {A = ℕ} 0 1 = cc in omega arith)
+judged_lines false (bad n) i f xs e = absurd (let z : ◌≡◌ {A = ℕ} 0 1 = cc in omega arith)
+judged_lines false (good x) i f xs e = let r = after_lines x (f x) xs e in (x, r.0, refl, r.1, r.2)
 
 -- ... at a depth that is allowed
 pub judged_shallow : (i : ℕ) (b : Bool) (r : Read) (f : Line → LoadResult) (xs : List Line) → judged i b r f ≡ lines xs → b ≡ false
@@ -35,9 +35,9 @@ judged_shallow i true r f xs e = absurd (let z : ◌≡◌ {A = ℕ} 0 1 = cc in
 judged_shallow i false r f xs e = refl
 
 -- conversely, where a line is read at such a depth and lines follow, the turn gives lines
-pub judged-good : (j : ℕ) (b : Bool) (r : Read) (f : Line → LoadResult) (y : Line) (ys : List Line) → b ≡ false → r ≡ good y → f y ≡ lines ys → judged j b r f ≡ lines (y ∷ ys)
+pub judged_good : (j : ℕ) (b : Bool) (r : Read) (f : Line → LoadResult) (y : Line) (ys : List Line) → b ≡ false → r ≡ good y → f y ≡ lines ys → judged j b r f ≡ lines (y ∷ ys)
 unfolding judged
-judged-good j b r f y ys e g h = rw (e, g, h)
+judged_good j b r f y ys e g h = rw (e, g, h)
 
 pub scan-due : (ls : List (List ℕ)) (i at : ℕ) (ds : List (ℕ × Sort)) (xs : List Line) → scan i at ds ls ≡ lines xs → Due (length ds) xs
 unfolding scan
@@ -45,7 +45,7 @@ scan-due [] i at [] xs e = let n : xs ≡ [] = cc in rw n done
 scan-due [] i at (d ∷ ds) xs e = absurd (let z : ◌≡◌ {A = ℕ} 0 1 = cc in omega arith)
 scan-due (l ∷ ls) i at [] xs e = absurd (let z : ◌≡◌ {A = ℕ} 0 1 = cc in omega arith)
 scan-due (l ∷ ls) i at (d ∷ ds) xs e =
-    let r = judged-lines _ _ i _ xs e in rw r.4 (next (rw (length-append, length-due, length-sorts) at (scan-due ls _ _ _ _ r.3)))
+    let r = judged_lines _ _ i _ xs e in rw r.4 (next (rw (length-append, length-due, length-sorts) at (scan-due ls _ _ _ _ r.3)))
 
 -- what line i says stays where its end cell alone may change
 says_kept : {S T : List ℕ} {i : ℕ} {l : Line} → ((m : ℕ) → (m < cells_per_line) × (m ≡ end_cell → ⊥) → cell T i m ≡ cell S i m) → Says S i l → Says T i l
@@ -79,12 +79,12 @@ end_put S i j v g = cell_other S j end_cell v i end_cell (omega arith) (omega ar
 
 -- where the end cell of a line is put, the trees behind the line stay
 mutual
-  held-put : {S : List ℕ} {n i : ℕ} {t : Node} → Held S n i t → (j v : ℕ) → j < i → Held (put S j end_cell v) n i t
-  held-put (held {i} h s r) j v g = held h (says_put j v s) (rw (← end_put _ i j v g) at (all_put r j v (omega arith)))
+  held_put : {S : List ℕ} {n i : ℕ} {t : Node} → Held S n i t → (j v : ℕ) → j < i → Held (put S j end_cell v) n i t
+  held_put (held {i} h s r) j v g = held h (says_put j v s) (rw (← end_put _ i j v g) at (all_put r j v (omega arith)))
 
   all_put : {S : List ℕ} {n i k : ℕ} {ns : Nodes} → HeldAll S n i k ns → (j v : ℕ) → j < i → HeldAll (put S j end_cell v) n i k ns
   all_put no_tree j v g = no_tree
-  all_put (tree {i} h r) j v g = tree (held-put h j v g) (rw (← end_put _ i j v g) at (all_put r j v (omega (arith, held_less h))))
+  all_put (tree {i} h r) j v g = tree (held_put h j v g) (rw (← end_put _ i j v g) at (all_put r j v (omega (arith, held_less h))))
 
 count-drop : (k : ℕ) (ns : Nodes) → k ≤ tree_count ns → tree_count (drop_nodes k ns) + k ≡ tree_count ns
 unfolding drop_nodes
@@ -136,24 +136,24 @@ pub length-line : (S : List ℕ) (i : ℕ) (l : Line) → length (put_line S i (
 unfolding put_line
 length-line S i l = length_puts (cells_of l) S i
 
-put-lines_below : (ls : List Line) (S : List ℕ) (i j m : ℕ) → j < i → m < cells_per_line → cell (put_lines i ls S) j m ≡ cell S j m
+put_lines_below : (ls : List Line) (S : List ℕ) (i j m : ℕ) → j < i → m < cells_per_line → cell (put_lines i ls S) j m ≡ cell S j m
 unfolding put_lines put_line
-put-lines_below [] S i j m g h = refl
-put-lines_below (l ∷ ls) S i j m g h = put-lines_below ls (put_line S i (code_line l)) (suc i) j m (omega arith) h ∙ line_below S i l j m g h
+put_lines_below [] S i j m g h = refl
+put_lines_below (l ∷ ls) S i j m g h = put_lines_below ls (put_line S i (code_line l)) (suc i) j m (omega arith) h ∙ line_below S i l j m g h
 
-put-lines_say : {ls : List Line} {i : ℕ} → Each (λ j. Sound) i ls → (S : List ℕ) → cells_per_line * (i + length ls) ≤ length S
+put_lines_say : {ls : List Line} {i : ℕ} → Each (λ j. Sound) i ls → (S : List ℕ) → cells_per_line * (i + length ls) ≤ length S
     → Each (Says (put_lines i ls S)) i ls
 unfolding put_lines
-put-lines_say no_line S g = no_line
-put-lines_say (one {i} {l} {ls} s ss) S g =
+put_lines_say no_line S g = no_line
+put_lines_say (one {i} {l} {ls} s ss) S g =
     let e = length-line S i l in
-    one (says_kept (λ m h. put-lines_below ls _ (suc i) i m (omega arith) h.0) (line_says S i l (omega arith) s.kind))
-    (put-lines_say ss (put_line S i (code_line l)) (omega arith))
+    one (says_kept (λ m h. put_lines_below ls _ (suc i) i m (omega arith) h.0) (line_says S i l (omega arith) s.kind))
+    (put_lines_say ss (put_line S i (code_line l)) (omega arith))
 
-pub length-put-lines : (ls : List Line) (S : List ℕ) (i : ℕ) → length (put_lines i ls S) ≡ length S
+pub length-put_lines : (ls : List Line) (S : List ℕ) (i : ℕ) → length (put_lines i ls S) ≡ length S
 unfolding put_lines
-length-put-lines [] S i = refl
-length-put-lines (l ∷ ls) S i = length-put-lines ls (put_line S i (code_line l)) (suc i) ∙ length-line S i l
+length-put_lines [] S i = refl
+length-put_lines (l ∷ ls) S i = length-put_lines ls (put_line S i (code_line l)) (suc i) ∙ length-line S i l
 
 pub length-closed : (n : ℕ) (S : List ℕ) → length (closed n S) ≡ length S
 unfolding closed
@@ -161,13 +161,13 @@ length-closed zero S = refl
 length-closed (suc i) S = length-closed i _ ∙ length-put S i end_cell _
 
 -- the three groups of parts that the last three cells tell are all
-parts-total : (gs : List (ℕ × Sort)) → length gs ≤ 3 → get_or (numbers_in gs) 0 0 + get_or (numbers_in gs) 1 0 + get_or (numbers_in gs) 2 0 ≡ total gs
+parts_total : (gs : List (ℕ × Sort)) → length gs ≤ 3 → get_or (numbers_in gs) 0 0 + get_or (numbers_in gs) 1 0 + get_or (numbers_in gs) 2 0 ≡ total gs
 unfolding total
-parts-total [] h = refl
-parts-total (a ∷ []) h = omega arith
-parts-total (a ∷ b ∷ []) h = omega arith
-parts-total (a ∷ b ∷ d ∷ []) h = omega arith
-parts-total (a ∷ b ∷ d ∷ e ∷ gs) h = absurd (omega arith)
+parts_total [] h = refl
+parts_total (a ∷ []) h = omega arith
+parts_total (a ∷ b ∷ []) h = omega arith
+parts_total (a ∷ b ∷ d ∷ []) h = omega arith
+parts_total (a ∷ b ∷ d ∷ e ∷ gs) h = absurd (omega arith)
 
 -- a line with its parts behind it, up to line v, and other trees behind those
 stand : {S : List ℕ} {n i v j : ℕ} {l : Line} {ps ns : Nodes} → i < n → Says S i l → end_at S i ≡ v
@@ -180,7 +180,7 @@ grown : {S : List ℕ} {n i : ℕ} {l : Line} {ns : Nodes} → i < n → cells_p
     → HeldAll (put S i end_cell (skip S (parts_at S i) (suc i))) n i n (grow i l ns)
 unfolding grow
 grown {S} {i} {l} h g o s r e =
-    let p : parts_at S i ≡ total l.parts = rw (s.first, s.second, s.third) (parts-total l.parts o.groups) in
+    let p : parts_at S i ≡ total l.parts = rw (s.first, s.second, s.third) (parts_total l.parts o.groups) in
     let v = skip S (total l.parts) (suc i) in
     let q = split (total l.parts) r e in
     let le = all_le q.0 in
@@ -216,7 +216,7 @@ pub holds : {ls : List Line} {n k : ℕ} (S : List ℕ) → length S ≡ cells_p
     → HeldAll (closed n (put_lines 0 ls S)) n 0 n (trees 0 ls)
 unfolding closed
 holds {ls} {n} S g e o d =
-    let c = closing {n = n} (put-lines_say o S (omega arith)) o d (omega arith) (omega (arith, length-put-lines ls S 0)) in rw c.same c.held
+    let c = closing {n = n} (put_lines_say o S (omega arith)) o d (omega arith) (omega (arith, length-put_lines ls S 0)) in rw c.same c.held
 
 -- ... and where one record is due, that is one tree
 pub one_tree : {ls : List Line} → Due 1 ls → (t : Node) × (trees 0 ls ≡ more t nil)
@@ -236,9 +236,9 @@ all_first (tree h r) = (h, r)
 
 -- a tree ends in the first n lines
 mutual
-  pub held-most : {S : List ℕ} {n i : ℕ} {t : Node} → Held S n i t → end_at S i ≤ n
-  held-most (held h s r) = all_most r h
+  pub held_most : {S : List ℕ} {n i : ℕ} {t : Node} → Held S n i t → end_at S i ≤ n
+  held_most (held h s r) = all_most r h
 
   pub all_most : {S : List ℕ} {n i j : ℕ} {ns : Nodes} → HeldAll S n i j ns → i ≤ n → j ≤ n
   all_most no_tree g = g
-  all_most (tree h r) g = all_most r (held-most h)
+  all_most (tree h r) g = all_most r (held_most h)

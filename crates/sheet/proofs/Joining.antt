@@ -8,8 +8,8 @@ use Rattle.sheet.specs.Line.{Line, read_line}
 use Rattle.sheet.specs.Load.{LoadResult, lines, sorts, due, scan, load_from, load}
 use Rattle.sheet.specs.Same.{SameLine}
 use Rattle.sheet.specs.Joined.{Reads, Joins}
-use Rattle.sheet.proofs.Holds.{judged-lines, judged-good}
-use Rattle.sheet.proofs.Loading.{loaded-whole}
+use Rattle.sheet.proofs.Holds.{judged_lines, judged_good}
+use Rattle.sheet.proofs.Loading.{loaded_whole}
 use Rattle.sheet.proofs.Paired.{split₂}
 use Rattle.sheet.proofs.Rereading.{Reread, scan-joined, scan_moved}
 
@@ -26,7 +26,7 @@ rest_read : {s : List ℕ} {types scratch : ℕ} {l : List ℕ} {L : List (List 
     → scan 2 (0 + length l + 1) (due 1 (sorts c.parts) ++ []) L ≡ lines r
 unfolding scan
 rest_read {s} {types} {scratch} {l} {L} {c} {r} h =
-    let q = judged-lines _ _ 1 _ (c ∷ r) (rw h.all at (loaded-whole s types scratch (c ∷ r) h.read).1) in
+    let q = judged_lines _ _ 1 _ (c ∷ r) (rw h.all at (loaded_whole s types scratch (c ∷ r) h.read).1) in
     of_line (λ x. scan 2 (0 + length l + 1) (due 1 (sorts x.parts) ++ []) L) c q.0 r q.1 q.3 q.4
 
 -- two sheets, and one with the lines of both
@@ -41,11 +41,11 @@ module _ {s₁ s₂ s : List ℕ} {types₁ scratch₁ types₂ scratch₂ types
       (scan-joined L₁ L₂ (due 1 (sorts c₁.parts)) (due 1 (sorts c₂.parts) ++ []) 2 _ _ _ r₁ r₂ (rw append-nil at p)
       (λ j to. scan_moved L₂ (due 1 (sorts c₂.parts) ++ []) 2 _ j to r₂ q))
 
-  pub joined-read : (a b : List Line) × (load s types scratch ≡ lines (c ∷ (a ++ b))) × Forall₂ SameLine r₁ a × Forall₂ SameLine r₂ b
+  pub joined_read : (a b : List Line) × (load s types scratch ≡ lines (c ∷ (a ++ b))) × Forall₂ SameLine r₁ a × Forall₂ SameLine r₂ b
   unfolding load load_from scan
-  joined-read =
+  joined_read =
       let t = reread in
       let q = split₂ r₁ r₂ t.same in
       let u : scan 1 0 ((0, Contract) ∷ []) (l ∷ (L₁ ++ L₂)) ≡ lines (c ∷ (q.0 ++ q.1)) =
-      judged-good 1 _ (read_line Contract 0 l) (λ x. scan 2 (0 + length l + 1) (due 1 (sorts x.parts) ++ []) (L₁ ++ L₂)) c _ refl both.first (t.read ∙ ap lines q.2)
+      judged_good 1 _ (read_line Contract 0 l) (λ x. scan 2 (0 + length l + 1) (due 1 (sorts x.parts) ++ []) (L₁ ++ L₂)) c _ refl both.first (t.read ∙ ap lines q.2)
       in (q.0, q.1, rw (both.not_early, both.all) u, q.3, q.4)

@@ -21,10 +21,10 @@ use Rattle.sheet.specs.Scan.{Whole, lines_from, scan_all}
 use Rattle.sheet.specs.Promise.{answer, laid, scratch_after}
 use Rattle.sheet.specs.declared.loader.Answer.TheVariants.{Lines}
 use Rattle.sheet.proofs.ReadAs.{ReadAs, read_sound, sound_small, piece_within, stands_within, SpanAt}
-use Rattle.sheet.proofs.Holds.{judged-lines, scan-due, holds, all_first, all_none, length-put-lines, length-closed}
+use Rattle.sheet.proofs.Holds.{judged_lines, scan-due, holds, all_first, all_none, length-put_lines, length-closed}
 use Rattle.sheet.proofs.Trees.{tree_of}
 use Rattle.sheet.proofs.Scanning.{line_part}
-use Rattle.sheet.proofs.Loading.{scan-length, passed, loads, loaded-whole}
+use Rattle.sheet.proofs.Loading.{scan-length, passed, loads, loaded_whole}
 
 -- a line that cells can say, and that they then spell with the sheet's bytes
 record Sayable (s : List ℕ) (l : Line) : Type 0 where
@@ -62,20 +62,20 @@ module _ (s : List ℕ) (u : unended s ≡ false) (b : length s ≤ most_bytes) 
       let p : take n (drop at s) ≡ l ++ (10 ∷ []) = rw e (line_part s at u (omega arith) _ refl) in
       (drop n (drop at s), sym (take-append-drop n (drop at s)) ∙ ap (λ y. y ++ drop n (drop at s)) p)
 
-  lines-read : (ls : List (List ℕ)) (i j at : ℕ) (ds : List (ℕ × Sort)) (xs : List Line) → ls ≡ lines_from s at → scan i at ds ls ≡ lines xs
+  lines_read : (ls : List (List ℕ)) (i j at : ℕ) (ds : List (ℕ × Sort)) (xs : List Line) → ls ≡ lines_from s at → scan i at ds ls ≡ lines xs
       → Each (λ k. Sayable s) j xs
   unfolding scan read_line fields_of
-  lines-read [] i j at [] xs t e = let n : xs ≡ [] = cc in rw n no_line
-  lines-read [] i j at (d ∷ ds) xs t e = absurd (let z : ◌≡◌ {A = ℕ} 0 1 = cc in omega arith)
-  lines-read (l ∷ ls) i j at [] xs t e = absurd (let z : ◌≡◌ {A = ℕ} 0 1 = cc in omega arith)
-  lines-read (l ∷ ls) i j at (d ∷ ds) xs t e =
-      let r = judged-lines _ _ i _ xs e in
+  lines_read [] i j at [] xs t e = let n : xs ≡ [] = cc in rw n no_line
+  lines_read [] i j at (d ∷ ds) xs t e = absurd (let z : ◌≡◌ {A = ℕ} 0 1 = cc in omega arith)
+  lines_read (l ∷ ls) i j at [] xs t e = absurd (let z : ◌≡◌ {A = ℕ} 0 1 = cc in omega arith)
+  lines_read (l ∷ ls) i j at (d ∷ ds) xs t e =
+      let r = judged_lines _ _ i _ xs e in
       let p = piece_first (either 10 10) s at l ls t in
       let k = line-split at l p.1 p.0 in
       let y = l ++ (10 ∷ []) in
       rw r.4
       (one (line_read d.1 s y k.0 at r.0 k.1 (read_sound d.1 at y r.0 r.2) (rw length-append (omega (arith, p.0))))
-      (lines-read ls _ (suc j) _ _ _ p.2 r.3))
+      (lines_read ls _ (suc j) _ _ _ p.2 r.3))
 
 sounds : {s : List ℕ} {i : ℕ} {ls : List Line} → Each (λ j. Sayable s) i ls → Each (λ j. Sound) i ls
 sounds no_line = no_line
@@ -112,8 +112,8 @@ mutual
 pub every_first : {P : ℕ → Line → Type 0} {t : Node} {ns : Nodes} → EveryOf P (more t ns) → Every P t × EveryOf P ns
 every_first (and_more h r) = (h, r)
 
-pub every-line : {P : ℕ → Line → Type 0} {i : ℕ} {l : Line} {ps : Nodes} → Every P (node i l ps) → P i l × EveryOf P ps
-every-line (every h r) = (h, r)
+pub every_line : {P : ℕ → Line → Type 0} {i : ℕ} {l : Line} {ps : Nodes} → Every P (node i l ps) → P i l × EveryOf P ps
+every_line (every h r) = (h, r)
 
 -- A sheet that is loaded: its lines are ls.
 module _ (s : List ℕ) (types : ℕ) (S : List ℕ) (ls : List Line) (e : load s types (length S) ≡ lines ls) where
@@ -121,7 +121,7 @@ module _ (s : List ℕ) (types : ℕ) (S : List ℕ) (ls : List Line) (e : load 
   T = take (cells_per_line * length ls) S
 
   pub whole : (early s types (length S) ≡ 0) × (scan_all s ≡ lines ls)
-  whole = loaded-whole s types (length S) ls e
+  whole = loaded_whole s types (length S) ls e
 
   count : length ls ≡ length (lines_of s)
   count = scan-length (lines_of s) 1 0 _ ls whole.1
@@ -136,25 +136,25 @@ module _ (s : List ℕ) (types : ℕ) (S : List ℕ) (ls : List Line) (e : load 
   unfolding laid
   left =
       rw (← (loads s types S _ (length ls) refl whole.0 count _ _ refl refl).1, whole.1)
-      (take_at _ _ _ (length-closed (length ls) _ ∙ length-put-lines ls T 0 ∙ size))
+      (take_at _ _ _ (length-closed (length ls) _ ∙ length-put_lines ls T 0 ∙ size))
 
   -- eight cells a line, of no more than 1,024 lines
-  pub left-size : length (take (cells_per_line * length ls) (scratch_after s types S)) ≡ cells_per_line * length ls
-  left-size = rw left (length-closed (length ls) _ ∙ length-put-lines ls T 0 ∙ size)
+  pub left_size : length (take (cells_per_line * length ls) (scratch_after s types S)) ≡ cells_per_line * length ls
+  left_size = rw left (length-closed (length ls) _ ∙ length-put_lines ls T 0 ∙ size)
 
-  pub left-few : length ls ≤ most_lines
-  left-few = rw count passes.few
+  pub left_few : length ls ≤ most_lines
+  left_few = rw count passes.few
 
   -- it holds its tree
   pub loaded : (t : Node) × (trees 0 ls ≡ more t nil) × Holding s (take (cells_per_line * length ls) (scratch_after s types S)) (length ls) t
   loaded =
       let q = tree_of s types (length S) ls e in
-      let r = lines-read s passes.terminated passes.small (lines_of s) 1 0 0 _ ls refl whole.1 in
+      let r = lines_read s passes.terminated passes.small (lines_of s) 1 0 0 _ ls refl whole.1 in
       let h = all_first (rw q.1 at (holds T size refl (sounds r) (scan-due (lines_of s) 1 0 _ ls whole.1))) in
       (q.0, q.1, rw left (record { formed = q.2; held = h.0; all = all_none h.1; spells = spelt h.0 (every_first (rw q.1 at (built r))).0 }))
 
 -- where the answer is the number of lines, there are lines
-pub answer-lines : {n : ℕ} (r : Read) → Lines n ≡ answer r → (ls : List Line) × (r ≡ lines ls) × (n ≡ length ls)
+pub answer_lines : {n : ℕ} (r : Read) → Lines n ≡ answer r → (ls : List Line) × (r ≡ lines ls) × (n ≡ length ls)
 unfolding answer
-answer-lines (lines ls) e = (ls, refl, cc)
-answer-lines (refused m i) e = absurd (let z : ◌≡◌ {A = ℕ} 0 1 = cc in omega arith)
+answer_lines (lines ls) e = (ls, refl, cc)
+answer_lines (refused m i) e = absurd (let z : ◌≡◌ {A = ℕ} 0 1 = cc in omega arith)

@@ -18,7 +18,7 @@ use Rattle.sheet.specs.declared.loader.Answer.{Answer}
 use Rattle.sheet.specs.declared.loader.Answer.TheVariants.{Lines, Refused}
 use Rattle.sheet.specs.declared.scan.Scanned.{Scanned}
 use Rattle.sheet.specs.declared.scan.Scanned.TheVariants.{Read, Fault}
-use Rattle.sheet.proofs.Holds.{judged-lines, length-closed}
+use Rattle.sheet.proofs.Holds.{judged_lines, length-closed}
 
 -- an empty sheet is unended
 pub none_unended : (s : List ℕ) → length s ≡ 0 → true ≡ unended s
@@ -31,7 +31,7 @@ unfolding scan
 scan-length [] i at [] xs e = let n : xs ≡ [] = cc in rw n
 scan-length [] i at (d ∷ ds) xs e = absurd (let z : ◌≡◌ {A = ℕ} 0 1 = cc in omega arith)
 scan-length (l ∷ ls) i at [] xs e = absurd (let z : ◌≡◌ {A = ℕ} 0 1 = cc in omega arith)
-scan-length (l ∷ ls) i at (d ∷ ds) xs e = let r = judged-lines _ _ i _ xs e in rw r.4 (ap suc (scan-length ls _ _ _ _ r.3))
+scan-length (l ∷ ls) i at (d ∷ ds) xs e = let r = judged_lines _ _ i _ xs e in rw r.4 (ap suc (scan-length ls _ _ _ _ r.3))
 
 -- All lines are read: `scan` left the cells T, and `close` then U.
 pub read_all : (s S T U : List ℕ) (r : Scanned) → r ≡ Read → Whole s S → Scans s S T r → U ≡ closed (line_count T) T
@@ -73,9 +73,9 @@ module _ (s : List ℕ) (types scratch j : ℕ) (e : j ≡ first_true 1 (ltb mos
       by_cases false true bs f h = f
       by_cases false false bs f h = absurd (h f)
 
-  pub early-room : (m k : ℕ) → j ≡ 0 → m ≡ length (lines_of s) → k ≡ first_true 3 (ltb most_lines m ∷ ltb types m ∷ ltb scratch (cells_per_line * m) ∷ []) → k ≡ early s types scratch
+  pub early_room : (m k : ℕ) → j ≡ 0 → m ≡ length (lines_of s) → k ≡ first_true 3 (ltb most_lines m ∷ ltb types m ∷ ltb scratch (cells_per_line * m) ∷ []) → k ≡ early s types scratch
   unfolding early first_true
-  early-room m k z l f = by_cases (ltb most_bytes (length s)) (unended s) (drop 2 (tests s types scratch)) e (rw l at f)
+  early_room m k z l f = by_cases (ltb most_bytes (length s)) (unended s) (drop 2 (tests s types scratch)) e (rw l at f)
     where
       by_cases : (a b : Bool) (bs : List Bool) → j ≡ first_true 1 (a ∷ b ∷ []) → k ≡ first_true 3 bs → k ≡ first_true 1 (a ∷ b ∷ bs)
       by_cases true b bs g f = absurd (omega arith)
@@ -91,8 +91,8 @@ module _ (s : List ℕ) (types : ℕ) (S : List ℕ) (k m : ℕ) (e : k ≡ earl
   pub room : cells_per_line * m ≤ length S
   room = rw l (ltb-false _ _ (untrue 4))
 
-  pub types-room : m ≤ types
-  types-room = rw l (ltb-false _ _ (untrue 3))
+  pub types_room : m ≤ types
+  types_room = rw l (ltb-false _ _ (untrue 3))
 
   pub passed : Whole s (take (cells_per_line * m) S)
   passed =
@@ -112,7 +112,7 @@ module _ (s : List ℕ) (types : ℕ) (S : List ℕ) (k m : ℕ) (e : k ≡ earl
 module _ (s : List ℕ) (types : ℕ) (S : List ℕ) (j m k : ℕ) (e : j ≡ first_true 1 (ltb most_bytes (length s) ∷ unended s ∷ [])) (z : j ≡ 0) (l : m ≡ length (lines_of s))
     (f : k ≡ first_true 3 (ltb most_lines m ∷ ltb types m ∷ ltb (length S) (cells_per_line * m) ∷ [])) (n : k ≡ 0) where
   tested : k ≡ early s types (length S)
-  tested = early-room s types (length S) j e m k z l f
+  tested = early_room s types (length S) j e m k z l f
 
   pub late_room : cells_per_line * m ≤ length S
   late_room = room s types S k m tested n l
@@ -135,9 +135,9 @@ refuses s types S zero e ne = absurd (ne refl)
 refuses s types S (suc k) e ne = rw (← e) (refl, refl)
 
 -- a sheet that is loaded has none of them
-pub loaded-whole : (s : List ℕ) (types scratch : ℕ) (ls : List Line) → load s types scratch ≡ lines ls → (early s types scratch ≡ 0) × (scan_all s ≡ lines ls)
+pub loaded_whole : (s : List ℕ) (types scratch : ℕ) (ls : List Line) → load s types scratch ≡ lines ls → (early s types scratch ≡ 0) × (scan_all s ≡ lines ls)
 unfolding load load_from
-loaded-whole s types scratch ls = by_cases (early s types scratch)
+loaded_whole s types scratch ls = by_cases (early s types scratch)
   where
     by_cases : (k : ℕ) → load_from k s ≡ lines ls → (k ≡ 0) × (scan_all s ≡ lines ls)
     by_cases zero e = (refl, e)
@@ -145,29 +145,29 @@ loaded-whole s types scratch ls = by_cases (early s types scratch)
 
 -- ------------------------------------------------------------ the place of a refusal
 
-judged-place : (i : ℕ) (deep : Bool) (r : ReadLine) (f : Line → LoadResult) (n j k : ℕ) → i ≤ k → ((x : Line) → f x ≡ refused n j → j ≤ k) → judged i deep r f ≡ refused n j → j ≤ k
+judged_place : (i : ℕ) (deep : Bool) (r : ReadLine) (f : Line → LoadResult) (n j k : ℕ) → i ≤ k → ((x : Line) → f x ≡ refused n j → j ≤ k) → judged i deep r f ≡ refused n j → j ≤ k
 unfolding judged
-judged-place i true r f n j k h g e = let q : i ≡ j = cc in omega (arith, h, q)
-judged-place i false (bad m) f n j k h g e = let q : i ≡ j = cc in omega (arith, h, q)
-judged-place i false (good x) f n j k h g e = by_cases (f x) refl e
+judged_place i true r f n j k h g e = let q : i ≡ j = cc in omega (arith, h, q)
+judged_place i false (bad m) f n j k h g e = let q : i ≡ j = cc in omega (arith, h, q)
+judged_place i false (good x) f n j k h g e = by_cases (f x) refl e
   where
     by_cases : (o : LoadResult) → f x ≡ o → after x o ≡ refused n j → j ≤ k
     by_cases (lines ls) q a = absurd (let z : ◌≡◌ {A = ℕ} 0 1 = cc in omega arith)
     by_cases (refused n' j') q a = g x (q ∙ a)
 
-scan-place : (ls : List (List ℕ)) (i at : ℕ) (ds : List (ℕ × Sort)) (n j : ℕ) → scan i at ds ls ≡ refused n j → j ≤ i + length ls
+scan_place : (ls : List (List ℕ)) (i at : ℕ) (ds : List (ℕ × Sort)) (n j : ℕ) → scan i at ds ls ≡ refused n j → j ≤ i + length ls
 unfolding scan
-scan-place [] i at [] n j e = absurd (let z : ◌≡◌ {A = ℕ} 0 1 = cc in omega arith)
-scan-place [] i at (d ∷ ds) n j e = let q : i ≡ j = cc in omega arith
-scan-place (l ∷ ls) i at [] n j e = let q : i ≡ j = cc in omega arith
-scan-place (l ∷ ls) i at (d ∷ ds) n j e =
-    judged-place i _ _ _ n j (i + suc (length ls)) (omega arith) (λ x g. let h = scan-place ls (suc i) _ _ n j g in omega arith) e
+scan_place [] i at [] n j e = absurd (let z : ◌≡◌ {A = ℕ} 0 1 = cc in omega arith)
+scan_place [] i at (d ∷ ds) n j e = let q : i ≡ j = cc in omega arith
+scan_place (l ∷ ls) i at [] n j e = let q : i ≡ j = cc in omega arith
+scan_place (l ∷ ls) i at (d ∷ ds) n j e =
+    judged_place i _ _ _ n j (i + suc (length ls)) (omega arith) (λ x g. let h = scan_place ls (suc i) _ _ n j g in omega arith) e
 
 -- a refused sheet's place is at most that behind the last line
-pub load-place : (s : List ℕ) (types : ℕ) (S : List ℕ) (n j : ℕ) → load s types (length S) ≡ refused n j → j ≤ 1025
+pub load_place : (s : List ℕ) (types : ℕ) (S : List ℕ) (n j : ℕ) → load s types (length S) ≡ refused n j → j ≤ 1025
 unfolding load load_from
-load-place s types S n j = by_cases (early s types (length S)) refl
+load_place s types S n j = by_cases (early s types (length S)) refl
   where
     by_cases : (k : ℕ) → early s types (length S) ≡ k → load_from k s ≡ refused n j → j ≤ 1025
-    by_cases zero z e = let h = (passed s types S 0 _ (sym z) refl refl).few in let g = scan-place (lines_of s) 1 0 _ n j e in omega arith
+    by_cases zero z e = let h = (passed s types S 0 _ (sym z) refl refl).few in let g = scan_place (lines_of s) 1 0 _ n j e in omega arith
     by_cases (suc k) z e = let q : 0 ≡ j = cc in omega arith

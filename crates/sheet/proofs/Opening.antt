@@ -54,9 +54,9 @@ sort_of_lem S i k false c h p q = get_d_past (first_count S i) k _ _ _ (ltb-fals
     later false q =
         let e : first_count S i + second_count S i ≤ k = ltb-false _ _ q in get_d_past _ _ _ _ _ (omega arith) ∙ get_d_all _ _ _ _ (omega arith)
 
-next-sort-is : (S : List ℕ) (i n : ℕ) → n ≤ parts_at S i → 0 < n → get_or (sorts_at S i) (parts_at S i - n) Expr ≡ sort_of (next_sort S i n)
+next_sort-is : (S : List ℕ) (i n : ℕ) → n ≤ parts_at S i → 0 < n → get_or (sorts_at S i) (parts_at S i - n) Expr ≡ sort_of (next_sort S i n)
 unfolding next_sort group_at
-next-sort-is S i n h g = sort_of_lem S i (parts_at S i - n) _ _ (omega arith) refl refl
+next_sort-is S i n h g = sort_of_lem S i (parts_at S i - n) _ _ (omega arith) refl refl
 
 -- Where nothing is due at a depth, nothing is left there.
 left_none : (S ds os : List ℕ) (d : ℕ) → get_or ds d 0 ≡ 0 → left_at S ds os d ≡ []
@@ -84,10 +84,10 @@ opened-settled S ds os (suc n) = by_cases (eqb (get_or ds n 0) 0) refl (opened-s
     by_cases true e h = h ∙ rw (left_none S ds os n (eqb-true _ _ e))
     by_cases false e h = refl
 
-pub settled-most : (ds : List ℕ) (n : ℕ) → settled ds n ≤ n
+pub settled_most : (ds : List ℕ) (n : ℕ) → settled ds n ≤ n
 unfolding settled
-settled-most ds zero = omega arith
-settled-most ds (suc n) = by_cases (eqb (get_or ds n 0) 0) (settled-most ds n)
+settled_most ds zero = omega arith
+settled_most ds (suc n) = by_cases (eqb (get_or ds n 0) 0) (settled_most ds n)
   where
     by_cases : (b : Bool) → settled ds n ≤ n → cond b (settled ds n) (suc n) ≤ suc n
     by_cases true h = omega arith
@@ -108,22 +108,22 @@ settled-due ds (suc n) h = by_cases (eqb (get_or ds n 0) 0) refl (settled-due ds
 spent_below : (ds : List ℕ) (n d : ℕ) → d < n - 1 → get_or (spent ds n) d 0 ≡ get_or ds d 0
 spent_below ds n d h = get_or-set_other ds (n - 1) d (get_or ds (n - 1) 0 - 1) 0 (λ e. omega arith)
 
-spent-top : (ds : List ℕ) (n : ℕ) → n - 1 < length ds → get_or (spent ds n) (n - 1) 0 ≡ get_or ds (n - 1) 0 - 1
-spent-top ds n h = get_or-set_same ds (n - 1) (get_or ds (n - 1) 0 - 1) 0 h
+spent_top : (ds : List ℕ) (n : ℕ) → n - 1 < length ds → get_or (spent ds n) (n - 1) 0 ≡ get_or ds (n - 1) 0 - 1
+spent_top ds n h = get_or-set_same ds (n - 1) (get_or ds (n - 1) 0 - 1) 0 h
 
-spent-most : (ds : List ℕ) (n d : ℕ) → d < n → n ≤ length ds → get_or (spent ds n) d 0 ≤ get_or ds d 0
-spent-most ds n d h g = by_cases (eqb d (n - 1)) refl
+spent_most : (ds : List ℕ) (n d : ℕ) → d < n → n ≤ length ds → get_or (spent ds n) d 0 ≤ get_or ds d 0
+spent_most ds n d h g = by_cases (eqb d (n - 1)) refl
   where
     by_cases : (b : Bool) → eqb d (n - 1) ≡ b → get_or (spent ds n) d 0 ≤ get_or ds d 0
-    by_cases true e = rw (eqb-true d (n - 1) e, spent-top ds n (omega arith)) (omega arith)
+    by_cases true e = rw (eqb-true d (n - 1) e, spent_top ds n (omega arith)) (omega arith)
     by_cases false e = rw (spent_below ds n d (let z = eqb-false d (n - 1) e in omega arith)) (omega arith)
 
 -- what is left goes by the count, and the cells of the line that it belongs to
-left-same : (S T ds es os ps : List ℕ) (d : ℕ) → get_or ds d 0 ≡ get_or es d 0 → (0 < d → get_or os d 0 ≡ get_or ps d 0)
+left_same : (S T ds es os ps : List ℕ) (d : ℕ) → get_or ds d 0 ≡ get_or es d 0 → (0 < d → get_or os d 0 ≡ get_or ps d 0)
     → (0 < d → (k : ℕ) → k < cells_per_line → cell S (get_or os d 0) k ≡ cell T (get_or os d 0) k) → left_at S ds os d ≡ left_at T es ps d
 unfolding left_at sorts_at kind_at
-left-same S T ds es os ps zero p q r = rw p
-left-same S T ds es os ps (suc d) p q r =
+left_same S T ds es os ps zero p q r = rw p
+left_same S T ds es os ps (suc d) p q r =
     let e = r (omega arith) in
     rw (← q (omega arith), ← p, ← e kind_cell (omega arith), ← e first_cell (omega arith), ← e second_cell (omega arith), ← e third_cell (omega arith))
 
@@ -134,7 +134,7 @@ left_head S ds os i zero o h = absurd (omega arith)
 left_head S ds os i (suc zero) o h =
     let t = o.top h in
     let e : get_or ds 0 0 ≡ 1 = omega (arith, o.first) in
-    rw (spent-top ds 1 (omega (arith, o.counts)), e)
+    rw (spent_top ds 1 (omega (arith, o.counts)), e)
 left_head S ds os i (suc (suc d)) o h =
     let m : suc (suc d) - 1 ≡ suc d = omega arith in
     let w = (o.owned (suc d) (omega arith) (omega arith)).next.some in
@@ -145,7 +145,7 @@ left_head S ds os i (suc (suc d)) o h =
     let q : suc (parts_at S j - c) ≡ parts_at S j - (c - 1) = omega arith in
     let e : get_or (set ds (suc d) (c - 1)) (suc d) 0 ≡ c - 1 = get_or-set_same ds (suc d) (c - 1) 0 (omega (arith, o.counts, o.depth)) in
     rw (m, lt-leb (suc (suc d)) 1 (omega arith), e)
-    (drop-cons (sorts_at S j) (parts_at S j - c) Expr p ∙ rw (next-sort-is S j c w t, q))
+    (drop-cons (sorts_at S j) (parts_at S j - c) Expr p ∙ rw (next_sort-is S j c w t, q))
 
 -- What is due: the record that is next, and what is due once it is read.
 pub opened_head : (S ds os : List ℕ) (i n : ℕ) → Open S ds os i n → 0 < n → opened S ds os n ≡ (n - 1, sort_of (sort_due S ds os n)) ∷ opened S (spent ds n) os n
@@ -157,13 +157,13 @@ opened_head S ds os i n o h = top S ds os n h ∙ rw (left_head S ds os i n o h,
     top S ds os (suc n) h = rw (let q : suc n - 1 ≡ n = omega arith in q)
 
     below : (d : ℕ) → d < n - 1 → left_at S ds os d ≡ left_at S (spent ds n) os d
-    below d g = left-same S S ds (spent ds n) os os d (sym (spent_below ds n d g)) (λ z. refl) (λ z k l. refl)
+    below d g = left_same S S ds (spent ds n) os os d (sym (spent_below ds n d g)) (λ z. refl) (λ z k l. refl)
 
 -- all parts of a line are left at the depth that they are put to
-left-new : (T ds os : List ℕ) (n i parts : ℕ) → 0 < n → n < length ds → n < length os → parts ≡ parts_at T i → left_at T (set ds n parts) (set os n i) n ≡ sorts_at T i
+left_new : (T ds os : List ℕ) (n i parts : ℕ) → 0 < n → n < length ds → n < length os → parts ≡ parts_at T i → left_at T (set ds n parts) (set os n i) n ≡ sorts_at T i
 unfolding left_at
-left-new T ds os zero i parts h g f e = absurd (omega arith)
-left-new T ds os (suc n) i parts h g f e = rw (get_or-set_same os (suc n) i 0 f, get_or-set_same ds (suc n) parts 0 g, e, sub_self)
+left_new T ds os zero i parts h g f e = absurd (omega arith)
+left_new T ds os (suc n) i parts h g f e = rw (get_or-set_same os (suc n) i 0 f, get_or-set_same ds (suc n) parts 0 g, e, sub_self)
 
 -- Line i is read at the deepest of n depths, and written: T has its cells, and those of the lines before it.
 module _ (S T ds os : List ℕ) (i n : ℕ) (o : Open S ds os i n) (some : 0 < n) (same : (j k : ℕ) → j < i → k < cells_per_line → cell S j k ≡ cell T j k) where
@@ -173,24 +173,24 @@ module _ (S T ds os : List ℕ) (i n : ℕ) (o : Open S ds os i n) (some : 0 < n
   before es ps f g =
       sym
       (opened-same S T (spent ds n) es os ps n
-      (λ d h. left-same S T (spent ds n) es os ps d (sym (f d h)) (λ z. sym (g d h)) (λ z k l. same _ k (o.owned d z h).above l)))
+      (λ d h. left_same S T (spent ds n) es os ps d (sym (f d h)) (λ z. sym (g d h)) (λ z k l. same _ k (o.owned d z h).above l)))
 
   -- it has no parts
   pub after_none : opened T (spent ds n) os (settled (spent ds n) n) ≡ opened S (spent ds n) os n
   after_none = opened-settled T (spent ds n) os n ∙ before (spent ds n) os (λ d h. refl) (λ d h. refl)
 
   -- it has parts, which are due at the next depth
-  pub after-some : (parts : ℕ) → n < 65 → parts ≡ parts_at T i
+  pub after_some : (parts : ℕ) → n < 65 → parts ≡ parts_at T i
       → opened T (set (spent ds n) n parts) (set os n i) (n + 1) ≡ due n (sorts_at T i) ++ opened S (spent ds n) os n
   unfolding opened
-  after-some parts h e =
+  after_some parts h e =
       let b = before (set (spent ds n) n parts) (set os n i) (λ d g. get_or-set_other (spent ds n) n d parts 0 (λ z. omega arith)) (λ d g. get_or-set_other os n d i 0 (λ z. omega arith)) in
-      let l = left-new T (spent ds n) os n i parts some (rw length-set (omega (arith, o.counts))) (omega (arith, o.owners)) e in
+      let l = left_new T (spent ds n) os n i parts some (rw length-set (omega (arith, o.counts))) (omega (arith, o.owners)) e in
       rw (add-one n, b, l)
 
-  owned-after : (es ps : List ℕ) (d : ℕ) → 0 < d → d < n → get_or es d 0 ≤ get_or ds d 0 → get_or ps d 0 ≡ get_or os d 0 → Owned T es ps (suc i) d
+  owned_after : (es ps : List ℕ) (d : ℕ) → 0 < d → d < n → get_or es d 0 ≤ get_or ds d 0 → get_or ps d 0 ≡ get_or os d 0 → Owned T es ps (suc i) d
   unfolding kind_at
-  owned-after es ps d z h f g =
+  owned_after es ps d z h f g =
       let w = o.owned d z h in
       let e : (k : ℕ) → k < cells_per_line → cell S (get_or os d 0) k ≡ cell T (get_or os d 0) k = λ k l. same (get_or os d 0) k w.above l in
       let first = e first_cell (omega arith) in
@@ -205,13 +205,13 @@ module _ (S T ds os : List ℕ) (i n : ℕ) (o : Open S ds os i n) (some : 0 < n
 
   pub open_none : Open T (spent ds n) os (suc i) (settled (spent ds n) n)
   open_none =
-      let m = settled-most (spent ds n) n in
+      let m = settled_most (spent ds n) n in
       record {
         counts = length-set ds (n - 1) _ ∙ o.counts;
         owners = o.owners;
         depth = omega (arith, o.depth);
-        first = let f = o.first in let g = spent-most ds n 0 some (omega (arith, o.counts, o.depth)) in omega arith;
-        owned = λ d z h. owned-after (spent ds n) os d z (omega arith) (spent-most ds n d (omega arith) (omega (arith, o.counts, o.depth))) refl;
+        first = let f = o.first in let g = spent_most ds n 0 some (omega (arith, o.counts, o.depth)) in omega arith;
+        owned = λ d z h. owned_after (spent ds n) os d z (omega arith) (spent_most ds n d (omega arith) (omega (arith, o.counts, o.depth))) refl;
         top = settled-due (spent ds n) n;
       }
 
@@ -221,7 +221,7 @@ module _ (S T ds os : List ℕ) (i n : ℕ) (o : Open S ds os i n) (some : 0 < n
         counts = length-set (spent ds n) n parts ∙ length-set ds (n - 1) _ ∙ o.counts;
         owners = length-set os n i ∙ o.owners;
         depth = omega arith;
-        first = rw (get_or-set_other (spent ds n) n 0 parts 0 (λ z. omega arith)) (let f = o.first in let g = spent-most ds n 0 some (omega (arith, o.counts, o.depth)) in omega arith);
+        first = rw (get_or-set_other (spent ds n) n 0 parts 0 (λ z. omega arith)) (let f = o.first in let g = spent_most ds n 0 some (omega (arith, o.counts, o.depth)) in omega arith);
         owned = λ d z l. at d z l (eqb d n) refl;
         top = λ z. rw (let q : n + 1 - 1 ≡ n = omega arith in q, get_or-set_same (spent ds n) n parts 0 (rw length-set (omega (arith, o.counts)))) p;
       }
@@ -238,6 +238,6 @@ module _ (S T ds os : List ℕ) (i n : ℕ) (o : Open S ds os i n) (some : 0 < n
       at d z l false q =
           let ne = eqb-false d n q in
           let m : d < n = omega (arith, ne) in
-          owned-after (set (spent ds n) n parts) (set os n i) d z m
-          (rw (get_or-set_other (spent ds n) n d parts 0 (λ v. omega arith)) (spent-most ds n d m (omega (arith, o.counts, o.depth))))
+          owned_after (set (spent ds n) n parts) (set os n i) d z m
+          (rw (get_or-set_other (spent ds n) n d parts 0 (λ v. omega arith)) (spent_most ds n d m (omega (arith, o.counts, o.depth))))
           (get_or-set_other os n d i 0 (λ v. omega arith))

@@ -16,7 +16,7 @@ use Rattle.text.specs.Word.{index_in}
 use Rattle.text.specs.Field.{number_of}
 use Rattle.text.specs.declared.field.Number.{Number}
 use Rattle.text.specs.declared.field.Number.TheVariants.{Is, Bad}
-use Rattle.text.proofs.Fields.{number-most}
+use Rattle.text.proofs.Fields.{number_most}
 use Rattle.text.proofs.Pieces.{upto_front, piece_first}
 use Rattle.sheet.specs.Field.{piece_at}
 use Rattle.grammar.specs.Grammar.{Sort, Rule, span, name, text, assign_op, un_op, bin_op, count, flag, assign_ops, un_ops, bin_ops, no_kind, record_of, kind_for}
@@ -26,8 +26,8 @@ use Rattle.sheet.specs.Scratch.{Small}
 use Rattle.sheet.specs.Step.{code_line}
 use Rattle.grammar.specs.Table.{told_sorts, sorts_in, group_sorts, numbers_in}
 use Rattle.sheet.specs.Tree.{total}
-use Rattle.grammar.proofs.KindLaws.{kind-known}
-use Rattle.grammar.proofs.TableLaws.{at_most, few-parts}
+use Rattle.grammar.proofs.KindLaws.{kind_known}
+use Rattle.grammar.proofs.TableLaws.{at_most, few_parts}
 
 -- what comes behind a piece's end does not change it
 upto-append : (p : ℕ → Bool) (l q : List ℕ) → length (upto p l) < length l → upto p (l ++ q) ≡ upto p l
@@ -98,9 +98,9 @@ unfolding and_then when
 on_test true l F m C e k = k refl e
 on_test false l F m C e k = absurd (let z : ◌≡◌ {A = ℕ} 0 1 = cc in omega arith)
 
-sorts-more : (ps : List (ℕ × Sort)) (n : ℕ) (s : Sort) (ss : List Sort) → sorts_in (ps ++ ((n, s) ∷ [])) ++ ss ≡ sorts_in ps ++ (s ∷ ss)
-sorts-more [] n s ss = refl
-sorts-more (p ∷ ps) n s ss = ap (λ l. p.1 ∷ l) (sorts-more ps n s ss)
+sorts_more : (ps : List (ℕ × Sort)) (n : ℕ) (s : Sort) (ss : List Sort) → sorts_in (ps ++ ((n, s) ∷ [])) ++ ss ≡ sorts_in ps ++ (s ∷ ss)
+sorts_more [] n s ss = refl
+sorts_more (p ∷ ps) n s ss = ap (λ l. p.1 ∷ l) (sorts_more ps n s ss)
 
 counted_more : (ps : List (ℕ × Sort)) (n : ℕ) (s : Sort) → n ≤ most_count → Counted ps → Counted (ps ++ ((n, s) ∷ []))
 counted_more [] n s h c zero = h
@@ -109,25 +109,25 @@ counted_more (p ∷ ps) n s h c zero = c 0
 counted_more (p ∷ ps) n s h c (suc i) = counted_more ps n s h (λ i. c (suc i)) i
 
 more_parts : (ss rest : List Sort) (n : ℕ) (s : Sort) (ps : List (ℕ × Sort)) → n ≤ most_count → Parts ss (s ∷ rest) ps → Parts ss rest (ps ++ ((n, s) ∷ []))
-more_parts ss rest n s ps h p = (sorts-more ps n s rest ∙ p.0, counted_more ps n s h p.1)
+more_parts ss rest n s ps h p = (sorts_more ps n s rest ∙ p.0, counted_more ps n s h p.1)
 
 some_is : (C : Line → Type 0) {l m : Line} → some l ≡ some m → C l → C m
 some_is C {l} {m} e c = let q : l ≡ m = cc in rw q at c
 
 -- the first span stays where other fields are read
-spans-kept : (rs : List Rule) (a : ℕ) (fs : List (List ℕ)) (l m : Line) (v : ℕ) (vs : List ℕ)
+spans_kept : (rs : List Rule) (a : ℕ) (fs : List (List ℕ)) (l m : Line) (v : ℕ) (vs : List ℕ)
     → read_fields rs a fs l ≡ some m → l.spans ≡ v ∷ vs → get_or m.spans 0 0 ≡ v
 unfolding read_fields read_field
-spans-kept [] a fs l m v vs e p = let q : l ≡ m = cc in rw (← q, p)
-spans-kept (r ∷ rs) a [] l m v vs e p = absurd (let z : ◌≡◌ {A = ℕ} 0 1 = cc in omega arith)
-spans-kept (span ∷ rs) a (f ∷ fs) l m v vs e p = on_number_lem _ _ _ m _ e (λ u q w. spans-kept rs _ fs _ m v _ w (ap (λ us. us ++ (u ∷ [])) p))
-spans-kept (name ∷ rs) a (f ∷ fs) l m v vs e p = on_test _ _ _ m _ e (λ q w. spans-kept rs _ fs _ m v vs w p)
-spans-kept (text ∷ rs) a (f ∷ fs) l m v vs e p = on_test _ _ _ m _ e (λ q w. spans-kept rs _ fs _ m v vs w p)
-spans-kept (assign_op ∷ rs) a (f ∷ fs) l m v vs e p = on_test _ _ _ m _ e (λ q w. spans-kept rs _ fs _ m v vs w p)
-spans-kept (un_op ∷ rs) a (f ∷ fs) l m v vs e p = on_test _ _ _ m _ e (λ q w. spans-kept rs _ fs _ m v vs w p)
-spans-kept (bin_op ∷ rs) a (f ∷ fs) l m v vs e p = on_test _ _ _ m _ e (λ q w. spans-kept rs _ fs _ m v vs w p)
-spans-kept (count s ∷ rs) a (f ∷ fs) l m v vs e p = on_number_lem _ _ _ m _ e (λ u q w. spans-kept rs _ fs _ m v vs w p)
-spans-kept (flag s ∷ rs) a (f ∷ fs) l m v vs e p = on_number_lem _ _ _ m _ e (λ u q w. spans-kept rs _ fs _ m v vs w p)
+spans_kept [] a fs l m v vs e p = let q : l ≡ m = cc in rw (← q, p)
+spans_kept (r ∷ rs) a [] l m v vs e p = absurd (let z : ◌≡◌ {A = ℕ} 0 1 = cc in omega arith)
+spans_kept (span ∷ rs) a (f ∷ fs) l m v vs e p = on_number_lem _ _ _ m _ e (λ u q w. spans_kept rs _ fs _ m v _ w (ap (λ us. us ++ (u ∷ [])) p))
+spans_kept (name ∷ rs) a (f ∷ fs) l m v vs e p = on_test _ _ _ m _ e (λ q w. spans_kept rs _ fs _ m v vs w p)
+spans_kept (text ∷ rs) a (f ∷ fs) l m v vs e p = on_test _ _ _ m _ e (λ q w. spans_kept rs _ fs _ m v vs w p)
+spans_kept (assign_op ∷ rs) a (f ∷ fs) l m v vs e p = on_test _ _ _ m _ e (λ q w. spans_kept rs _ fs _ m v vs w p)
+spans_kept (un_op ∷ rs) a (f ∷ fs) l m v vs e p = on_test _ _ _ m _ e (λ q w. spans_kept rs _ fs _ m v vs w p)
+spans_kept (bin_op ∷ rs) a (f ∷ fs) l m v vs e p = on_test _ _ _ m _ e (λ q w. spans_kept rs _ fs _ m v vs w p)
+spans_kept (count s ∷ rs) a (f ∷ fs) l m v vs e p = on_number_lem _ _ _ m _ e (λ u q w. spans_kept rs _ fs _ m v vs w p)
+spans_kept (flag s ∷ rs) a (f ∷ fs) l m v vs e p = on_number_lem _ _ _ m _ e (λ u q w. spans_kept rs _ fs _ m v vs w p)
 
 -- fields that are no SPAN leave the spans as they were
 no_spans : (rs : List Rule) (a : ℕ) (fs : List (List ℕ)) (l m : Line) → spanless rs ≡ true → read_fields rs a fs l ≡ some m → m.spans ≡ l.spans
@@ -144,31 +144,31 @@ no_spans (count s ∷ rs) a (f ∷ fs) l m n e = on_number_lem _ _ _ m _ e (λ u
 no_spans (flag s ∷ rs) a (f ∷ fs) l m n e = on_number_lem _ _ _ m _ e (λ u q w. no_spans rs _ fs _ m n w)
 
 -- fields add parts behind those that are there
-parts-kept : (rs : List Rule) (a : ℕ) (fs : List (List ℕ)) (l m : Line) → read_fields rs a fs l ≡ some m → (gs : List (ℕ × Sort)) × (m.parts ≡ l.parts ++ gs) × Flagged rs gs
+parts_kept : (rs : List Rule) (a : ℕ) (fs : List (List ℕ)) (l m : Line) → read_fields rs a fs l ≡ some m → (gs : List (ℕ × Sort)) × (m.parts ≡ l.parts ++ gs) × Flagged rs gs
 unfolding read_fields read_field
-parts-kept [] a fs l m e = let q : l ≡ m = cc in rw q ([], sym (append-nil m.parts), tt)
-parts-kept (r ∷ rs) a [] l m e = absurd (let z : ◌≡◌ {A = ℕ} 0 1 = cc in omega arith)
-parts-kept (span ∷ rs) a (f ∷ fs) l m e = on_number_lem _ _ _ m _ e (λ v q w. parts-kept rs _ fs _ m w)
-parts-kept (name ∷ rs) a (f ∷ fs) l m e = on_test _ _ _ m _ e (λ q w. parts-kept rs _ fs _ m w)
-parts-kept (text ∷ rs) a (f ∷ fs) l m e = on_test _ _ _ m _ e (λ q w. parts-kept rs _ fs _ m w)
-parts-kept (assign_op ∷ rs) a (f ∷ fs) l m e = on_test _ _ _ m _ e (λ q w. parts-kept rs _ fs _ m w)
-parts-kept (un_op ∷ rs) a (f ∷ fs) l m e = on_test _ _ _ m _ e (λ q w. parts-kept rs _ fs _ m w)
-parts-kept (bin_op ∷ rs) a (f ∷ fs) l m e = on_test _ _ _ m _ e (λ q w. parts-kept rs _ fs _ m w)
-parts-kept (count s ∷ rs) a (f ∷ fs) l m e =
-    on_number_lem _ _ _ m _ e (λ v q w. let r = parts-kept rs _ fs _ m w in ((v, s) ∷ r.0, r.1 ∙ append_assoc l.parts ((v, s) ∷ []) r.0, r.2))
-parts-kept (flag s ∷ rs) a (f ∷ fs) l m e =
-    on_number_lem _ _ _ m _ e (λ v q w. let r = parts-kept rs _ fs _ m w in ((v, s) ∷ r.0, r.1 ∙ append_assoc l.parts ((v, s) ∷ []) r.0, (number-most 1 v f q, r.2)))
+parts_kept [] a fs l m e = let q : l ≡ m = cc in rw q ([], sym (append-nil m.parts), tt)
+parts_kept (r ∷ rs) a [] l m e = absurd (let z : ◌≡◌ {A = ℕ} 0 1 = cc in omega arith)
+parts_kept (span ∷ rs) a (f ∷ fs) l m e = on_number_lem _ _ _ m _ e (λ v q w. parts_kept rs _ fs _ m w)
+parts_kept (name ∷ rs) a (f ∷ fs) l m e = on_test _ _ _ m _ e (λ q w. parts_kept rs _ fs _ m w)
+parts_kept (text ∷ rs) a (f ∷ fs) l m e = on_test _ _ _ m _ e (λ q w. parts_kept rs _ fs _ m w)
+parts_kept (assign_op ∷ rs) a (f ∷ fs) l m e = on_test _ _ _ m _ e (λ q w. parts_kept rs _ fs _ m w)
+parts_kept (un_op ∷ rs) a (f ∷ fs) l m e = on_test _ _ _ m _ e (λ q w. parts_kept rs _ fs _ m w)
+parts_kept (bin_op ∷ rs) a (f ∷ fs) l m e = on_test _ _ _ m _ e (λ q w. parts_kept rs _ fs _ m w)
+parts_kept (count s ∷ rs) a (f ∷ fs) l m e =
+    on_number_lem _ _ _ m _ e (λ v q w. let r = parts_kept rs _ fs _ m w in ((v, s) ∷ r.0, r.1 ∙ append_assoc l.parts ((v, s) ∷ []) r.0, r.2))
+parts_kept (flag s ∷ rs) a (f ∷ fs) l m e =
+    on_number_lem _ _ _ m _ e (λ v q w. let r = parts_kept rs _ fs _ m w in ((v, s) ∷ r.0, r.1 ∙ append_assoc l.parts ((v, s) ∷ []) r.0, (number_most 1 v f q, r.2)))
 
 module _ (at : ℕ) (y : List ℕ) where
   -- the SPAN v starts at a
   abbrev pub SpanAt : ℕ → ℕ → Type 0
   SpanAt a v = (f : List ℕ) × Piece at y a f × (number_of most_span f ≡ Is v)
 
-  span-first : (rs : List Rule) (a : ℕ) (fs : List (List ℕ)) (k : ℕ) (m : Line)
+  span_first_lem : (rs : List Rule) (a : ℕ) (fs : List (List ℕ)) (k : ℕ) (m : Line)
       → Stand at y a fs → read_fields (span ∷ rs) a fs (begun k at) ≡ some m → SpanAt a (get_or m.spans 0 0)
   unfolding read_fields read_field
-  span-first rs a [] k m t e = absurd (let z : ◌≡◌ {A = ℕ} 0 1 = cc in omega arith)
-  span-first rs a (f ∷ fs) k m t e = on_number_lem _ _ _ m _ e (λ v q w. (f, t.0, rw (spans-kept rs _ fs _ m v [] w refl) q))
+  span_first_lem rs a [] k m t e = absurd (let z : ◌≡◌ {A = ℕ} 0 1 = cc in omega arith)
+  span_first_lem rs a (f ∷ fs) k m t e = on_number_lem _ _ _ m _ e (λ v q w. (f, t.0, rw (spans_kept rs _ fs _ m v [] w refl) q))
 
   -- a dot's second span comes after its name
   span_second : (a : ℕ) (fs : List (List ℕ)) (k : ℕ) (m : Line)
@@ -204,10 +204,10 @@ module _ (at : ℕ) (y : List ℕ) where
       on_test _ _ _ m _ e (λ q w. fields_like k ss rs _ fs _ m t.1 w (i.0, ltb-true (index_in f bin_ops) 14 q, i.2, i.3))
   fields_like k ss (count s ∷ rs) a (f ∷ fs) l m t e i =
       on_number_lem _ _ _ m _ e (λ v q w. fields_like k ss rs _ fs _ m t.1 w
-      (i.0, i.1, i.2, more_parts ss (told_sorts rs) v s l.parts (number-most most_count v f q) i.3))
+      (i.0, i.1, i.2, more_parts ss (told_sorts rs) v s l.parts (number_most most_count v f q) i.3))
   fields_like k ss (flag s ∷ rs) a (f ∷ fs) l m t e i =
       on_number_lem _ _ _ m _ e (λ v q w. fields_like k ss rs _ fs _ m t.1 w
-      (i.0, i.1, i.2, more_parts ss (told_sorts rs) v s l.parts (omega (arith, number-most 1 v f q)) i.3))
+      (i.0, i.1, i.2, more_parts ss (told_sorts rs) v s l.parts (omega (arith, number_most 1 v f q)) i.3))
 
   pieces_stand : (fs : List (List ℕ)) (c : ℕ) → fs ≡ ended (either 44 10) [] (drop c y) → Stand at y (at + c) fs
   pieces_stand [] c e = tt
@@ -272,7 +272,7 @@ module _ (s : Sort) (a : ℕ) (y : List ℕ) (l : Line) where
   pieces_sound (w ∷ fs) e h =
       let k = kind_for s w in
       let r = read_as_lem k a (length w) fs l h in
-      let known = kind-known s w k refl r.0 in
+      let known = kind_known s w k refl r.0 in
       let w_at : w ≡ piece_at y 0 = (piece_first (either 44 10) y 0 w fs e).1 in
       let t : Stand a y a (w ∷ fs) = rw add-zero at (pieces_stand a y (w ∷ fs) 0 e) in
       let i =
@@ -287,11 +287,11 @@ module _ (s : Sort) (a : ℕ) (y : List ℕ) (l : Line) where
         op = i.1;
         word = rw (← w_at) t.0;
         named = i.2;
-        spanned = λ rs q. rw (← w_at) (span-first a y rs _ fs k l t.1 (rw (rw i.0.0 at q) at r.1));
+        spanned = λ rs q. rw (← w_at) (span_first_lem a y rs _ fs k l t.1 (rw (rw i.0.0 at q) at r.1));
         nspanned = λ q. span_second a y _ fs k l t.1 (rw (rw i.0.0 at q) at r.1);
         bare = λ q. rw (no_spans (record_of k).rules _ fs (begun k a) l (rw i.0.0 at q) r.1) refl;
-        parted = rw i.0.0 (record { sorts = sorts; always = parts-kept (record_of k).rules _ fs (begun k a) l r.1 });
-        groups = omega (arith, sorts-length l.parts, simp length-append at (ap length sorts), sorts-length (record_of k).always, few-parts k known);
+        parted = rw i.0.0 (record { sorts = sorts; always = parts_kept (record_of k).rules _ fs (begun k a) l r.1 });
+        groups = omega (arith, sorts-length l.parts, simp length-append at (ap length sorts), sorts-length (record_of k).always, few_parts k known);
         counted = i.3.1;
       }
 

@@ -20,28 +20,28 @@ module _ (y : List ℕ) (at end : ℕ) (e : end ≡ piece_end y at) where
   part : take (end - at) (drop at y) ≡ piece_at y at
   part = upto_between (either 44 10) y at end e
 
-  pub number-good : (most : ℕ) (r : Number) (v : ℕ) → r ≡ number_of most (take (end - at) (drop at y)) → r ≡ Is v
+  pub number_good : (most : ℕ) (r : Number) (v : ℕ) → r ≡ number_of most (take (end - at) (drop at y)) → r ≡ Is v
       → Value v (record { at = end + 1 }) ≡ value_then (number_of most (piece_at y at)) (next_at y at)
   unfolding value_then
-  number-good most r v p q = rw (let f : number_of most (piece_at y at) ≡ Is v = rw part at (sym p ∙ q) in f, e)
+  number_good most r v p q = rw (let f : number_of most (piece_at y at) ≡ Is v = rw part at (sym p ∙ q) in f, e)
 
-  pub number-bad : (most : ℕ) (r : Number) → r ≡ number_of most (take (end - at) (drop at y)) → r ≡ Bad
+  pub number_bad : (most : ℕ) (r : Number) → r ≡ number_of most (take (end - at) (drop at y)) → r ≡ Bad
       → BadValue ≡ value_then (number_of most (piece_at y at)) (next_at y at)
   unfolding value_then
-  number-bad most r p q = rw (← part, ← p, q)
+  number_bad most r p q = rw (← part, ← p, q)
 
-  pub name-good : (name b : Bool) → b ≡ is_name_or_text name (take (end - at) (drop at y)) → b ≡ true
+  pub name_good : (name b : Bool) → b ≡ is_name_or_text name (take (end - at) (drop at y)) → b ≡ true
       → Name at (end - at) (record { at = end + 1 }) ≡ name_then (is_name_or_text name (piece_at y at)) at (length (piece_at y at)) (next_at y at)
   unfolding name_then
-  name-good name b p q =
+  name_good name b p q =
       let f : is_name_or_text name (piece_at y at) ≡ true = rw part at (sym p ∙ q) in
       let n : end - at ≡ length (piece_at y at) = omega arith in
       rw (f, n, e)
 
-  pub name-bad : (name b : Bool) → b ≡ is_name_or_text name (take (end - at) (drop at y)) → b ≡ false
+  pub name_bad : (name b : Bool) → b ≡ is_name_or_text name (take (end - at) (drop at y)) → b ≡ false
       → BadName ≡ name_then (is_name_or_text name (piece_at y at)) at (length (piece_at y at)) (next_at y at)
   unfolding name_then
-  name-bad name b p q = rw (← part, ← p, q)
+  name_bad name b p q = rw (← part, ← p, q)
 
-  pub place-field : (ws : List (List ℕ)) (r : ℕ) → r ≡ index_in (take (end - at) (drop at y)) ws → r ≡ index_in (piece_at y at) ws
-  place-field ws r p = rw (← part) p
+  pub place_field : (ws : List (List ℕ)) (r : ℕ) → r ≡ index_in (take (end - at) (drop at y)) ws → r ≡ index_in (piece_at y at) ws
+  place_field ws r p = rw (← part) p

@@ -19,7 +19,7 @@ use Rattle.grammar.specs.Grammar.{Sort, Contract, Item, Field, Param, Ty, Arg, C
 use Rattle.sheet.specs.Line.{Line, begun, with_span, with_op, with_name, with_parts, when, on_number, read_field, and_then, read_fields, Read, good, bad, or_ten, read_as, fields_of, read_pieces, read_line, most_span}
 use Rattle.sheet.specs.Load.{LoadResult, lines, sorts, due, scan}
 use Rattle.sheet.specs.Same.{SameRecord, SameLine, SameButText, LineSameButText, same_bytes, int_texts}
-use Rattle.sheet.proofs.Holds.{judged-lines, judged_shallow, judged-good}
+use Rattle.sheet.proofs.Holds.{judged_lines, judged_shallow, judged_good}
 use Rattle.sheet.proofs.Paired.{Opt, o_none, o_some}
 use Rattle.grammar.specs.Kinds as kinds
 
@@ -27,7 +27,7 @@ use Rattle.grammar.specs.Kinds as kinds
 
 pub data SameRead (Free : Type 0) : Read → Read → Type 0 where
   same_good : {x y : Line} → SameRecord Free x y → SameRead Free (good x) (good y)
-  same-bad : {n : ℕ} → SameRead Free (bad n) (bad n)
+  same_bad : {n : ℕ} → SameRead Free (bad n) (bad n)
 
 module _ {Free : Type 0} where
   when-same : {x y : Line} (b : Bool) → SameRecord Free x y → Opt (SameRecord Free) (when b x) (when b y)
@@ -78,7 +78,7 @@ module _ {Free : Type 0} where
 
   ten_same : {o u : Option Line} → Opt (SameRecord Free) o u → SameRead Free (or_ten o) (or_ten u)
   unfolding or_ten
-  ten_same o_none = same-bad
+  ten_same o_none = same_bad
   ten_same (o_some h) = same_good h
 
   either_same : {o u p q : Read} (b : Bool) → SameRead Free o u → SameRead Free p q → SameRead Free (cond b o p) (cond b u q)
@@ -91,15 +91,15 @@ module _ {Free : Type 0} where
   line_same s at to l = by_cases (fields_of l)
     where
       by_cases : (fs : List (List ℕ)) → SameRead Free (read_pieces s at fs) (read_pieces s to fs)
-      by_cases [] = same-bad
+      by_cases [] = same_bad
       by_cases (w ∷ fs) =
-          either_same (eqb (kind_for s w) no_kind) same-bad
+          either_same (eqb (kind_for s w) no_kind) same_bad
           (either_same (eqb (length fs) (length (record_of (kind_for s w)).rules))
-          (ten_same (fields-same (record_of (kind_for s w)).rules _ _ fs (record { kind = refl; op = refl; spans = refl; parts = refl; name = inl refl }))) same-bad)
+          (ten_same (fields-same (record_of (kind_for s w)).rules _ _ fs (record { kind = refl; op = refl; spans = refl; parts = refl; name = inl refl }))) same_bad)
 
-  good-same : {r q : Read} {x : Line} → SameRead Free r q → r ≡ good x → (y : Line) × (q ≡ good y) × SameRecord Free x y
-  good-same {x = w} (same_good {x = x} {y = y} h) e = (y, refl, let z : x ≡ w = cc in rw z at h)
-  good-same same-bad e = absurd (let z : ◌≡◌ {A = ℕ} 0 1 = cc in omega arith)
+  good_same : {r q : Read} {x : Line} → SameRead Free r q → r ≡ good x → (y : Line) × (q ≡ good y) × SameRecord Free x y
+  good_same {x = w} (same_good {x = x} {y = y} h) e = (y, refl, let z : x ≡ w = cc in rw z at h)
+  good_same same_bad e = absurd (let z : ◌≡◌ {A = ℕ} 0 1 = cc in omega arith)
 
 -- ------------------------------------------------------------ many lines, elsewhere
 
@@ -120,8 +120,8 @@ scan-joined (l ∷ L) K (d ∷ ds) es i at j to xs zs e k =
     let deep = ltb 64 d.0 in
     let from : Line → List (ℕ × Sort) = λ x. due (suc d.0) (sorts x.parts) ++ ds in
     let f : Line → LoadResult = λ x. scan (suc i) (at + length l + 1) (from x) L in
-    let r = judged-lines deep (read_line d.1 at l) i f xs e in
-    let g = good-same {Free = ⊥} (line_same d.1 at to l) r.2 in
+    let r = judged_lines deep (read_line d.1 at l) i f xs e in
+    let g = good_same {Free = ⊥} (line_same d.1 at to l) r.2 in
     let y = g.0 in
     let q : scan (suc i) (at + length l + 1) (from y) L ≡ lines r.1 = rw g.2.parts at r.3 in
     let t = scan-joined L K (from y) es _ _ (suc j) (to + length l + 1) r.1 zs q k in
@@ -129,7 +129,7 @@ scan-joined (l ∷ L) K (d ∷ ds) es i at j to xs zs e k =
     rw r.4
     (record {
       ys = y ∷ t.ys;
-      read = judged-good j deep (read_line d.1 to l) (λ x. scan (suc j) (to + length l + 1) (due (suc d.0) (sorts x.parts) ++ (ds ++ es)) (L ++ K)) y t.ys (judged_shallow i deep (read_line d.1 at l) f xs e) g.1 u;
+      read = judged_good j deep (read_line d.1 to l) (λ x. scan (suc j) (to + length l + 1) (due (suc d.0) (sorts x.parts) ++ (ds ++ es)) (L ++ K)) y t.ys (judged_shallow i deep (read_line d.1 at l) f xs e) g.1 u;
       same = cons₂ g.2 t.same;
     })
 
@@ -180,7 +180,7 @@ ints_but_text h k =
 
 read_but_text : {l k : List ℕ} {x y : Line} (s : Sort) (at to : ℕ) → LineSameButText l k → read_line s at l ≡ good x → read_line s to k ≡ good y → SameButText x y
 unfolding read_line
-read_but_text {l} {y = y} s at to same_bytes e f = let g = good-same {Free = Unit} (line_same s at to l) e in let q : g.0 ≡ y = cc (g.1, f) in rw q at g.2
+read_but_text {l} {y = y} s at to same_bytes e f = let g = good_same {Free = Unit} (line_same s at to l) e in let q : g.0 ≡ y = cc (g.1, f) in rw q at g.2
 read_but_text {x = x} {y = y} s at to (int_texts sp t u p q) e f = ints_but_text (int_says s at sp t x (rw p at e)) (int_says s to sp u y (rw q at f))
 
 pub scan_but_text : (L K : List (List ℕ)) → Forall₂ LineSameButText L K → (ds : List (ℕ × Sort)) (i at j to : ℕ) (xs ys : List Line)
@@ -190,7 +190,7 @@ scan_but_text L K nil₂ [] i at j to xs ys e f = let p : xs ≡ [] = cc in let 
 scan_but_text L K nil₂ (d ∷ ds) i at j to xs ys e f = absurd (let z : ◌≡◌ {A = ℕ} 0 1 = cc e in omega arith)
 scan_but_text L K (cons₂ h r) [] i at j to xs ys e f = absurd (let z : ◌≡◌ {A = ℕ} 0 1 = cc e in omega arith)
 scan_but_text L K (cons₂ {l₁ = L'} {l₂ = K'} h r) (d ∷ ds) i at j to xs ys e f =
-    let p = judged-lines _ _ i _ xs e in
-    let q = judged-lines _ _ j _ ys f in
+    let p = judged_lines _ _ i _ xs e in
+    let q = judged_lines _ _ j _ ys f in
     let a = read_but_text d.1 at to h p.2 q.2 in
     rw (p.4, q.4) (cons₂ a (scan_but_text L' K' r (due (suc d.0) (sorts q.0.parts) ++ ds) _ _ _ _ p.1 q.1 (rw a.parts at p.3) q.3))

@@ -58,8 +58,8 @@ word_none s S i h = rw (le-ltb i (line_count S) h)
 pub kind_none : (k : ℕ) → no_kind ≤ k → false ≡ span_first k
 kind_none k h = rw (get_or-eq_default records _ h)
 
-pub kind-first : (k : ℕ) (b : Bool) → k < no_kind → b ≡ eqb (get_or (rule_column 0) k 0) span_rule → b ≡ span_first k
-kind-first k b h e = e ∙ ap (λ m. eqb m span_rule) (rule_at k 0 h)
+pub kind_first : (k : ℕ) (b : Bool) → k < no_kind → b ≡ eqb (get_or (rule_column 0) k 0) span_rule → b ≡ span_first k
+kind_first k b h e = e ∙ ap (λ m. eqb m span_rule) (rule_at k 0 h)
 
 pub span_none : (s S : List ℕ) (i k : ℕ) (b : Bool) → k ≡ kind_at S i → b ≡ span_first k → not b ≡ true → 0 ≡ span_at s S i
 unfolding span_at
@@ -79,6 +79,6 @@ module _ (s S : List ℕ) (i a end : ℕ) (p : a ≡ cell S i start_cell) (e : e
     unfolding span_at
     span_over h = rw (← c, ← f, not-false b t, ← p, ← e, le-ltb end (length s) h)
 
-pub nspan-is : (s S : List ℕ) (i a n r : ℕ) → a ≡ cell S i name_cell → n ≡ cell S i length_cell → r ≡ number_at s (a + n + 1) → r ≡ nspan_at s S i
+pub nspan_is : (s S : List ℕ) (i a n r : ℕ) → a ≡ cell S i name_cell → n ≡ cell S i length_cell → r ≡ number_at s (a + n + 1) → r ≡ nspan_at s S i
 unfolding nspan_at
-nspan-is s S i a n r p q h = rw (← p, ← q) h
+nspan_is s S i a n r p q h = rw (← p, ← q) h

@@ -18,7 +18,7 @@ use Rattle.sheet.specs.declared.line.LineRead.{LineRead}
 use Rattle.sheet.specs.declared.line.LineRead.TheVariants.{Good, Bad}
 use Rattle.sheet.specs.declared.scan.Scanned.{Scanned}
 use Rattle.sheet.specs.declared.scan.Scanned.TheVariants.{Read, Fault}
-use Rattle.sheet.proofs.Scanning.{line-ends, told-bad, told-good, scans_refused, scans_deep, turn_complete, turn_line, turn_read, turn_bad, turn_small, turn_room, turn_top, turn_size, turn_next, turn_deep, end_complete, end_missing}
+use Rattle.sheet.proofs.Scanning.{line_ends, told_bad, told_good, scans_refused, scans_deep, turn_complete, turn_line, turn_read, turn_bad, turn_small, turn_room, turn_top, turn_size, turn_next, turn_deep, end_complete, end_missing}
 
 -- where the line at `at` ends
 abbrev pub Found : List ℕ → ℕ → ℕ → Type 0
@@ -29,14 +29,14 @@ abbrev pub Got : List ℕ → ℕ → ℕ → ℕ → LineRead → Type 0
 Got s at σ f r = r ≡ code_read (read_pieces (sort_of σ) at (ended (either 44 10) [] (take (f + 1 - at) (drop at s))))
 
 module _ {s S T ds os : List ℕ} {n at i : ℕ} (g : Going s S T ds os n at i) (w : Whole s S) where
-  pub few-lines : i ≤ most_lines
-  few-lines = omega (arith, g.lines, w.few)
+  pub few_lines : i ≤ most_lines
+  few_lines = omega (arith, g.lines, w.few)
 
   pub next_fits : Fits w64 (i + 1)
-  next_fits = let f = few-lines in omega arith
+  next_fits = let f = few_lines in omega arith
 
-  pub next-line : at < length s → i + 1 ≤ most_lines
-  next-line h = turn_line s S T ds os n at i w g h
+  pub next_line_lem : at < length s → i + 1 ≤ most_lines
+  next_line_lem h = turn_line s S T ds os n at i w g h
 
   pub deepest : Deepest T ds os n
   deepest = record { depth = g.counts.depth; next = λ h. (g.counts.owned (n - 1) (omega arith) (omega arith)).next }
@@ -51,11 +51,11 @@ module _ {s S T ds os : List ℕ} {n at i : ℕ} (g : Going s S T ds os n at i) 
   returns-missing h z e = scans_refused s S T _ 11 (i + 1) e (end_missing s S T ds os n at i g h z) g.size
 
   module _ (h : at < length s) {f : ℕ} (e : Found s at f) where
-    pub after-start : at ≤ f + 1
-    after-start = omega arith
+    pub after_start : at ≤ f + 1
+    after_start = omega arith
 
     pub before_end : f + 1 ≤ length s
-    before_end = omega (arith, line-ends s at w.terminated h)
+    before_end = omega (arith, line_ends s at w.terminated h)
 
     pub end_fits : Fits w64 (f + 1)
     end_fits = let b = before_end in omega (arith, w.small)
@@ -69,12 +69,12 @@ module _ {s S T ds os : List ℕ} {n at i : ℕ} (g : Going s S T ds os n at i) 
     module _ (some : n ≡ 0 → ⊥) {σ : ℕ} (p : σ ≡ sort_due T ds os n) {r : LineRead} (q : Got s at σ f r) where
       pub returns-bad : {m : ℕ} {a : Scanned} → r ≡ Bad m → a ≡ Fault m (i + 1) → Scans s S T a
       returns-bad {m} b d =
-          scans_refused s S T _ m (i + 1) d (turn_bad s S T ds os n at i w g h some σ p m (told-bad _ m (sym (turn_read s S T ds os n at i w g h σ f r e q) ∙ b))) g.size
+          scans_refused s S T _ m (i + 1) d (turn_bad s S T ds os n at i w g h some σ p m (told_bad _ m (sym (turn_read s S T ds os n at i w g h σ f r e q) ∙ b))) g.size
 
       -- the line is read
       module _ {l : Line} (b : r ≡ Good l) where
         is : (x : spec.Line) × (read_line (sort_of σ) at (upto (either 10 10) (drop at s)) ≡ good x) × (l ≡ code_line x)
-        is = told-good _ l (sym (turn_read s S T ds os n at i w g h σ f r e q) ∙ b)
+        is = told_good _ l (sym (turn_read s S T ds os n at i w g h σ f r e q) ∙ b)
 
         pub accepts : Accepts T ds n i l
         accepts =

@@ -11,7 +11,7 @@ use lib.ListN.{length, get_or, set, take, drop, length-append, length-drop, drop
 use lib.Seq.{take-suc, get_or-drop}
 use borrow.Author.Tests.{eqb-true, eqb-false, ne_eqb, le-ltb, lt-ltb, ltb-true, ltb-false}
 use Rattle.text.specs.Text.{either, upto, ended}
-use Rattle.text.proofs.Pieces.{upto_front, upto-most, upto-stop, piece_next}
+use Rattle.text.proofs.Pieces.{upto_front, upto_most, upto_stop, piece_next}
 use Rattle.grammar.specs.Grammar.{Sort, Contract, Item, Field, Param, Ty, Arg, Clause, Stmt, Expr, record_of, no_kind}
 use Rattle.sheet.specs.Line.{Line, Read, good, bad, read_pieces, read_line, fields_of, most_lines}
 use Rattle.sheet.specs.Load.{LoadResult, lines, refused, after, lines_of, copies, sorts, due, judged, scan, unended}
@@ -29,24 +29,24 @@ use Rattle.sheet.specs.declared.scan.Scanned.TheVariants.{Read as AllRead, Fault
 use Rattle.sheet.proofs.ReadAs.{ReadAs, read_sound, sound_small}
 use Rattle.grammar.proofs.TableLaws.{sort_at}
 use Rattle.sheet.proofs.Holds.{line_says, line_below, length-line}
-use Rattle.sheet.proofs.Opening.{sorts-length, settled-most, opened_head, after_none, after-some, open_none, open_some}
+use Rattle.sheet.proofs.Opening.{sorts-length, settled_most, opened_head, after_none, after_some, open_none, open_some}
 
 -- what the code's reading of a line tells of the line
-pub told-bad : (r : Read) (m : ℕ) → code_read r ≡ BadLine m → r ≡ bad m
+pub told_bad : (r : Read) (m : ℕ) → code_read r ≡ BadLine m → r ≡ bad m
 unfolding code_read
-told-bad (good l) m e = absurd (let z : ◌≡◌ {A = ℕ} 0 1 = cc in omega arith)
-told-bad (bad n) m e = cc
+told_bad (good l) m e = absurd (let z : ◌≡◌ {A = ℕ} 0 1 = cc in omega arith)
+told_bad (bad n) m e = cc
 
-pub told-good : (r : Read) (l : CodeLine) → code_read r ≡ Good l → (x : Line) × (r ≡ good x) × (l ≡ code_line x)
+pub told_good : (r : Read) (l : CodeLine) → code_read r ≡ Good l → (x : Line) × (r ≡ good x) × (l ≡ code_line x)
 unfolding code_read
-told-good (good x) l e = (x, refl, cc)
-told-good (bad n) l e = absurd (let z : ◌≡◌ {A = ℕ} 0 1 = cc in omega arith)
+told_good (good x) l e = (x, refl, cc)
+told_good (bad n) l e = absurd (let z : ◌≡◌ {A = ℕ} 0 1 = cc in omega arith)
 
 -- one line of the scan
-scan-bad : (i at d m : ℕ) (s : Sort) (ds : List (ℕ × Sort)) (l : List ℕ) (ls : List (List ℕ)) → d ≤ 64 → read_line s at l ≡ bad m
+scan_bad : (i at d m : ℕ) (s : Sort) (ds : List (ℕ × Sort)) (l : List ℕ) (ls : List (List ℕ)) → d ≤ 64 → read_line s at l ≡ bad m
     → scan i at ((d, s) ∷ ds) (l ∷ ls) ≡ refused m i
 unfolding scan judged
-scan-bad i at d m s ds l ls h e = rw (le-ltb 64 d h, e)
+scan_bad i at d m s ds l ls h e = rw (le-ltb 64 d h, e)
 
 scan_good : (i at d : ℕ) (s : Sort) (ds : List (ℕ × Sort)) (l : List ℕ) (ls : List (List ℕ)) (x : Line) → d ≤ 64 → read_line s at l ≡ good x
     → scan i at ((d, s) ∷ ds) (l ∷ ls) ≡ after x (scan (suc i) (at + length l + 1) (due (suc d) (sorts x.parts) ++ ds) ls)
@@ -64,17 +64,17 @@ unfolding after_all
 after_last [] x r = refl
 after_last (l ∷ ls) x r = ap (after l) (after_last ls x r)
 
-after-lines : (ls : List Line) → after_all ls (lines []) ≡ lines ls
+after_lines : (ls : List Line) → after_all ls (lines []) ≡ lines ls
 unfolding after_all
-after-lines [] = refl
-after-lines (l ∷ ls) = rw (after-lines ls)
+after_lines [] = refl
+after_lines (l ∷ ls) = rw (after_lines ls)
 
 -- a line more is written
-put-lines_last : (ls : List Line) (x : Line) (i : ℕ) (S : List ℕ) → put_lines i (ls ++ (x ∷ [])) S ≡ put_line (put_lines i ls S) (i + length ls) (code_line x)
+put_lines_last : (ls : List Line) (x : Line) (i : ℕ) (S : List ℕ) → put_lines i (ls ++ (x ∷ [])) S ≡ put_line (put_lines i ls S) (i + length ls) (code_line x)
 unfolding put_lines
-put-lines_last [] x i S = ap (λ j. put_line S j (code_line x)) (let e : i ≡ i + 0 = omega arith in e)
-put-lines_last (l ∷ ls) x i S =
-    put-lines_last ls x (suc i) (put_line S i (code_line l)) ∙ ap (λ j. put_line (put_lines (suc i) ls (put_line S i (code_line l))) j (code_line x)) (let e : suc i + length ls ≡ i + suc (length ls) = omega arith in e)
+put_lines_last [] x i S = ap (λ j. put_line S j (code_line x)) (let e : i ≡ i + 0 = omega arith in e)
+put_lines_last (l ∷ ls) x i S =
+    put_lines_last ls x (suc i) (put_line S i (code_line l)) ∙ ap (λ j. put_line (put_lines (suc i) ls (put_line S i (code_line l))) j (code_line x)) (let e : suc i + length ls ≡ i + suc (length ls) = omega arith in e)
 
 -- only LF ends a line
 ten : (b : ℕ) → either 10 10 b ≡ true → b ≡ 10
@@ -96,19 +96,19 @@ module _ (s : List ℕ) (at : ℕ) (u : unended s ≡ false) (h : at < length s)
       by_cases true e f = eqb-true _ _ e
       by_cases false e f = absurd (let z : ◌≡◌ {A = ℕ} 0 1 = cc in omega arith)
 
-  pub line-ends : at + length line < length s
-  line-ends =
+  pub line_ends : at + length line < length s
+  line_ends =
       let k = length s - 1 - at in
       let e : at + k ≡ length s - 1 = omega arith in
       let f : either 10 10 (get_or (drop at s) k 0) ≡ true = rw (get_or-drop at s k 0, e, last) in
-      let m = upto-most (either 10 10) (drop at s) k (rw (length-drop at s) (omega arith)) f in
+      let m = upto_most (either 10 10) (drop at s) k (rw (length-drop at s) (omega arith)) f in
       omega arith
 
   pub line_part : (end : ℕ) → end ≡ at + length line + 1 → take (end - at) (drop at s) ≡ line ++ (10 ∷ [])
   line_part end e =
-      let g : length line < length (drop at s) = rw (length-drop at s) (omega (arith, line-ends)) in
+      let g : length line < length (drop at s) = rw (length-drop at s) (omega (arith, line_ends)) in
       let n : end - at ≡ suc (length line) = omega arith in
-      rw (n, take-suc (drop at s) (length line) 0 g, upto_front (either 10 10) (drop at s), ten (get_or (drop at s) (length line) 0) (upto-stop (either 10 10) (drop at s) g))
+      rw (n, take-suc (drop at s) (length line) 0 g, upto_front (either 10 10) (drop at s), ten (get_or (drop at s) (length line) 0) (upto_stop (either 10 10) (drop at s) g))
 
 sort_back : (s : Sort) → sort_of (sort_number s) ≡ s
 sort_back Contract = refl
@@ -135,10 +135,10 @@ three-sorts (a ∷ b ∷ c ∷ []) h = rw (sort_back a.1, sort_back b.1, sort_ba
 three-sorts (a ∷ b ∷ c ∷ d ∷ gs) h = absurd (omega arith)
 
 -- the cells of a line tell the sorts of its parts
-sorts-told : (T : List ℕ) (i : ℕ) (x : Line) → Says T i x → x.kind < no_kind → sorts_in x.parts ≡ group_sorts (record_of x.kind) → length x.parts ≤ 3
+sorts_told : (T : List ℕ) (i : ℕ) (x : Line) → Says T i x → x.kind < no_kind → sorts_in x.parts ≡ group_sorts (record_of x.kind) → length x.parts ≤ 3
     → sorts_at T i ≡ sorts x.parts
 unfolding sorts_at
-sorts-told T i x y k e h =
+sorts_told T i x y k e h =
     rw (y.kind, y.first, y.second, y.third, sort_at x.kind 0 k (omega arith), sort_at x.kind 1 k (omega arith), sort_at x.kind 2 k (omega arith), ← e)
     (three-sorts x.parts h)
 
@@ -173,7 +173,7 @@ scan_deep s i at d [] ds t h u = absurd (omega arith)
 scan_deep s i at d (x ∷ ss) ds t h u = by_cases (ltb at (length s)) refl
   where
     by_cases : (b : Bool) → ltb at (length s) ≡ b → scanned (scan i at ((d, x) ∷ (due d ss ++ ds)) (lines_from s at)) ≡ too_deep b i
-    by_cases true e = rw (piece_next (either 10 10) s at (line-ends s at u (ltb-true _ _ e)), lt-ltb 64 d t)
+    by_cases true e = rw (piece_next (either 10 10) s at (line_ends s at u (ltb-true _ _ e)), lt-ltb 64 d t)
     by_cases false e = rw (no_lines s at (ltb-false _ _ e))
 
 -- lines that were read before do not change that
@@ -190,7 +190,7 @@ module _ (s S T ds os : List ℕ) (n at i : ℕ) (w : Whole s S) (g : Going s S 
 
   -- the line, and those after it
   pub there : lines_from s at ≡ here ∷ lines_from s (at + length here + 1)
-  there = piece_next (either 10 10) s at (line-ends s at w.terminated h)
+  there = piece_next (either 10 10) s at (line_ends s at w.terminated h)
 
   fewer : i < length (lines_of s)
   fewer = let e = ap length there in omega (arith, g.lines)
@@ -217,7 +217,7 @@ module _ (s S T ds os : List ℕ) (n at i : ℕ) (w : Whole s S) (g : Going s S 
     pub turn_bad : (m : ℕ) → read_line (sort_of σ) at here ≡ bad m → scan_all s ≡ refused m (i + 1)
     turn_bad m b =
         whole
-        ∙ rw (scan-bad (suc i) at (n - 1) m (sort_of σ) _ here _ (omega (arith, g.counts.depth)) b, add-one i)
+        ∙ rw (scan_bad (suc i) at (n - 1) m (sort_of σ) _ here _ (omega (arith, g.counts.depth)) b, add-one i)
         (after-refused g.read m (suc i))
 
     -- the line is read: x is what it says, and l what the code makes of it
@@ -229,7 +229,7 @@ module _ (s S T ds os : List ℕ) (n at i : ℕ) (w : Whole s S) (g : Going s S 
       pub turn_small : Small l
       turn_small =
           rw t
-          (sound_small (sort_of σ) at (here ++ (10 ∷ [])) x (rw (length-append here (10 ∷ [])) (omega (arith, line-ends s at w.terminated h, w.small))) sound)
+          (sound_small (sort_of σ) at (here ++ (10 ∷ [])) x (rw (length-append here (10 ∷ [])) (omega (arith, line_ends s at w.terminated h, w.small))) sound)
 
       pub turn_room : i < line_count T
       turn_room = omega (arith, fewer, g.size, w.cells)
@@ -261,7 +261,7 @@ module _ (s S T ds os : List ℕ) (n at i : ℕ) (w : Whole s S) (g : Going s S 
         later : scan_all s ≡ after_all g.read (after x rest)
         later =
             whole
-            ∙ rw (scan_good (suc i) at (n - 1) (sort_of σ) _ here _ x (omega (arith, g.counts.depth)) c, let m : suc (n - 1) ≡ n = omega (arith, some) in m, ← sorts-told U i x says sound.known sound.parted.sorts sound.groups)
+            ∙ rw (scan_good (suc i) at (n - 1) (sort_of σ) _ here _ x (omega (arith, g.counts.depth)) c, let m : suc (n - 1) ≡ n = omega (arith, some) in m, ← sorts_told U i x says sound.known sound.parted.sorts sound.groups)
 
         took_none : (es ps : List ℕ) (m : ℕ) → Took ds os es ps n i parts m → parts ≡ 0
             → (opened U es ps m ≡ due n (sorts_at U i) ++ opened T (spent ds n) os n) × Open U es ps (suc i) m
@@ -273,16 +273,16 @@ module _ (s S T ds os : List ℕ) (n at i : ℕ) (w : Whole s S) (g : Going s S 
             let v = none_left (sorts_at U i) (sorts-length U i ∙ sym all ∙ z) in
             rw (a, b, d, v) (after_none T U ds os i n g.counts (omega (arith, some)) same, open_none T U ds os i n g.counts (omega (arith, some)) same)
 
-        took-some : (es ps : List ℕ) (m : ℕ) → Took ds os es ps n i parts m → (parts ≡ 0 → ⊥) → n < 65
+        took_some : (es ps : List ℕ) (m : ℕ) → Took ds os es ps n i parts m → (parts ≡ 0 → ⊥) → n < 65
             → (opened U es ps m ≡ due n (sorts_at U i) ++ opened T (spent ds n) os n) × Open U es ps (suc i) m
         unfolding due_after owner_after depth_after
-        took-some es ps m k z v =
+        took_some es ps m k z v =
             let y = ne_eqb parts 0 z in
             let q = ne_eqb n 65 (λ e. omega arith) in
             let a : m ≡ n + 1 = k.depth ∙ rw y in
             let b : es ≡ set (spent ds n) n parts = k.due ∙ rw (y, q) in
             let d : ps ≡ set os n i = k.owner ∙ rw (y, q) in
-            let f = after-some T U ds os i n g.counts (omega (arith, some)) same parts v all in
+            let f = after_some T U ds os i n g.counts (omega (arith, some)) same parts v all in
             let o = open_some T U ds os i n g.counts (omega (arith, some)) same parts (omega (arith, z)) v (rw says.kind sound.known) all (omega (arith, turn_few)) in
             rw (a, b, d) (f, o)
 
@@ -298,19 +298,19 @@ module _ (s S T ds os : List ℕ) (n at i : ℕ) (w : Whole s S) (g : Going s S 
             record {
               read = g.read ++ (x ∷ []);
               whole = later ∙ after_last g.read x rest ∙ rw (v.0, add-one i, e);
-              cells = u ∙ rw (t, put-lines_last g.read x 0 S, ← g.cells, g.count, zero-add);
+              cells = u ∙ rw (t, put_lines_last g.read x 0 S, ← g.cells, g.count, zero-add);
               count = rw (length-append g.read (x ∷ [])) (omega (arith, g.count));
               size = turn_size;
               lines = rw (e) (omega (arith, g.lines));
               counts = rw (add-one i) v.1;
-              within = omega (arith, line-ends s at w.terminated h);
+              within = omega (arith, line_ends s at w.terminated h);
             }
           where
             took : (b : Bool) → eqb parts 0 ≡ b → (opened U es ps m ≡ due n (sorts_at U i) ++ opened T (spent ds n) os n) × Open U es ps (suc i) m
             took true y = took_none es ps m k (eqb-true _ _ y)
             took false y =
                 let a : m ≡ n + 1 = k.depth ∙ rw y in
-                took-some es ps m k (eqb-false _ _ y) (omega (arith, z, g.counts.depth))
+                took_some es ps m k (eqb-false _ _ y) (omega (arith, z, g.counts.depth))
 
         -- the line's parts would stand too deep
         pub turn_deep : (es ps : List ℕ) (m f : ℕ) → Took ds os es ps n i parts m → m ≡ 66 → f ≡ at + length here → scanned (scan_all s) ≡ too_deep (ltb (f + 1) (length s)) (i + 1 + 1)
@@ -318,7 +318,7 @@ module _ (s S T ds os : List ℕ) (n at i : ℕ) (w : Whole s S) (g : Going s S 
         turn_deep es ps m f k z e = deep (eqb parts 0) refl
           where
             deep : (b : Bool) → eqb parts 0 ≡ b → scanned (scan_all s) ≡ too_deep (ltb (f + 1) (length s)) (i + 1 + 1)
-            deep true y = absurd (let a : m ≡ settled (spent ds n) n = k.depth ∙ rw y in omega (arith, settled-most (spent ds n) n, g.counts.depth))
+            deep true y = absurd (let a : m ≡ settled (spent ds n) n = k.depth ∙ rw y in omega (arith, settled_most (spent ds n) n, g.counts.depth))
             deep false y =
                 let a : m ≡ n + 1 = k.depth ∙ rw y in
                 let q = eqb-false parts 0 y in
@@ -348,7 +348,7 @@ module _ (s S T ds os : List ℕ) (n at i : ℕ) (g : Going s S T ds os n at i) 
   pub end_complete : n ≡ 0 → Scans s S T AllRead
   unfolding opened scan scanned
   end_complete z =
-      let e : scan_all s ≡ lines g.read = g.whole ∙ rw (z, no_lines s at h) (after-lines g.read) in
+      let e : scan_all s ≡ lines g.read = g.whole ∙ rw (z, no_lines s at h) (after_lines g.read) in
       record { answer = rw e; left = λ ls f. g.cells ∙ ap (λ l. put_lines 0 l S) (let q : g.read ≡ ls = cc in q); size = g.size }
 
   pub end_missing : (n ≡ 0 → ⊥) → scan_all s ≡ refused 11 (i + 1)

@@ -19,11 +19,11 @@ use Rattle.sheet.specs.declared.cursor.NameRead.TheVariants.{Name, BadName}
 use Rattle.sheet.specs.declared.line.Line.{Line}
 use Rattle.sheet.specs.declared.line.FieldRead.TheVariants.{Taken, Wrong}
 
-pub number-taken : (m : Number) (c : Cursor) (r : NumberRead) (v : ℕ) (d : Cursor) (k : ℕ → Line) (l : Line) → r ≡ value_then m c → r ≡ Value v d → l ≡ k v
+pub number_taken : (m : Number) (c : Cursor) (r : NumberRead) (v : ℕ) (d : Cursor) (k : ℕ → Line) (l : Line) → r ≡ value_then m c → r ≡ Value v d → l ≡ k v
     → Taken l d ≡ taken (on_number m k) c
 unfolding value_then on_number taken
-number-taken (Is w) c r v d k l p q e = cc
-number-taken Bad c r v d k l p q e = absurd (let z : ◌≡◌ {A = ℕ} 0 1 = cc in omega arith)
+number_taken (Is w) c r v d k l p q e = cc
+number_taken Bad c r v d k l p q e = absurd (let z : ◌≡◌ {A = ℕ} 0 1 = cc in omega arith)
 
 pub number_wrong : (m : Number) (c : Cursor) (r : NumberRead) (k : ℕ → Line) → r ≡ value_then m c → r ≡ BadValue → Wrong ≡ taken (on_number m k) c
 unfolding value_then on_number taken
@@ -36,19 +36,19 @@ unfolding name_then when taken
 name-taken true a n base c r start len d l p q = let e : start ≡ a = cc in let f : len ≡ n = cc in let g : d ≡ c = cc in rw (e, f, g)
 name-taken false a n base c r start len d l p q = absurd (let z : ◌≡◌ {A = ℕ} 0 1 = cc in omega arith)
 
-pub name-start : (b : Bool) (a n : ℕ) (c : Cursor) (r : NameRead) (start len : ℕ) (d : Cursor) → r ≡ name_then b a n c → r ≡ Name start len d → start ≡ a
+pub name_start : (b : Bool) (a n : ℕ) (c : Cursor) (r : NameRead) (start len : ℕ) (d : Cursor) → r ≡ name_then b a n c → r ≡ Name start len d → start ≡ a
 unfolding name_then
-name-start true a n c r start len d p q = cc
-name-start false a n c r start len d p q = absurd (let z : ◌≡◌ {A = ℕ} 0 1 = cc in omega arith)
+name_start true a n c r start len d p q = cc
+name_start false a n c r start len d p q = absurd (let z : ◌≡◌ {A = ℕ} 0 1 = cc in omega arith)
 
 pub name_wrong : (b : Bool) (a n : ℕ) (c : Cursor) (r : NameRead) (l : Line) → r ≡ name_then b a n c → r ≡ BadName → Wrong ≡ taken (when b l) c
 unfolding name_then when taken
 name_wrong true a n c r l p q = absurd (let z : ◌≡◌ {A = ℕ} 0 1 = cc in omega arith)
 name_wrong false a n c r l p q = refl
 
-pub op-taken : (p q n : ℕ) (c d : Cursor) (l : Line) → p ≡ q → d ≡ c → p < n → Taken (with_op l p) d ≡ taken (when (ltb q n) (with_op l q)) c
+pub op_taken : (p q n : ℕ) (c d : Cursor) (l : Line) → p ≡ q → d ≡ c → p < n → Taken (with_op l p) d ≡ taken (when (ltb q n) (with_op l q)) c
 unfolding when taken
-op-taken p q n c d l e f h = rw (← e, f, lt-ltb p n h)
+op_taken p q n c d l e f h = rw (← e, f, lt-ltb p n h)
 
 pub op_wrong : (p q n : ℕ) (c : Cursor) (l : Line) → p ≡ q → n ≤ p → Wrong ≡ taken (when (ltb q n) l) c
 unfolding when taken

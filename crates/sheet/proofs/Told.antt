@@ -25,8 +25,8 @@ use Rattle.sheet.specs.Field.{piece_at, piece_end}
 use Rattle.sheet.specs.declared.line.Line.{Line}
 use Rattle.sheet.specs.declared.line.LineRead.{LineRead}
 use Rattle.sheet.specs.declared.line.LineRead.TheVariants.{Bad as BadLine}
-use Rattle.grammar.proofs.KindLaws.{kind-known}
-use Rattle.grammar.proofs.TableLaws.{number_at, fields_at, few-always, few-parts}
+use Rattle.grammar.proofs.KindLaws.{kind_known}
+use Rattle.grammar.proofs.TableLaws.{number_at_lem, fields_at, few_always, few_parts}
 
 unfoldable pub map_told : Option line.Line → Option Line
 map_told (some l) = some (code_line l)
@@ -46,18 +46,18 @@ module _ (F : line.Line → Option line.Line) (G : Line → Option Line) where
   then_when false l h = refl
 
 -- the parts that a COUNT or FLAG tells are the next group
-parts-told : (l : line.Line) (n : ℕ) (s : Sort) (ps : List (ℕ × Sort)) → l.parts ≡ ps → length ps < 3
+parts_told : (l : line.Line) (n : ℕ) (s : Sort) (ps : List (ℕ × Sort)) → l.parts ≡ ps → length ps < 3
     → step.with_parts (code_line l) (length l.parts) n ≡ code_line (with_parts l n s)
-parts-told l n s [] e h = rw e
-parts-told l n s (p ∷ []) e h = rw e
-parts-told l n s (p ∷ q ∷ []) e h = rw e
-parts-told l n s (p ∷ q ∷ r ∷ ps) e h = absurd (omega arith)
+parts_told l n s [] e h = rw e
+parts_told l n s (p ∷ []) e h = rw e
+parts_told l n s (p ∷ q ∷ []) e h = rw e
+parts_told l n s (p ∷ q ∷ r ∷ ps) e h = absurd (omega arith)
 
 then_parts : (F : line.Line → Option line.Line) (G : Line → Option Line) (o : Option Line) (most g : ℕ) (f : List ℕ) (l : line.Line) (s : Sort)
     → o ≡ parts_step most g f (code_line l) → length l.parts ≡ g → g < 3 → ((v : ℕ) → G (code_line (with_parts l v s)) ≡ map_told (F (with_parts l v s)))
     → and_then o G ≡ map_told (and_then (on_number (number_of most f) (λ n. with_parts l n s)) F)
 then_parts F G o most g f l s p e h k =
-    rw p (then_number F G (number_of most f) (λ n. with_parts l n s) _ (λ v. rw (← e) (parts-told l v s l.parts refl (omega arith))) k)
+    rw p (then_number F G (number_of most f) (λ n. with_parts l n s) _ (λ v. rw (← e) (parts_told l v s l.parts refl (omega arith))) k)
 
 one_more : (l : line.Line) (n : ℕ) (s : Sort) (g : ℕ) → length l.parts ≡ g → length (with_parts l n s).parts ≡ suc g
 one_more l n s g e = rw (length-append, e) (add-one g)
@@ -100,11 +100,11 @@ or_ten_told (some l) = refl
 or_ten_told nothing = refl
 
 -- the line that the code begins with, whose record always has parts of one sort at most
-begun-told : (k at n : ℕ) (ps : List (ℕ × Sort)) → (record_of k).always ≡ ps → length ps ≤ 1 → n ≡ get_or (numbers_in (record_of k).always) 0 0
+begun_told : (k at n : ℕ) (ps : List (ℕ × Sort)) → (record_of k).always ≡ ps → length ps ≤ 1 → n ≡ get_or (numbers_in (record_of k).always) 0 0
     → code_line (begun k at) ≡ record { kind = k; op = 0; at = at; start = 0; len = 0; first = n; second = 0; third = 0 }
-begun-told k at n [] e h f = rw (f, e)
-begun-told k at n (p ∷ []) e h f = rw (f, e)
-begun-told k at n (p ∷ q ∷ ps) e h f = absurd (omega arith)
+begun_told k at n [] e h f = rw (f, e)
+begun_told k at n (p ∷ []) e h f = rw (f, e)
+begun_told k at n (p ∷ q ∷ ps) e h f = absurd (omega arith)
 
 -- A line y, whose record's word ends at `end`.
 module _ (s : Sort) (y : List ℕ) (end : ℕ) (e : end ≡ piece_end y 0) where
@@ -131,14 +131,14 @@ module _ (s : Sort) (y : List ℕ) (end : ℕ) (e : end ≡ piece_end y 0) where
 
     module _ (known : k ≢ no_kind) (n m : ℕ) (pieces : n ≡ length (ended (either 44 10) [] y)) (fields : m ≡ get_or length_table k 0) where
       below : k < no_kind
-      below = kind-known s (take end y) k is known
+      below = kind_known s (take end y) k is known
 
       rules : m ≡ length (record_of k).rules
       rules = fields_at k m below fields
 
       -- as many pieces are left as the record has fields
-      pub line-left : n ≡ m + 1 → length left ≡ m
-      line-left h = omega (arith, ap length opened)
+      pub line_left : n ≡ m + 1 → length left ≡ m
+      line_left h = omega (arith, ap length opened)
 
       pub line-fields : (at : ℕ) → (n ≡ m + 1 → ⊥) → BadLine 9 ≡ answer at
       unfolding read_pieces read_as code_read
@@ -150,7 +150,7 @@ module _ (s : Sort) (y : List ℕ) (end : ℕ) (e : end ≡ piece_end y 0) where
           → r ≡ answer at
       unfolding read_pieces read_as
       line_read at h r a f g =
-          let first = begun-told k at a (record_of k).always refl (few-always k below) (f ∙ number_at (λ r. get_or (numbers_in r.always) 0 0) k below) in
+          let first = begun_told k at a (record_of k).always refl (few_always k below) (f ∙ number_at_lem (λ r. get_or (numbers_in r.always) 0 0) k below) in
           let from : at + (end + 1) ≡ at + length (take end y) + 1 = omega (arith, length-take-le end y (omega arith)) in
-          rw (opened, ← is, ne_eqb k no_kind known, eq-eqb (length left) (length (record_of k).rules) (line-left h ∙ rules))
-          (g ∙ rw (← first, from) (ap step.or_ten (all_told (record_of k).rules _ _ left (begun k at) refl (few-parts k below)) ∙ or_ten_told _))
+          rw (opened, ← is, ne_eqb k no_kind known, eq-eqb (length left) (length (record_of k).rules) (line_left h ∙ rules))
+          (g ∙ rw (← first, from) (ap step.or_ten (all_told (record_of k).rules _ _ left (begun k at) refl (few_parts k below)) ∙ or_ten_told _))

@@ -35,7 +35,7 @@ use Rattle.refusals.specs.declared.refusal.Refusal.TheVariants.{Predicate, Defau
 use Rattle.refusals.specs.declared.refusal.Done.{Done}
 use Rattle.refusals.specs.declared.refusal.Done.TheVariants.{Fine, Refused}
 use Rattle.refusals.proofs.Answers.{fits, misfits, refuses}
-use Rattle.lookups.proofs.Types.{type-name}
+use Rattle.lookups.proofs.Types.{type_name_lem}
 use Rattle.env.specs.Calls.{KeyedOf}
 use Rattle.env.specs.Force.{env_of, ExprIn}
 use Rattle.env.specs.declared.env.Env.{Env}
@@ -43,7 +43,7 @@ use Rattle.env.specs.declared.judge.Typed.{Typed}
 use Rattle.env.specs.declared.judge.Typed.TheVariants.{Is, Refused as No}
 use Rattle.lookups.proofs.Tables.{one_place}
 use Rattle.typing.specs.Asks.{callee_at, args_at, Asks, AsksAt, AsksCall, Types, Does}
-use Rattle.typing.proofs.Calls.{parts, call-callee, call-args}
+use Rattle.typing.proofs.Calls.{parts, call_callee, call-args}
 use Rattle.typing.proofs.Doing.{typed_then, not_typed}
 use Rattle.typing.proofs.Onward.{Onward, onward, no_value_below, off_type}
 use Rattle.typing.proofs.Operators.{gave, gave_code}
@@ -81,9 +81,9 @@ module _ (s S : List ℕ) (env : Env) (T : Table) (op target value c : ℕ) (a :
   unfolding given_to
   value_no r e = record { does = λ x p t q. not_typed s _ _ T a U k r e }
 
-  pub value-ok : (d : ℕ) (r : Done) → a ≡ Is d → JudgesAssign s S env op target value c d r → Gives s S env op target value c T r U
+  pub value_ok : (d : ℕ) (r : Done) → a ≡ Is d → JudgesAssign s S env op target value c d r → Gives s S env op target value c T r U
   unfolding given_to
-  value-ok d r e j = record { does = λ x p t q. typed_then s _ _ T a U k d r e (j.judged T x p t (ty_from d) q (gave_code s _ T a U k d e)) }
+  value_ok d r e j = record { does = λ x p t q. typed_then s _ _ T a U k d r e (j.judged T x p t (ty_from d) q (gave_code s _ T a U k d e)) }
 
 -- ------------------------------------------------------------ check_assign
 
@@ -103,13 +103,13 @@ module _ (s S : List ℕ) (env : Env) (T : Table) (i : ℕ) (h : StmtOf kinds.as
       on : Onward s S env T U
       on = onward s S env T U _ _ h.stmt.ready (off_type h.stmt.ready.force.loaded (env_of s T env) assign_target.here (rw (add-one i) (no_value_below S i (omega (arith, h.kind))))) (gave s _ T a U k c e)
 
-      pub assign-value : ValueIn s S env U (i + 1) m
-      assign-value =
+      pub assign_value : ValueIn s S env U (i + 1) m
+      assign_value =
           record { ready = on.ready; within = assign_target.here.within; here = rw (q ∙ ap (end_at S) (add-one i)) (row_first (row_rest its_parts.1)) }
 
-      pub assign-ok : (o : ℕ) (r : Done) (W : Table) → o ≡ op_at S i → Gives s S env o (i + 1) m c U r W → Does s (check_stmt_types (env_of s T env) (stmt_at s i)) T r W
+      pub assign_ok : (o : ℕ) (r : Done) (W : Table) → o ≡ op_at S i → Gives s S env o (i + 1) m c U r W → Does s (check_stmt_types (env_of s T env) (stmt_at s i)) T r W
       unfolding check_stmt_types check_assign ask_of asked ty_of given_to
-      assign-ok o r W y g =
+      assign_ok o r W y g =
           let j = g.does (expr_at s (i + 1)) (target_at h.stmt.ready.force.loaded assign_target.here) (ty_from c) (gave_code s _ T a U k c e) in
           record {
             gives =
@@ -132,7 +132,7 @@ module _ (s S : List ℕ) (env : Env) (T : Table) (i : ℕ) (h : Asks s S env T 
     use_call = record { asks = h; kind = sym e ∙ q }
 
     pub use_callee : ExprIn s S env (i + 1)
-    use_callee = call-callee s S env T i use_call
+    use_callee = call_callee s S env T i use_call
 
     module _ (keyed : Found) (f : KeyedOf s S env (i + 1) keyed) where
       pub use_args : AsksCall s S env T i keyed
@@ -177,9 +177,9 @@ module _ (s S : List ℕ) (env : Env) (T : Table) (i : ℕ) (h : StmtOf kinds.do
 
 module _ (s S : List ℕ) (env : Env) (T : Table) (i : ℕ) (h : StmtIn s S env T i) (n : ℕ) (e : n ≡ kind_at S i) where
   -- other statements ask nothing here
-  pub stmt-other : n ≢ kinds.assign → n ≢ kinds.do' → Does s (check_stmt_types (env_of s T env) (stmt_at s i)) T Fine T
+  pub stmt_other : n ≢ kinds.assign → n ≢ kinds.do' → Does s (check_stmt_types (env_of s T env) (stmt_at s i)) T Fine T
   unfolding check_stmt_types done_of kept
-  stmt-other a b =
+  stmt_other a b =
       let d = h.ready.force.loaded in
       let q = pick {P = λ k. kind_at S i ≡ k → k ≢ kinds.assign → k ≢ kinds.do' → Does s (check_stmt_types (env_of s T env) (stmt_at s i)) T Fine T} {i = kinds.guard} {n = 5} n
       ((λ f x y. record { gives = rw (guard_at d h.here f).0 refl })
@@ -217,20 +217,20 @@ module _ (s S : List ℕ) (env : Env) (T : Table) (field : ℕ) (h : DefaultIn s
     value_at : v ≡ end_at S (suc field)
     value_at = z ∙ ap (end_at S) (add-one field)
 
-    pub default-value : ValueIn s S env T field v
-    default-value = record { ready = h.ready; within = h.within; here = rw value_at (row_first field_is.4) }
+    pub default_value : ValueIn s S env T field v
+    default_value = record { ready = h.ready; within = h.within; here = rw value_at (row_first field_is.4) }
 
     -- nothing is asked of the target
-    from-value : (r : Kept Unit) → kept (given_to Γ (op_of 0) (leaf 0 f.nspan (id f.name)) (expr_at s v) (ty_of_ident Γ f.name)) T ≡ r
+    from_value : (r : Kept Unit) → kept (given_to Γ (op_of 0) (leaf 0 f.nspan (id f.name)) (expr_at s v) (ty_of_ident Γ f.name)) T ≡ r
         → kept (check_assign Γ Set (made_up Γ f) (ask_of Γ (expr_at s v))) T ≡ r
     unfolding check_assign made_up given_to ty_of ask_of asked ◌>>=◌
-    from-value r k = k
+    from_value r k = k
 
     module _ (y : Name) (b : Bool) (n : y ≡ name_at s S (field + 1)) (o : b ≡ is_one y no_defaults) where
       test : is_one (type_name f.ty) no_defaults ≡ b
       test =
           let t : TypeAt s S (suc field) = record { loaded = h.ready.force.loaded; here = field_is.3 } in
-          let q : type_name f.ty ≡ y = rw (field_is.2, n, add-one field) (sym (type-name s S (suc field) t)) in
+          let q : type_name f.ty ≡ y = rw (field_is.2, n, add-one field) (sym (type_name_lem s S (suc field) t)) in
           rw q (sym o)
 
       pub default_wrong : b ≡ true → Does s (check_default Γ f (expr_at s (end_at S (suc field)))) T (Refused (Default field v)) T
@@ -247,5 +247,5 @@ module _ (s S : List ℕ) (env : Env) (T : Table) (field : ℕ) (h : DefaultIn s
           let j = g.does _ default_target (ty_of_ident Γ f.name) (q ∙ rw (m, field_is.0) refl) in
           record {
             gives =
-                rw (← value_at) (then_ok _ _ T T tt _ ((fits _ 19 (span (expr_at s v)) (default_text f.ty) n).answers T) (from-value _ j.gives));
+                rw (← value_at) (then_ok _ _ T T tt _ ((fits _ 19 (span (expr_at s v)) (default_text f.ty) n).answers T) (from_value _ j.gives));
           }

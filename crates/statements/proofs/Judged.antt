@@ -29,13 +29,13 @@ use Rattle.refusals.specs.Refusal.{number_in, refusal_of, done_of}
 use Rattle.refusals.specs.declared.refusal.Refusal.TheVariants.{AssetSlot, NameIntoAddress, WrappingIntoNarrow, LiteralIntoNarrow, SlotMismatch}
 use Rattle.refusals.specs.declared.refusal.Done.TheVariants.{Fine, Refused}
 use Rattle.refusals.proofs.Answers.{gives, then_fine, then_refused, fits, misfits, passes, refuses}
-use Rattle.lookups.proofs.Codes.{from-code}
+use Rattle.lookups.proofs.Codes.{from_code}
 use Rattle.lookups.proofs.Literals.{literal_at_lem}
 use Rattle.env.specs.Force.{env_of}
 use Rattle.env.specs.declared.env.Env.{Env}
 use Rattle.narrow.specs.Narrow.{exceeds_of, most_of}
 use Rattle.narrow.proofs.Narrow as narrow
-use Rattle.narrow.proofs.Narrow.{field-some, field_slot_lem, told-some, told_none}
+use Rattle.narrow.proofs.Narrow.{field_some, field_slot_lem, told_some, told_none}
 use Rattle.statements.specs.Assigned.{op_of, bare_at, TargetAt, AssignAt, becomes_address, narrow_at, wraps_narrow, above_narrow, FitsSlot, JudgesAssign}
 use Rattle.grammar.specs.Kinds as kinds
 use Rattle.rules.specs.Codes as codes
@@ -123,14 +123,14 @@ module _ (o : Option ℕ) (g : narrow.Slot o) (m : ℕ) (q : m ≡ most_of o) (y
     where
       by_cases : (b : Bool) → eqb m 0 ≡ b → Answers of_slot (ok tt)
       by_cases true z = rw (told_none g m q (eqb-true m 0 z)) (gives tt)
-      by_cases false z = rw (told-some g m q (eqb-false m 0 z)) (below y m at x (rw z at f))
+      by_cases false z = rw (told_some g m q (eqb-false m 0 z)) (below y m at x (rw z at f))
 
   slot_above : (not (eqb m 0) && exceeds_of y m) ≡ true
       → Answers of_slot (refused (record { number = 27; place = at; text = literal_text x (elim (parse_u128 y) [ some n ↦ n | none ↦ 0 ]) m }))
   unfolding if_some
   slot_above f =
       let z = (and-eq-true_iff (not (eqb m 0)) (exceeds_of y m)).0 f in
-      rw (told-some g m q (eqb-false m 0 (not-true (eqb m 0) z.0))) (above y m at x z.1)
+      rw (told_some g m q (eqb-false m 0 (not-true (eqb m 0) z.0))) (above y m at x z.1)
 
 -- ------------------------------------------------------------ rule by rule
 
@@ -159,9 +159,9 @@ module _ (s S : List ℕ) (env : Env) (op target value c d : ℕ) (h : AssignAt 
   unfolding becomes_address eq_ty code
   address_test b = rw (b, name-is, ← k, ← l) refl
 
-  name-fine : becomes_address s S op target c d ≡ false → Answers name_rule (ok tt)
+  name_fine : becomes_address s S op target c d ≡ false → Answers name_rule (ok tt)
   unfolding name_into_address env_of
-  name-fine f = if_fine (ident_of e) (bare_at S target) (named_at s target) _ p.ident (λ b. fits _ 25 _ _ (rw (address_test b, f) refl))
+  name_fine f = if_fine (ident_of e) (bare_at S target) (named_at s target) _ p.ident (λ b. fits _ 25 _ _ (rw (address_test b, f) refl))
 
   name_no : becomes_address s S op target c d ≡ true → Answers name_rule (refused (refusal_of s (NameIntoAddress target value)))
   unfolding name_into_address env_of refusal_of becomes_address
@@ -171,7 +171,7 @@ module _ (s S : List ℕ) (env : Env) (op target value c d : ℕ) (h : AssignAt 
 
   past_name : (q : Rule Unit) (r : Res Unit) → c ≢ codes.asset → becomes_address s S op target c d ≡ false → Answers q r
       → Answers (expect (not (eq_ty t Asset)) 24 (span e) asset_slot_text >> (name_rule >> q)) r
-  past_name q r n f a = past_asset _ r n (then_fine name_rule q tt r (name-fine f) a)
+  past_name q r n f a = past_asset _ r n (then_fine name_rule q tt r (name_fine f) a)
 
   -- 26 and 27, where m is the target's largest number
   module _ (m : ℕ) (q : m ≡ most_of (narrow_at s S target)) where
@@ -193,11 +193,11 @@ module _ (s S : List ℕ) (env : Env) (op target value c d : ℕ) (h : AssignAt 
 
     wrap_test : bare_at S target ≡ true → (is_some (narrow_field (model_in s) (named_at s target)) && is_wrapping given) ≡ wraps_narrow S value m
     unfolding wraps_narrow
-    wrap_test b = rw (field-some (model_in s) (named_at s target), ← narrow_is b, (told h.loaded h.here).0) refl
+    wrap_test b = rw (field_some (model_in s) (named_at s target), ← narrow_is b, (told h.loaded h.here).0) refl
 
-    wrap-fine : wraps_narrow S value m ≡ false → Answers wrap_rule (ok tt)
+    wrap_fine : wraps_narrow S value m ≡ false → Answers wrap_rule (ok tt)
     unfolding wrapping_into_narrow env_of
-    wrap-fine f = if_fine (ident_of e) (bare_at S target) (named_at s target) _ p.ident (λ b. fits _ 26 _ _ (rw (wrap_test b, f) refl))
+    wrap_fine f = if_fine (ident_of e) (bare_at S target) (named_at s target) _ p.ident (λ b. fits _ 26 _ _ (rw (wrap_test b, f) refl))
 
     wrap_no : wraps_narrow S value m ≡ true → Answers wrap_rule (refused (refusal_of s (WrappingIntoNarrow target value)))
     unfolding wrapping_into_narrow env_of refusal_of wraps_narrow
@@ -209,14 +209,14 @@ module _ (s S : List ℕ) (env : Env) (op target value c d : ℕ) (h : AssignAt 
     literal_rule = if_some (ident_of e) λ x. literal_into_narrow Γ x given
 
     -- the literal, if any
-    text-is : int_of given ≡ cond (eqb (kind_at S value) kinds.int) (some (name_at s S value)) none
-    text-is = int_at h.loaded h.here
+    text_is : int_of given ≡ cond (eqb (kind_at S value) kinds.int) (some (name_at s S value)) none
+    text_is = int_at h.loaded h.here
 
-    literal-fine : above_narrow s S value m ≡ false → Answers literal_rule (ok tt)
+    literal_fine : above_narrow s S value m ≡ false → Answers literal_rule (ok tt)
     unfolding literal_into_narrow env_of above_narrow
-    literal-fine f =
+    literal_fine f =
         if_fine (ident_of e) (bare_at S target) (named_at s target) _ p.ident
-        (λ b. if_fine (int_of given) (eqb (kind_at S value) kinds.int) (name_at s S value) _ text-is
+        (λ b. if_fine (int_of given) (eqb (kind_at S value) kinds.int) (name_at s S value) _ text_is
         (λ y. slot_below _ (field_slot_lem (model_in s) (named_at s target)) m (narrow_is b) (name_at s S value) _ _ (rw y at f)))
 
     literal_no : above_narrow s S value m ≡ true → Answers literal_rule (refused (refusal_of s (LiteralIntoNarrow target value m)))
@@ -225,7 +225,7 @@ module _ (s S : List ℕ) (env : Env) (op target value c d : ℕ) (h : AssignAt 
         let b = is-bare _ f in
         let y = ((and-eq-true_iff (eqb (kind_at S value) kinds.int) _).0 ((and-eq-true_iff (not (eqb m 0)) _).0 f).1).0 in
         if_named (ident_of e) (bare_at S target) (named_at s target) _ p.ident _ b
-        (if_named (int_of given) (eqb (kind_at S value) kinds.int) (name_at s S value) _ text-is _ y
+        (if_named (int_of given) (eqb (kind_at S value) kinds.int) (name_at s S value) _ text_is _ y
         (rw (literal_at_lem h.loaded value, y) (slot_above _ (field_slot_lem (model_in s) (named_at s target)) m (narrow_is b) (name_at s S value) _ _ (rw y at f))))
 
 -- ------------------------------------------------------------ return by return
@@ -262,7 +262,7 @@ module _ (s S : List ℕ) (env : Env) (op target value c d : ℕ) (h : AssignAt 
             record {
               judged = λ T e p t u k l.
                   past_name s S env op target value c d h T e p t u k l _ _ n (sym x ∙ na)
-                  (then_fine _ _ tt _ (wrap-fine s S env op target value c d h T e p t u k l m q (sym y ∙ nb))
+                  (then_fine _ _ tt _ (wrap_fine s S env op target value c d h T e p t u k l m q (sym y ∙ nb))
                   (then_refused _ _ _ (literal_no s S env op target value c d h T e p t u k l m q (sym z ∙ f))));
             }
 
@@ -274,8 +274,8 @@ module _ (s S : List ℕ) (env : Env) (op target value c d : ℕ) (h : AssignAt 
           unfolding judge_assign
           all_past T e p t u k l r j =
               past_name s S env op target value c d h T e p t u k l _ _ n (sym x ∙ na)
-              (then_fine _ _ tt _ (wrap-fine s S env op target value c d h T e p t u k l m q (sym y ∙ nb))
-              (then_fine _ _ tt _ (literal-fine s S env op target value c d h T e p t u k l m q (sym z ∙ nv)) j))
+              (then_fine _ _ tt _ (wrap_fine s S env op target value c d h T e p t u k l m q (sym y ∙ nb))
+              (then_fine _ _ tt _ (literal_fine s S env op target value c d h T e p t u k l m q (sym z ∙ nv)) j))
 
           pub slot_fine : g ≡ true → JudgesAssign s S env op target value c d Fine
           unfolding done_of
@@ -286,5 +286,5 @@ module _ (s S : List ℕ) (env : Env) (op target value c d : ℕ) (h : AssignAt 
           slot_wrong f =
               record {
                 judged = λ T e p t u k l.
-                    all_past T e p t u k l _ (rw (from-code c t k, from-code d u l) (misfits _ 28 _ _ (sym (w.fits T t u k l) ∙ f)));
+                    all_past T e p t u k l _ (rw (from_code c t k, from_code d u l) (misfits _ 28 _ _ (sym (w.fits T t u k l) ∙ f)));
               }

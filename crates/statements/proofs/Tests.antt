@@ -21,13 +21,13 @@ use Rattle.rules.specs.Statements.{is_set, is_address_field, narrow_field, from_
 use Rattle.rules.specs.Standing.{expr_at, field_at, model_in, Loaded}
 use Rattle.rules.proofs.Exprs.{is_dot_at, dot_at_lem, ident_at}
 use Rattle.rules.proofs.Standing.{row_first}
-use Rattle.lookups.proofs.Codes.{from-code}
+use Rattle.lookups.proofs.Codes.{from_code}
 use Rattle.lookups.specs.Found.{found_field, FieldNamed}
 use Rattle.lookups.specs.Lines.{ExprAt}
 use Rattle.lookups.specs.declared.model.Found.{Found}
 use Rattle.lookups.specs.declared.model.Found.TheVariants.{At, Nothing}
 use Rattle.lookups.proofs.Behind.{behind}
-use Rattle.lookups.proofs.Types.{type-name}
+use Rattle.lookups.proofs.Types.{type_name_lem}
 use Rattle.env.specs.Force.{env_of}
 use Rattle.env.specs.declared.env.Env.{Env}
 use Rattle.narrow.specs.Narrow.{exceeds_of, most_of}
@@ -39,12 +39,12 @@ use Rattle.grammar.specs.Operators as ops
 
 -- ------------------------------------------------------------ operators and bare names
 
-pub set-op : (o : ℕ) → (not (eqb o ops.assign_add) && not (eqb o ops.assign_sub)) ≡ is_set (op_of o)
+pub set_op : (o : ℕ) → (not (eqb o ops.assign_add) && not (eqb o ops.assign_sub)) ≡ is_set (op_of o)
 unfolding is_set
-set-op zero = refl
-set-op (suc zero) = refl
-set-op (suc (suc zero)) = refl
-set-op (suc (suc (suc o))) = rw (ne_eqb (suc (suc (suc o))) ops.assign_add (λ e. omega arith), ne_eqb (suc (suc (suc o))) ops.assign_sub (λ e. omega arith)) refl
+set_op zero = refl
+set_op (suc zero) = refl
+set_op (suc (suc zero)) = refl
+set_op (suc (suc (suc o))) = rw (ne_eqb (suc (suc (suc o))) ops.assign_add (λ e. omega arith), ne_eqb (suc (suc (suc o))) ops.assign_sub (λ e. omega arith)) refl
 
 pub bare-name : (S : List ℕ) (i k : ℕ) → k ≡ kind_at S i → (eqb k kinds.id || eqb k kinds.field) ≡ bare_at S i
 unfolding bare_at
@@ -61,7 +61,7 @@ module _ (s S : List ℕ) (x : Name) (d : Loaded s S) (r : Found) (n : FieldName
   unfolding is_address_field found_field is
   address i y b e z w =
       let t = behind kinds.field s S d r i e n.kind (omega arith) (omega arith) in
-      let q : type_name (field_at s i).ty ≡ y = rw (t.field, z, add-one i) (sym (type-name s S (suc i) t.typed)) in
+      let q : type_name (field_at s i).ty ≡ y = rw (t.field, z, add-one i) (sym (type_name_lem s S (suc i) t.typed)) in
       rw (is_address_field, ← n.found, e, q) w
 
 module _ (s S : List ℕ) (op target slot given : ℕ) (b : Bool) (n : b ≡ bare_at S target) where
@@ -70,9 +70,9 @@ module _ (s S : List ℕ) (op target slot given : ℕ) (b : Bool) (n : b ≡ bar
   address_no_name e = rw (← n, not-true b e) refl
 
   module _ (o : Bool) (m : not b ≡ false) (q : o ≡ is_set (op_of op)) where
-    pub address-other : (o && eqb given codes.name && eqb slot codes.address) ≡ false → false ≡ becomes_address s S op target slot given
+    pub address_other : (o && eqb given codes.name && eqb slot codes.address) ≡ false → false ≡ becomes_address s S op target slot given
     unfolding becomes_address
-    address-other e = rw (← n, not-false b m, ← q, e) refl
+    address_other e = rw (← n, not-false b m, ← q, e) refl
 
     pub address_named : (x : Name) (r : Bool) → (o && eqb given codes.name && eqb slot codes.address) ≡ true → x ≡ name_at s S target → r ≡ is_address_field (model_in s) x
         → r ≡ becomes_address s S op target slot given
@@ -104,9 +104,9 @@ module _ (s S : List ℕ) (i m : ℕ) where
     unfolding above_narrow
     above_other e = rw (ne_eqb m 0 n, ← q, ne_eqb k kinds.int e) refl
 
-    pub above-literal : (x : Name) (r : Bool) → k ≡ kinds.int → x ≡ name_at s S i → r ≡ exceeds_of x m → r ≡ above_narrow s S i m
+    pub above_literal : (x : Name) (r : Bool) → k ≡ kinds.int → x ≡ name_at s S i → r ≡ exceeds_of x m → r ≡ above_narrow s S i m
     unfolding above_narrow
-    above-literal x r e z w = rw (ne_eqb m 0 n, ← q, eq-eqb k kinds.int e, ← z) w
+    above_literal x r e z w = rw (ne_eqb m 0 n, ← q, eq-eqb k kinds.int e, ← z) w
 
 -- ------------------------------------------------------------ deploy_params
 
@@ -124,26 +124,26 @@ module _ (s S : List ℕ) (env : Env) (i : ℕ) (h : ExprAt s S i) where
       base : ident_of (expr_at s (suc i)) ≡ cond (eqb j kinds.id) (some (name_at s S (i + 1))) none
       base = ident_at h.loaded (row_first (dot_at_lem h.loaded h.here (sym q ∙ d)).1) ∙ rw (z, add-one i) refl
 
-      from-base : from_deploy_params (env_of s [] env) (expr_at s i) ≡ ident_is (expr_at s (suc i)) "deploy_params"
+      from_base : from_deploy_params (env_of s [] env) (expr_at s i) ≡ ident_is (expr_at s (suc i)) "deploy_params"
       unfolding from_deploy_params env_of
-      from-base = rw (not-false env.genesis g, is_dot_at h.loaded h.here, ← q, eq-eqb k kinds.dot d) refl
+      from_base = rw (not-false env.genesis g, is_dot_at h.loaded h.here, ← q, eq-eqb k kinds.dot d) refl
 
       pub not_named : j ≢ kinds.id → false ≡ from_deploy_params (env_of s [] env) (expr_at s i)
       unfolding ident_is
-      not_named e = rw (from-base, ident_is, base, ne_eqb j kinds.id e) refl
+      not_named e = rw (from_base, ident_is, base, ne_eqb j kinds.id e) refl
 
       pub by_base : (x : Name) (r : Bool) → j ≡ kinds.id → x ≡ name_at s S (i + 1) → r ≡ same x (bytes "deploy_params") → r ≡ from_deploy_params (env_of s [] env) (expr_at s i)
       unfolding ident_is is
-      by_base x r e y w = rw (from-base, ident_is, base, eq-eqb j kinds.id e, ← y) w
+      by_base x r e y w = rw (from_base, ident_is, base, eq-eqb j kinds.id e, ← y) w
 
 -- ------------------------------------------------------------ slots
 
 module _ (Γ : typing.Env) (v : Expr) (t u : Ty) where
-  set-fits : (o : AssignOp) → is_set o ≡ true → slot_fits Γ o v t u ≡ (compatible t u || (eq_ty t Collection && eq_ty u Unknown && from_deploy_params Γ v))
+  set_fits : (o : AssignOp) → is_set o ≡ true → slot_fits Γ o v t u ≡ (compatible t u || (eq_ty t Collection && eq_ty u Unknown && from_deploy_params Γ v))
   unfolding is_set slot_fits
-  set-fits Set e = refl
-  set-fits AddTo e = absurd (true≢false (sym e))
-  set-fits SubFrom e = absurd (true≢false (sym e))
+  set_fits Set e = refl
+  set_fits AddTo e = absurd (true≢false (sym e))
+  set_fits SubFrom e = absurd (true≢false (sym e))
 
   add_fits : (o : AssignOp) → is_set o ≡ false → slot_fits Γ o v t u ≡ (numeric t && numeric u)
   unfolding is_set slot_fits
@@ -152,22 +152,22 @@ module _ (Γ : typing.Env) (v : Expr) (t u : Ty) where
   add_fits SubFrom e = refl
 
 module _ (s : List ℕ) (env : Env) (op i c d : ℕ) (o : Bool) (q : o ≡ is_set (op_of op)) where
-  pub fits-numbers : (x y : Bool) → not o ≡ true → x ≡ numeric (ty_from c) → y ≡ numeric (ty_from d) → FitsSlot s env op i c d (x && y)
-  fits-numbers x y e f g =
-      record { fits = λ T t u k l. rw (add_fits (env_of s T env) (expr_at s i) t u (op_of op) (sym q ∙ not-true o e), f, g, from-code c t k, from-code d u l) refl }
+  pub fits_numbers : (x y : Bool) → not o ≡ true → x ≡ numeric (ty_from c) → y ≡ numeric (ty_from d) → FitsSlot s env op i c d (x && y)
+  fits_numbers x y e f g =
+      record { fits = λ T t u k l. rw (add_fits (env_of s T env) (expr_at s i) t u (op_of op) (sym q ∙ not-true o e), f, g, from_code c t k, from_code d u l) refl }
 
   module _ (b : Bool) (n : not o ≡ false) (h : b ≡ compatible (ty_from c) (ty_from d)) where
     -- what fits where the operator is `=`
-    fits-set : (r : Bool) → r ≡ (b || (eqb c codes.collection && eqb d codes.unknown && from_deploy_params (env_of s [] env) (expr_at s i))) → FitsSlot s env op i c d r
+    fits_set : (r : Bool) → r ≡ (b || (eqb c codes.collection && eqb d codes.unknown && from_deploy_params (env_of s [] env) (expr_at s i))) → FitsSlot s env op i c d r
     unfolding from_deploy_params env_of eq_ty code
-    fits-set r e =
-        record { fits = λ T t u k l. e ∙ sym (set-fits (env_of s T env) (expr_at s i) t u (op_of op) (sym q ∙ not-false o n) ∙ rw (h, from-code c t k, from-code d u l, ← k, ← l) refl) }
+    fits_set r e =
+        record { fits = λ T t u k l. e ∙ sym (set_fits (env_of s T env) (expr_at s i) t u (op_of op) (sym q ∙ not-false o n) ∙ rw (h, from_code c t k, from_code d u l, ← k, ← l) refl) }
 
-    pub fits-compatible : b ≡ true → FitsSlot s env op i c d true
-    fits-compatible e = fits-set true (rw e refl)
+    pub fits_compatible : b ≡ true → FitsSlot s env op i c d true
+    fits_compatible e = fits_set true (rw e refl)
 
-    pub fits-params : (r : Bool) → b ≡ false → (eqb c codes.collection && eqb d codes.unknown) ≡ true → r ≡ from_deploy_params (env_of s [] env) (expr_at s i) → FitsSlot s env op i c d r
-    fits-params r e w z = fits-set r (rw (e, w) z)
+    pub fits_params : (r : Bool) → b ≡ false → (eqb c codes.collection && eqb d codes.unknown) ≡ true → r ≡ from_deploy_params (env_of s [] env) (expr_at s i) → FitsSlot s env op i c d r
+    fits_params r e w z = fits_set r (rw (e, w) z)
 
     pub fits_not : b ≡ false → (eqb c codes.collection && eqb d codes.unknown) ≡ false → FitsSlot s env op i c d false
-    fits_not e w = fits-set false (rw (e, w) refl)
+    fits_not e w = fits_set false (rw (e, w) refl)

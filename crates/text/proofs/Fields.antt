@@ -34,8 +34,8 @@ unfolding value_from
 value_grows v [] = omega arith
 value_grows v (b ∷ bs) = let h = value_grows (v * 10 + (b - 48)) bs in omega arith
 
-judge-high : (most n : ℕ) (a : Bool) → most < n → Bad ≡ judge most a n
-judge-high most n a h = rw (lt-leb n most h, and-false a)
+judge_high : (most n : ℕ) (a : Bool) → most < n → Bad ≡ judge most a n
+judge_high most n a h = rw (lt-leb n most h, and-false a)
 
 -- what a digit's byte is
 pub digit_range : (b : ℕ) → digit b ≡ true → (48 ≤ b) × (b ≤ 57)
@@ -43,26 +43,26 @@ digit_range b e = let h = (and-eq-true_iff (leb 48 b) (leb b 57)).0 e in (leb-tr
 
 -- A turn of the reading of a number: r is the answer, i the place of the turn, and v the number so far.
 module _ (f : List ℕ) (i v most : ℕ) (r : Number) (e : r ≡ judge most (all digit (drop i f)) (value_from v (drop i f))) where
-  pub number-stop : digit (get_or f i 0) ≡ false → i < length f → Bad ≡ r
+  pub number_stop : digit (get_or f i 0) ≡ false → i < length f → Bad ≡ r
   unfolding all
-  number-stop t h = sym (e ∙ rw (drop-cons f i 0 h, t))
+  number_stop t h = sym (e ∙ rw (drop-cons f i 0 h, t))
 
   pub number_more : digit (get_or f i 0) ≡ true → i < length f
       → r ≡ judge most (all digit (drop (i + 1) f)) (value_from (v * 10 + (get_or f i 0 - 48)) (drop (i + 1) f))
   unfolding all value_from
   number_more t h = e ∙ rw (add-one, drop-cons f i 0 h, t)
 
-  pub number-high : most < v → Bad ≡ r
-  number-high h = judge-high most (value_from v (drop i f)) (all digit (drop i f)) (omega (arith, value_grows v (drop i f))) ∙ sym e
+  pub number_high : most < v → Bad ≡ r
+  number_high h = judge_high most (value_from v (drop i f)) (all digit (drop i f)) (omega (arith, value_grows v (drop i f))) ∙ sym e
 
   pub number_over : length f ≤ i → v ≤ most → Is v ≡ r
   unfolding all value_from
   number_over h t = sym (e ∙ rw (drop_of_length-le f h, le-leb v most t))
 
 -- a number that is read is at most the largest
-pub number-most : (most v : ℕ) (f : List ℕ) → number_of most f ≡ Is v → v ≤ most
+pub number_most : (most v : ℕ) (f : List ℕ) → number_of most f ≡ Is v → v ≤ most
 unfolding number_of
-number-most most v f e = by_cases (is_decimal f && leb (value_from 0 f) most) refl e
+number_most most v f e = by_cases (is_decimal f && leb (value_from 0 f) most) refl e
   where
     by_cases : (t : Bool) → (is_decimal f && leb (value_from 0 f) most) ≡ t → cond t (Is (value_from 0 f)) Bad ≡ Is v → v ≤ most
     by_cases true q w =

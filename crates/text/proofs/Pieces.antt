@@ -26,11 +26,11 @@ module _ (p : ℕ → Bool) where
   ended_at w b bs t = elim t [ true ↦ w ∷ ended p [] bs | false ↦ ended p (w ++ (b ∷ [])) bs ]
 
   -- the first piece, and the others
-  pub ended-next : (w l : List ℕ) → length (upto p l) < length l
+  pub ended_next : (w l : List ℕ) → length (upto p l) < length l
       → ended p w l ≡ (w ++ upto p l) ∷ ended p [] (drop (suc (length (upto p l))) l)
   unfolding upto ended
-  ended-next w [] h = absurd (omega arith)
-  ended-next w (b ∷ bs) h = by_cases (p b) h (ended-next (w ++ (b ∷ [])) bs)
+  ended_next w [] h = absurd (omega arith)
+  ended_next w (b ∷ bs) h = by_cases (p b) h (ended_next (w ++ (b ∷ [])) bs)
     where
       by_cases : (t : Bool) → length (cond t [] (b ∷ upto p bs)) < suc (length bs)
           → (length (upto p bs) < length bs
@@ -81,21 +81,21 @@ ended-append p w (c ∷ a) b h = by_cases (p c) h (λ v q. ended-append p v a b 
     by_cases false q k = k (w ++ (c ∷ [])) q
 
 -- a piece ends where a byte passes the test, or before
-pub upto-most : (p : ℕ → Bool) (l : List ℕ) (k : ℕ) → k < length l → p (get_or l k 0) ≡ true → length (upto p l) ≤ k
+pub upto_most : (p : ℕ → Bool) (l : List ℕ) (k : ℕ) → k < length l → p (get_or l k 0) ≡ true → length (upto p l) ≤ k
 unfolding upto
-upto-most p [] k h e = absurd (omega arith)
-upto-most p (b ∷ bs) zero h e = rw e (omega arith)
-upto-most p (b ∷ bs) (suc k) h e = by_cases (p b) (upto-most p bs k (omega arith) e)
+upto_most p [] k h e = absurd (omega arith)
+upto_most p (b ∷ bs) zero h e = rw e (omega arith)
+upto_most p (b ∷ bs) (suc k) h e = by_cases (p b) (upto_most p bs k (omega arith) e)
   where
     by_cases : (t : Bool) → length (upto p bs) ≤ k → length (cond t [] (b ∷ upto p bs)) ≤ suc k
     by_cases true h = omega arith
     by_cases false h = omega arith
 
 -- the byte that ends it passes the test
-pub upto-stop : (p : ℕ → Bool) (l : List ℕ) → length (upto p l) < length l → p (get_or l (length (upto p l)) 0) ≡ true
+pub upto_stop : (p : ℕ → Bool) (l : List ℕ) → length (upto p l) < length l → p (get_or l (length (upto p l)) 0) ≡ true
 unfolding upto
-upto-stop p [] h = absurd (omega arith)
-upto-stop p (b ∷ bs) h = by_cases (p b) refl h (upto-stop p bs)
+upto_stop p [] h = absurd (omega arith)
+upto_stop p (b ∷ bs) h = by_cases (p b) refl h (upto_stop p bs)
   where
     by_cases : (t : Bool) → p b ≡ t → length (cond t [] (b ∷ upto p bs)) < suc (length bs) → (length (upto p bs) < length bs → p (get_or bs (length (upto p bs)) 0) ≡ true)
         → p (get_or (b ∷ bs) (length (cond t [] (b ∷ upto p bs))) 0) ≡ true
@@ -115,7 +115,7 @@ piece_ends p y c h =
 pub piece_next : (p : ℕ → Bool) (y : List ℕ) (c : ℕ) → c + length (upto p (drop c y)) < length y
     → ended p [] (drop c y) ≡ upto p (drop c y) ∷ ended p [] (drop (c + length (upto p (drop c y)) + 1) y)
 piece_next p y c h =
-    ended-next p [] (drop c y) (rw (length-drop c y) (omega arith))
+    ended_next p [] (drop c y) (rw (length-drop c y) (omega arith))
     ∙ rw (drop-drop, let q : c + suc (length (upto p (drop c y))) ≡ c + length (upto p (drop c y)) + 1 = omega arith in q)
 
 -- what the first piece from c on is, and the others
@@ -165,7 +165,7 @@ module _ (p : ℕ → Bool) (s : List ℕ) (i k n : ℕ) (e : n ≡ k + length (
   count_over h = sym (e ∙ rw (drop_of_length-le s h) (add-zero k))
 
 -- the end of a part
-pub count-stop : (p : ℕ → Bool) (s : List ℕ) (from to i n : ℕ) → length (ended p [] (drop from s)) ≡ n + length (ended p [] (drop i s)) → i ≤ to → to ≤ i → from + n ≤ i
+pub count_stop : (p : ℕ → Bool) (s : List ℕ) (from to i n : ℕ) → length (ended p [] (drop from s)) ≡ n + length (ended p [] (drop i s)) → i ≤ to → to ≤ i → from + n ≤ i
     → Counted p s from to n
-count-stop p s from to i n e h g m =
+count_stop p s from to i n e h g m =
     let q : i ≡ to = omega arith in record { most = omega arith; pieces = e ∙ ap (λ j. n + length (ended p [] (drop j s))) q }

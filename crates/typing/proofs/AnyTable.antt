@@ -15,17 +15,17 @@ use Rattle.rules.specs.Kept.{Table, ty_of_mark, Kept, retyped, kept, ty_from, Is
 use Rattle.rules.specs.Typing as rules
 use Rattle.rules.specs.Typing.{has, later, stale, typing, ty_of}
 use Rattle.rules.specs.Standing.{expr_at}
-use Rattle.rules.proofs.AnyTable.{from-table, again, first-time}
+use Rattle.rules.proofs.AnyTable.{from_table, again, first_time}
 use Rattle.rules.proofs.Binding.{kept_holds}
 use Rattle.refusals.specs.Refusal.{refusal_of}
-use Rattle.lookups.proofs.Codes.{code_of, untold}
+use Rattle.lookups.proofs.Codes.{code_of_lem, untold}
 use Rattle.env.specs.Answers.{typed_of, Valid}
 use Rattle.env.specs.Force.{ends_in, env_of}
 use Rattle.env.specs.declared.env.Env.{Env}
 use Rattle.env.specs.declared.judge.Typed.{Typed}
 use Rattle.env.specs.declared.judge.Typed.TheVariants.{Is, Refused}
 use Rattle.typing.specs.Asks.{answer_mark, again_mark, Asks, Types}
-use Rattle.typing.proofs.Asking.{asks-line}
+use Rattle.typing.proofs.Asking.{asks_line}
 use Rattle.typing.proofs.Onward.{mark_code}
 use Rattle.rules.specs.Codes as codes
 
@@ -34,7 +34,7 @@ same_answer : (s : List ℕ) (r : Typed) (c : ℕ) → Valid r → IsCode c → 
 unfolding typed_of
 same_answer s (Is d) c v h e =
     let q : ty_from d ≡ ty_from c = cc in
-    let w : d ≡ c = sym (code_of d v).1 ∙ ap code q ∙ (code_of c h).1 in
+    let w : d ≡ c = sym (code_of_lem d v).1 ∙ ap code q ∙ (code_of_lem c h).1 in
     rw w refl
 same_answer s (Refused x) c v h e = absurd (let z : ◌≡◌ {A = ℕ} 0 1 = cc in omega arith)
 
@@ -55,7 +55,7 @@ module _ (s S : List ℕ) (env : Env) (T : Table) (i : ℕ) (h : Asks s S env T 
   typed = kept (typing Γ (expr_at s i)) T
 
   here : line (expr_at s i) ≡ i
-  here = asks-line s S env T i h
+  here = asks_line s S env T i h
 
   excepts : stale Γ (expr_at s i) ≡ Excepted
   unfolding stale env_of
@@ -64,7 +64,7 @@ module _ (s S : List ℕ) (env : Env) (T : Table) (i : ℕ) (h : Asks s S env T 
   -- Asked of a line that holds 1 to 10, it answers that code, right or wrong, and leaves the table as it was.
   pub by_table : IsCode (get_or T i 0) → Excepted ≡ false → (r ≡ Is (get_or T i 0)) × (U ≡ T)
   by_table c x =
-      let f = sym k.gives ∙ from-table Γ (expr_at s i) T (ty_from (get_or T i 0)) (excepts ∙ x) (rw here (code_of _ c).0) in
+      let f = sym k.gives ∙ from_table Γ (expr_at s i) T (ty_from (get_or T i 0)) (excepts ∙ x) (rw here (code_of_lem _ c).0) in
       (same_answer s r (get_or T i 0) k.valid c (ap (λ o. o.res) f), ap (λ o. o.table) f)
 
   -- The exception: the line is typed again, and that type is the answer; the line keeps its first type, or gets 11. The rest of the table
@@ -72,7 +72,7 @@ module _ (s S : List ℕ) (env : Env) (T : Table) (i : ℕ) (h : Asks s S env T 
   pub by_again : IsCode (get_or T i 0) → Excepted ≡ true → (typed_of s r ≡ typed.res) × (U ≡ set typed.table i (again_mark (get_or T i 0) r))
   unfolding typed_of retyped again_mark
   by_again c x =
-      let m : ty_of_mark (get_or T i 0) ≡ some (ty_from (get_or T i 0)) = (code_of _ c).0 in
+      let m : ty_of_mark (get_or T i 0) ≡ some (ty_from (get_or T i 0)) = (code_of_lem _ c).0 in
       let f = sym k.gives ∙ again Γ (expr_at s i) T (ty_from (get_or T i 0)) (excepts ∙ x) (rw here m) in
       by_cases typed.res typed.table r (λ t e. kept_holds (typing Γ (expr_at s i)) T t i _ m e) (rw here at f)
     where
@@ -87,6 +87,6 @@ module _ (s S : List ℕ) (env : Env) (T : Table) (i : ℕ) (h : Asks s S env T 
   -- Asked of a line that holds 0, or another byte that is no type's, it types the line and leaves there the code that it answers, or 11.
   pub by_typing : (get_or T i 0 ≡ 0) ⊎ (codes.unknown < get_or T i 0) → (typed_of s r ≡ typed.res) × (U ≡ set typed.table i (answer_mark r))
   by_typing m =
-      let f = sym k.gives ∙ first-time Γ (expr_at s i) T (rw here (no_type (get_or T i 0) m)) in
+      let f = sym k.gives ∙ first_time Γ (expr_at s i) T (rw here (no_type (get_or T i 0) m)) in
       let e : typed_of s r ≡ typed.res = ap (λ o. o.res) f in
       (e, ap (λ o. o.table) f ∙ rw (here, ← e, mark_code s r k.valid) refl)

@@ -15,12 +15,12 @@ use Rattle.rules.specs.Asking.{Ty, code, ok, Rule}
 use Rattle.rules.specs.Kept.{Table, kept, retyped, ty_from}
 use Rattle.rules.specs.Typing.{stale, asked, typing, ask_of, ty_of, ty_of_dot}
 use Rattle.rules.specs.Standing.{expr_at}
-use Rattle.rules.proofs.AnyTable.{from-table, again, first-time}
+use Rattle.rules.proofs.AnyTable.{from_table, again, first_time}
 use Rattle.rules.proofs.Binding.{kept-length}
 use Rattle.rules.proofs.Exprs.{line_at, dot_at_lem, Wrapped, wrap_at}
 use Rattle.rules.proofs.Standing.{row_first}
 use Rattle.refusals.specs.declared.refusal.Refusal.{Refusal}
-use Rattle.lookups.proofs.Codes.{code_of, code_is, from-code, code-from, untold}
+use Rattle.lookups.proofs.Codes.{code_of_lem, code_is, from_code, code_from, untold}
 use Rattle.env.specs.Answers.{typed_of}
 use Rattle.env.specs.Force.{env_of, ExprIn}
 use Rattle.env.specs.declared.env.Env.{Env}
@@ -36,8 +36,8 @@ pub types-length : (s : List ℕ) (p : Rule Ty) (T : Table) (a : Typed) (U : Tab
 types-length s p T a U k = sym (ap (λ o. length o.table) k.gives) ∙ kept-length p T
 
 module _ (s S : List ℕ) (env : Env) (T : Table) (i : ℕ) (h : Asks s S env T i) where
-  pub asks-line : line (expr_at s i) ≡ i
-  asks-line = line_at h.ready.force.loaded h.here
+  pub asks_line : line (expr_at s i) ≡ i
+  asks_line = line_at h.ready.force.loaded h.here
 
   pub of_expr : ExprIn s S env i
   of_expr = record { force = h.ready.force; here = h.here }
@@ -50,11 +50,11 @@ module _ (s S : List ℕ) (env : Env) (T : Table) (i : ℕ) (h : Asks s S env T 
     pub of_known : (q : Bool) → b ≡ true → q ≡ stale (env_of s [] env) (expr_at s i) → q ≡ false → Types s (ty_of (env_of s T env) (expr_at s i)) T (Is known) T
     unfolding env_of typed_of stale
     of_known q y x z =
-        let c = code-from known (sym t ∙ y) in
-        record { gives = from-table (env_of s T env) (expr_at s i) T _ (sym x ∙ z) (rw (asks-line, ← e) (code_of known c).0); valid = c }
+        let c = code_from known (sym t ∙ y) in
+        record { gives = from_table (env_of s T env) (expr_at s i) T _ (sym x ∙ z) (rw (asks_line, ← e) (code_of_lem known c).0); valid = c }
 
     pub of_again : (q : Bool) → b ≡ true → q ≡ stale (env_of s [] env) (expr_at s i) → q ≡ true → AsksAgain s S env T i
-    of_again q y x z = record { asks = h; marked = rw e at (code-from known (sym t ∙ y)); stale = sym x ∙ z }
+    of_again q y x z = record { asks = h; marked = rw e at (code_from known (sym t ∙ y)); stale = sym x ∙ z }
 
     -- typed for the first time
     pub of_fresh : (a : Typed) (U : Table) (v : ℕ) → b ≡ false → Types s (typing (env_of s T env) (expr_at s i)) T a U → v ≡ answer_mark a
@@ -62,31 +62,31 @@ module _ (s S : List ℕ) (env : Env) (T : Table) (i : ℕ) (h : Asks s S env T 
     of_fresh a U v y k m =
         record {
           gives =
-              first-time (env_of s T env) (expr_at s i) T (rw (asks-line, ← e) (untold known (sym t ∙ y)))
-              ∙ rw (k.gives, asks-line, mark_code s a k.valid, m) refl;
+              first_time (env_of s T env) (expr_at s i) T (rw (asks_line, ← e) (untold known (sym t ∙ y)))
+              ∙ rw (k.gives, asks_line, mark_code s a k.valid, m) refl;
           valid = k.valid;
         }
 
   module _ (a : Typed) (U : Table) (k : Types s (typing (env_of s T env) (expr_at s i)) T a U) where
-    pub fresh-room : i < length U
-    fresh-room = omega (arith, of_room, types-length s _ T a U k)
+    pub fresh_room : i < length U
+    fresh_room = omega (arith, of_room, types-length s _ T a U k)
 
 -- typed again
 module _ (s S : List ℕ) (env : Env) (T : Table) (i : ℕ) (h : AsksAgain s S env T i) where
   at : line (expr_at s i) ≡ i
-  at = asks-line s S env T i h.asks
+  at = asks_line s S env T i h.asks
 
   pub again_asks : Asks s S env T i
   again_asks = h.asks
 
   module _ (a : Typed) (U : Table) (k : Types s (typing (env_of s T env) (expr_at s i)) T a U) where
     pub again_room : i < length U
-    again_room = fresh-room s S env T i h.asks a U k
+    again_room = fresh_room s S env T i h.asks a U k
 
     retype : kept (ty_of (env_of s T env) (expr_at s i)) T ≡ retyped i (typed_of s a) U (λ t W. record { res = ok t; table = W })
     unfolding env_of stale
     retype =
-        again (env_of s T env) (expr_at s i) T (ty_from (get_or T i 0)) h.stale (rw at (code_of (get_or T i 0) h.marked).0)
+        again (env_of s T env) (expr_at s i) T (ty_from (get_or T i 0)) h.stale (rw at (code_of_lem (get_or T i 0) h.marked).0)
         ∙ rw (k.gives, at) refl
 
     pub again_ok : (c : ℕ) → a ≡ Is c → Types s (ty_of (env_of s T env) (expr_at s i)) T (Is c) U
@@ -100,17 +100,17 @@ module _ (s S : List ℕ) (env : Env) (T : Table) (i : ℕ) (h : AsksAgain s S e
 -- ------------------------------------------------------------ by the line's kind
 
 module _ (s S : List ℕ) (env : Env) (T : Table) (i : ℕ) (h : Asks s S env T i) (k : ℕ) (e : k ≡ kind_at S i) where
-  pub kind-leaf : k < kinds.un → AsksLeaf s S env T i
-  kind-leaf l = record { asks = h; kind = omega arith }
+  pub kind_leaf : k < kinds.un → AsksLeaf s S env T i
+  kind_leaf l = record { asks = h; kind = omega arith }
 
-  pub kind-is : (m : ℕ) → k ≡ m → AsksAt m s S env T i
-  kind-is m q = record { asks = h; kind = sym e ∙ q }
+  pub kind_is : (m : ℕ) → k ≡ m → AsksAt m s S env T i
+  kind_is m q = record { asks = h; kind = sym e ∙ q }
 
-  pub typed-dot : (x : List ℕ) (c : ℕ) → k ≡ kinds.dot → x ≡ name_at s S i → c ≡ code (ty_of_dot x) → Types s (typing (env_of s T env) (expr_at s i)) T (Is c) T
+  pub typed_dot : (x : List ℕ) (c : ℕ) → k ≡ kinds.dot → x ≡ name_at s S i → c ≡ code (ty_of_dot x) → Types s (typing (env_of s T env) (expr_at s i)) T (Is c) T
   unfolding typing typed_of kept
-  typed-dot x c q n f =
+  typed_dot x c q n f =
       let d = dot_at_lem h.ready.force.loaded h.here (sym e ∙ q) in
-      record { gives = rw (d.0, ← n, from-code c (ty_of_dot x) f) refl; valid = rw f (code_is (ty_of_dot x)) }
+      record { gives = rw (d.0, ← n, from_code c (ty_of_dot x) f) refl; valid = rw f (code_is (ty_of_dot x)) }
 
   -- `checked` and `wrapping`
   module _ (a : k ≢ kinds.un) (b : k ≢ kinds.bin) (c : k ≢ kinds.dot) (f : k ≢ kinds.call) (g : kinds.un ≤ k) where
@@ -120,15 +120,15 @@ module _ (s S : List ℕ) (env : Env) (T : Table) (i : ℕ) (h : Asks s S env T 
     pub wrap_child : Asks s S env T (i + 1)
     wrap_child = record { ready = h.ready; here = rw (add-one i) (row_first wraps.1.1) }
 
-    pub typed-wrap : (r : Typed) (U : Table) → Types s (ty_of (env_of s T env) (expr_at s (i + 1))) T r U → Types s (typing (env_of s T env) (expr_at s i)) T r U
+    pub typed_wrap : (r : Typed) (U : Table) → Types s (ty_of (env_of s T env) (expr_at s (i + 1))) T r U → Types s (typing (env_of s T env) (expr_at s i)) T r U
     unfolding typing ty_of ask_of asked
-    typed-wrap r U t = record { gives = rw (wraps.1.0, ← add-one i) t.gives; valid = t.valid }
+    typed_wrap r U t = record { gives = rw (wraps.1.0, ← add-one i) t.gives; valid = t.valid }
 
-pub typed-leaf : (s : List ℕ) (p : Rule Ty) (T : Table) (c : ℕ) → TypesLeaf s p T c → Types s p T (Is c) T
-typed-leaf s p T c l = l.types
+pub typed_leaf : (s : List ℕ) (p : Rule Ty) (T : Table) (c : ℕ) → TypesLeaf s p T c → Types s p T (Is c) T
+typed_leaf s p T c l = l.types
 
-pub ruleset laws_of = (rules, types-length, of_expr, of_room, of_known, of_again, of_fresh, fresh-room)
+pub ruleset laws_of = (rules, types-length, of_expr, of_room, of_known, of_again, of_fresh, fresh_room)
 
 pub ruleset laws_again = (rules, types-length, again_asks, again_room, again_ok, again_no)
 
-pub ruleset laws_kind = (rules, types-length, kind-leaf, kind-is, typed-dot, wrap_child, typed-wrap, typed-leaf)
+pub ruleset laws_kind = (rules, types-length, kind_leaf, kind_is, typed_dot, wrap_child, typed_wrap, typed_leaf)

@@ -18,7 +18,7 @@ use Rattle.rules.specs.Typing.{asked, ask_of, ty_of, typing, typings, type_call,
 use Rattle.rules.specs.Standing.{expr_at, exprs_at, Row}
 use Rattle.rules.proofs.Binding.{kept-length, then_ok, then_refused}
 use Rattle.rules.proofs.Exprs.{call_at_lem}
-use Rattle.rules.proofs.Rows.{row-some, exprs_some}
+use Rattle.rules.proofs.Rows.{row_some, exprs_some}
 use Rattle.rules.proofs.Standing.{row_first, row_rest}
 use Rattle.lookups.specs.Found.{found_field}
 use Rattle.refusals.specs.Refusal.{refusal_of, done_of}
@@ -26,23 +26,23 @@ use Rattle.lookups.specs.declared.model.Found.{Found}
 use Rattle.refusals.specs.declared.refusal.Refusal.{Refusal}
 use Rattle.refusals.specs.declared.refusal.Done.{Done}
 use Rattle.refusals.specs.declared.refusal.Done.TheVariants.{Fine, Refused}
-use Rattle.lookups.proofs.Codes.{code_is, from-code}
+use Rattle.lookups.proofs.Codes.{code_is, from_code}
 use Rattle.refusals.specs.Answers.{Answers}
 use Rattle.env.specs.Answers.{typed_of}
 use Rattle.env.specs.Calls.{keyed_of, KeyedOf, Callee, op_rule, call_ty}
-use Rattle.env.proofs.Methods.{uses-op, uses-type}
+use Rattle.env.proofs.Methods.{uses_op, uses-type}
 use Rattle.env.specs.Force.{env_of, ExprIn}
 use Rattle.env.specs.declared.env.Env.{Env}
 use Rattle.env.specs.declared.judge.Typed.{Typed}
 use Rattle.env.specs.declared.judge.Typed.TheVariants.{Is, Refused as No}
 use Rattle.typing.specs.Asks.{callee_at, args_at, type_keyed, type_args, Asks, AsksAt, AsksAll, AsksCall, Types, Does}
 use Rattle.typing.proofs.Asking.{types-length}
-use Rattle.typing.proofs.Onward.{Onward, onward, no_value-next, off_type, off_each}
+use Rattle.typing.proofs.Onward.{Onward, onward, no_value_next, off_type, off_each}
 use Rattle.typing.proofs.Operators.{gave}
 use Rattle.grammar.specs.Kinds as kinds
 
-pub does-length : (s : List ℕ) (p : Rule Unit) (T : Table) (d : Done) (U : Table) → Does s p T d U → length U ≡ length T
-does-length s p T d U k = sym (ap (λ o. length o.table) k.gives) ∙ kept-length p T
+pub does_length : (s : List ℕ) (p : Rule Unit) (T : Table) (d : Done) (U : Table) → Does s p T d U → length U ≡ length T
+does_length s p T d U k = sym (ap (λ o. length o.table) k.gives) ∙ kept-length p T
 
 -- What a rule that gives no value did.
 module _ (s : List ℕ) (p : Rule Unit) (T : Table) (d : Done) (U : Table) (k : kept p T ≡ record { res = done_of s d; table = U }) where
@@ -54,9 +54,9 @@ module _ (s : List ℕ) (p : Rule Unit) (T : Table) (d : Done) (U : Table) (k : 
   unfolding done_of
   stopped r e = k ∙ rw e refl
 
-gives-type : (t : Ty) (T : Table) → kept (ret t) T ≡ record { res = ok t; table = T }
+gives_type : (t : Ty) (T : Table) → kept (ret t) T ≡ record { res = ok t; table = T }
 unfolding kept
-gives-type t T = refl
+gives_type t T = refl
 
 -- the parts of a call
 pub parts : (s S : List ℕ) (env : Env) (T : Table) (i : ℕ) → AsksAt kinds.call s S env T i
@@ -66,12 +66,12 @@ parts s S env T i h = call_at_lem h.asks.ready.force.loaded h.asks.here h.kind
 -- ------------------------------------------------------------ type_call
 
 module _ (s S : List ℕ) (env : Env) (T : Table) (i : ℕ) (h : AsksAt kinds.call s S env T i) where
-  pub call-callee : ExprIn s S env (i + 1)
-  call-callee = record { force = h.asks.ready.force; here = rw (add-one i) (row_first (parts s S env T i h).1) }
+  pub call_callee : ExprIn s S env (i + 1)
+  call_callee = record { force = h.asks.ready.force; here = rw (add-one i) (row_first (parts s S env T i h).1) }
 
   module _ (keyed : Found) (q : KeyedOf s S env (i + 1) keyed) where
-    pub call-op : Callee s S (i + 1) keyed
-    call-op = record { expr = record { loaded = h.asks.ready.force.loaded; here = call-callee.here }; kind = q.kind }
+    pub call_op : Callee s S (i + 1) keyed
+    call_op = record { expr = record { loaded = h.asks.ready.force.loaded; here = call_callee.here }; kind = q.kind }
 
     pub call-args : AsksCall s S env T i keyed
     call-args = record { call = h; uses = rw (add-one i) at q }
@@ -89,7 +89,7 @@ module _ (s S : List ℕ) (env : Env) (T : Table) (i : ℕ) (h : AsksAt kinds.ca
       module _ (e : d ≡ Fine) (o : Done) (j : Answers (op_rule (found_field s keyed) (expr_at s (i + 1))) (done_of s o)) where
         operation : kept (expect_keyed_op (env_of s T env) (expr_at s (i + 1))) T ≡ record { res = done_of s o; table = T }
         unfolding keyed_of keyed_field state_field_of env_of
-        operation = rw (← uses-op (env_of s T env) (expr_at s (i + 1)) (found_field s keyed) q.found) (j.answers T)
+        operation = rw (← uses_op (env_of s T env) (expr_at s (i + 1)) (found_field s keyed) q.found) (j.answers T)
 
         pub call_no_op : (r : Refusal) → o ≡ Refused r → Types s (typing (env_of s T env) (expr_at s i)) T (No r) T
         unfolding typing type_call typed_of ◌>>◌
@@ -123,8 +123,8 @@ module _ (s S : List ℕ) (env : Env) (T : Table) (i : ℕ) (keyed : Found) (h :
   p : Row S grammar.Expr (suc (call_arg_count S i)) (suc i)
   p = (parts s S env T i h.call).1
 
-  pub keyed-callee : Callee s S (i + 1) keyed
-  keyed-callee =
+  pub keyed_callee : Callee s S (i + 1) keyed
+  keyed_callee =
       record {
         expr = record { loaded = h.call.asks.ready.force.loaded; here = rw (add-one i) (row_first p) };
         kind = h.uses.kind;
@@ -140,7 +140,7 @@ module _ (s S : List ℕ) (env : Env) (T : Table) (i : ℕ) (keyed : Found) (h :
           record {
             ready = h.call.asks.ready;
             row = rw (c, e ∙ ap (end_at S) (add-one i)) (row_rest p);
-            no_value = rw (e ∙ ap (end_at S) (add-one i)) (no_value-next h.call.asks.ready.force.loaded (row_first p));
+            no_value = rw (e ∙ ap (end_at S) (add-one i)) (no_value_next h.call.asks.ready.force.loaded (row_first p));
           }
 
       module _ (d : Done) (U : Table) (k : Does s (ask_each (typings (env_of s T env) (exprs_at s m at))) T d U) where
@@ -156,8 +156,8 @@ module _ (s S : List ℕ) (env : Env) (T : Table) (i : ℕ) (keyed : Found) (h :
           on : Onward s S env T U
           on = onward s S env T U _ tt h.call.asks.ready (off_each h.call.asks.ready.force.loaded (env_of s T env) args_all.row args_all.no_value) (did s _ T d U k.gives f)
 
-          pub args-keyed : AsksCall s S env U i keyed
-          args-keyed = on_call s S env T U i keyed h on
+          pub args_keyed : AsksCall s S env U i keyed
+          args_keyed = on_call s S env T U i keyed h on
 
           pub args_ok : (r : Typed) (W : Table) → Types s (type_keyed (env_of s U env) (callee_at s i) (args_at s S i)) U r W
               → Types s (type_args (env_of s T env) (callee_at s i) (args_at s S i)) T r W
@@ -176,14 +176,14 @@ module _ (s S : List ℕ) (env : Env) (T : Table) (i : ℕ) (keyed : Found) (h :
         let g : found_field s keyed ≡ keyed_of (env_of s T env) (expr_at s (i + 1)) = rw (add-one i) h.uses.found in
         rw (← add-one i, ← uses-type (env_of s T env) _ _ g) t
 
-    pub keyed-ok : (c : ℕ) → d ≡ Fine → c ≡ code (call_ty (found_field s keyed) (expr_at s (i + 1))) → Types s (type_keyed (env_of s T env) (callee_at s i) (args_at s S i)) T (Is c) U
+    pub keyed_ok : (c : ℕ) → d ≡ Fine → c ≡ code (call_ty (found_field s keyed) (expr_at s (i + 1))) → Types s (type_keyed (env_of s T env) (callee_at s i) (args_at s S i)) T (Is c) U
     unfolding type_keyed typed_of
-    keyed-ok c f t =
+    keyed_ok c f t =
         let e = call-code c t in
         record {
           gives =
               then_ok (check_keyed_call (env_of s T env) (callee_at s i) (typings (env_of s T env) (args_at s S i))) _ T U tt _ (did s _ T d U k.gives f)
-              (gives-type _ U ∙ rw (from-code c _ e) refl);
+              (gives_type _ U ∙ rw (from_code c _ e) refl);
           valid = rw e (code_is (ty_of_call (env_of s T env) (callee_at s i)));
         }
 
@@ -196,7 +196,7 @@ module _ (s S : List ℕ) (env : Env) (T : Table) (left at : ℕ) (h : AsksAll s
 
   module _ (n : left ≢ 0) where
     row : Row S grammar.Expr (suc (left - 1)) at
-    row = row-some (omega arith) h.row
+    row = row_some (omega arith) h.row
 
     list : exprs_at s left at ≡ more (expr_at s at) (exprs_at s (left - 1) (end_at S at))
     list = exprs_some h.ready.force.loaded (omega arith) h.row
@@ -214,7 +214,7 @@ module _ (s S : List ℕ) (env : Env) (T : Table) (left at : ℕ) (h : AsksAll s
         on_first = onward s S env T U _ _ h.ready (off_type h.ready.force.loaded (env_of s T env) (row_first row) h.no_value) (gave s _ T a U k c e)
 
         pub each_rest : AsksAll s S env U (left - 1) m
-        each_rest = record { ready = on_first.ready; row = rw q (row_rest row); no_value = rw q (no_value-next h.ready.force.loaded (row_first row)) }
+        each_rest = record { ready = on_first.ready; row = rw q (row_rest row); no_value = rw q (no_value_next h.ready.force.loaded (row_first row)) }
 
         pub each_falls : (τ : ℕ) → 10 * (line_count S - at) + 8 ≡ τ → 10 * (line_count S - m) + 8 < τ
         each_falls τ f = omega (arith, q, (row_first row).after, (row_first row).within, f)
@@ -229,10 +229,10 @@ module _ (s S : List ℕ) (env : Env) (T : Table) (left at : ℕ) (h : AsksAll s
                   (then_ok (ty_of (env_of s T env) (expr_at s at)) _ T U (ty_from c) _ (gave s _ T a U k c e) (rw (← q, ← on_first.same) g.gives));
             }
 
-pub ruleset laws_call = (rules, types-length, does-length, call-callee, call-op, call-args, call_no_receiver, call_no_op, call_ok)
+pub ruleset laws_call = (rules, types-length, does_length, call_callee, call_op, call-args, call_no_receiver, call_no_op, call_ok)
 
-pub ruleset laws_args = (rules, types-length, does-length, args_falls, args_all, args_no, args-keyed, args_ok)
+pub ruleset laws_args = (rules, types-length, does_length, args_falls, args_all, args_no, args_keyed, args_ok)
 
-pub ruleset laws_keyed = (rules, types-length, does-length, keyed-callee, keyed_no, keyed-ok)
+pub ruleset laws_keyed = (rules, types-length, does_length, keyed_callee, keyed_no, keyed_ok)
 
-pub ruleset laws_each = (rules, types-length, does-length, each_none, each_first, each_no, each_rest, each_falls, each_ok)
+pub ruleset laws_each = (rules, types-length, does_length, each_none, each_first, each_no, each_rest, each_falls, each_ok)

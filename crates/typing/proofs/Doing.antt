@@ -39,6 +39,6 @@ module _ (s : List ℕ) (p q : Rule Unit) (T : Table) (d : Done) (U : Table) (h 
   pub does_then : d ≡ Fine → (r : Done) (W : Table) → Does s q U r W → Does s (p >>= λ _. q) T r W
   does_then e r W k = record { gives = then_ok p (λ _. q) T U tt _ (did s p T d U h.gives e) k.gives }
 
-  pub does-cut : (x : Refusal) → d ≡ Refused x → Does s (p >>= λ _. q) T (Refused x) U
+  pub does_cut : (x : Refusal) → d ≡ Refused x → Does s (p >>= λ _. q) T (Refused x) U
   unfolding done_of
-  does-cut x e = record { gives = then_refused p (λ _. q) T U (refusal_of s x) (stopped s p T d U h.gives x e) }
+  does_cut x e = record { gives = then_refused p (λ _. q) T U (refusal_of s x) (stopped s p T d U h.gives x e) }

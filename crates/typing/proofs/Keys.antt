@@ -26,7 +26,7 @@ use Rattle.rules.specs.Typing.{Env as Environment, Asked, Dot, asked, ask_of, ty
 use Rattle.rules.specs.Standing.{expr_at, exprs_at, field_at, type_at, Loaded, Row}
 use Rattle.rules.proofs.Binding.{then_ok, then_refused}
 use Rattle.rules.proofs.Exprs.{is_dot_at}
-use Rattle.rules.proofs.Rows.{row-some, exprs_some}
+use Rattle.rules.proofs.Rows.{row_some, exprs_some}
 use Rattle.rules.proofs.Standing.{exprs_next, row_first, row_rest}
 use Rattle.lookups.specs.Found.{found_field}
 use Rattle.lookups.specs.Lines.{TypeAt}
@@ -37,7 +37,7 @@ use Rattle.refusals.specs.declared.refusal.Refusal.{Refusal}
 use Rattle.refusals.specs.declared.refusal.Done.{Done}
 use Rattle.refusals.specs.declared.refusal.Done.TheVariants.{Fine, Refused}
 use Rattle.text.proofs.Tests.{or_parts}
-use Rattle.lookups.proofs.Codes.{from-code}
+use Rattle.lookups.proofs.Codes.{from_code}
 use Rattle.env.proofs.Lookups.{TypeBehind, behind as type_behind}
 use Rattle.env.specs.Answers.{typed_of, JudgesAmount, JudgesKey}
 use Rattle.env.specs.Calls.{wants_of, keyed_of}
@@ -47,9 +47,9 @@ use Rattle.env.specs.declared.judge.Typed.{Typed}
 use Rattle.env.specs.declared.judge.Typed.TheVariants.{Is, Refused as No}
 use Rattle.typing.specs.Asks.{callee_at, args_at, method_at, amount_rule, wanted, keys_rule, Asks, AsksCall, AsksMethod, AsksKeys, Types, Does}
 use Rattle.typing.proofs.Asking.{types-length}
-use Rattle.typing.proofs.Onward.{Onward, onward, no_value-next, off_type, off_amount}
+use Rattle.typing.proofs.Onward.{Onward, onward, no_value_next, off_type, off_amount}
 use Rattle.typing.proofs.Operators.{gave}
-use Rattle.typing.proofs.Calls.{does-length, parts, did, stopped}
+use Rattle.typing.proofs.Calls.{does_length, parts, did, stopped}
 use Rattle.grammar.specs.Kinds as kinds
 
 -- ------------------------------------------------------------ check_keyed_call
@@ -82,11 +82,11 @@ unfolding check_keyed_call if_some kept keyed_of
 keyed_none Γ callee args T none e q = rw e refl
 keyed_none Γ callee args T (some d) e q = rw (e, rw (keyed_of, e) at q) refl
 
-keyed-dot : (Γ : Environment) (callee : Expr) (f : Field) (o : Option Dot) → dot_of callee ≡ o → keyed_of Γ callee ≡ some f
+keyed_dot : (Γ : Environment) (callee : Expr) (f : Field) (o : Option Dot) → dot_of callee ≡ o → keyed_of Γ callee ≡ some f
     → (d : Dot) × (o ≡ some d) × (keyed_field Γ d.base ≡ some f)
 unfolding keyed_of
-keyed-dot Γ callee f none e q = absurd (let y : none ≡ some f = rw (keyed_of, e) at q in let z : ◌≡◌ {A = ℕ} 0 1 = cc in omega arith)
-keyed-dot Γ callee f (some d) e q = (d, refl, rw (keyed_of, e) at q)
+keyed_dot Γ callee f none e q = absurd (let y : none ≡ some f = rw (keyed_of, e) at q in let z : ◌≡◌ {A = ℕ} 0 1 = cc in omega arith)
+keyed_dot Γ callee f (some d) e q = (d, refl, rw (keyed_of, e) at q)
 
 module _ (s S : List ℕ) (env : Env) (T : Table) (i : ℕ) (keyed : Found) (h : AsksCall s S env T i keyed) where
   row : Row S grammar.Expr (suc (call_arg_count S i)) (suc i)
@@ -108,12 +108,12 @@ module _ (s S : List ℕ) (env : Env) (T : Table) (i : ℕ) (keyed : Found) (h :
     abbrev base : Expr
     base = expr_at s (suc (suc i))
 
-    dot-told : (b : Bool) → eqb (kind_at S (suc i)) kinds.dot ≡ b → (b ≡ true) × (keyed_field (env_of s T env) base ≡ some (field_at s field))
+    dot_told : (b : Bool) → eqb (kind_at S (suc i)) kinds.dot ≡ b → (b ≡ true) × (keyed_field (env_of s T env) base ≡ some (field_at s field))
     unfolding found_field
-    dot-told b q =
+    dot_told b q =
         let o : dot_of (expr_at s (suc i)) ≡ cond b (some (record { base = base; name = name_at s S (suc i); nspan = nspan_at s S (suc i) })) none =
         rw (← q) (is_dot_at h.call.asks.ready.force.loaded (row_first row)) in
-        let d = keyed-dot (env_of s T env) (expr_at s (suc i)) (field_at s field) _ o (sym uses ∙ rw e refl) in
+        let d = keyed_dot (env_of s T env) (expr_at s (suc i)) (field_at s field) _ o (sym uses ∙ rw e refl) in
         by_cases b d.0 d.1 d.2
       where
         by_cases : (b : Bool) (d : Dot) → cond b (some (record { base = base; name = name_at s S (suc i); nspan = nspan_at s S (suc i) })) none ≡ some d
@@ -122,7 +122,7 @@ module _ (s S : List ℕ) (env : Env) (T : Table) (i : ℕ) (keyed : Found) (h :
         by_cases false d y z = absurd (let w : ◌≡◌ {A = ℕ} 0 1 = cc in omega arith)
 
     told : (eqb (kind_at S (suc i)) kinds.dot ≡ true) × (keyed_field (env_of s T env) base ≡ some (field_at s field))
-    told = dot-told _ refl
+    told = dot_told _ refl
 
     pub by_method : AsksMethod s S env T i
     by_method = record { call = h.call; dot = eqb-true _ _ told.0 }
@@ -145,7 +145,7 @@ module _ (s S : List ℕ) (env : Env) (T : Table) (i : ℕ) (keyed : Found) (h :
       module _ (f : d ≡ Fine) (x : Name) (w at m : ℕ) (ex : x ≡ name_at s S (i + 1)) (ew : w ≡ wants_of x) (ea : at ≡ end_at S (i + 1)) (em : m ≡ call_arg_count S i) where
         on : Onward s S env T U
         unfolding args_at
-        on = onward s S env T U _ tt h.call.asks.ready (off_amount ld (env_of s T env) (method_at s S i) (row_rest row) (no_value-next ld (row_first row))) (did s _ T d U k.gives f)
+        on = onward s S env T U _ tt h.call.asks.ready (off_amount ld (env_of s T env) (method_at s S i) (row_rest row) (no_value_next ld (row_first row))) (did s _ T d U k.gives f)
 
         behind : at ≡ end_at S (suc i)
         behind = ea ∙ ap (end_at S) (add-one i)
@@ -159,7 +159,7 @@ module _ (s S : List ℕ) (env : Env) (T : Table) (i : ℕ) (keyed : Found) (h :
             record {
               ready = on.ready;
               row = rw (em, behind) (row_rest row);
-              no_value = rw behind (no_value-next ld (row_first row));
+              no_value = rw behind (no_value_next ld (row_first row));
               within = o.0;
               kind = o.1;
               few = rw wants (wants_few (name_at s S (suc i)));
@@ -185,18 +185,18 @@ module _ (s S : List ℕ) (env : Env) (T : Table) (i : ℕ) (h : AsksMethod s S 
 
   module _ (m : ℕ) (em : m ≡ call_arg_count S i) where
     -- with fewer than two arguments there is no amount
-    few-args : (k : ℕ) → k < 2 → (r : Row S grammar.Expr k (end_at S (suc i))) → (b : Bool)
+    few_args : (k : ℕ) → k < 2 → (r : Row S grammar.Expr k (end_at S (suc i))) → (b : Bool)
         → kept (provided b (check_amount (name_at s S (suc i)) (typings (env_of s T env) (exprs_at s k (end_at S (suc i)))))) T ≡ record { res = ok tt; table = T }
     unfolding exprs_at take_nodes exprs_of typings check_amount provided kept
-    few-args zero l r true = refl
-    few-args zero l r false = refl
-    few-args (suc zero) l r true = rw (exprs_next d 0 (end_at S (suc i)) (row_first r).within) refl
-    few-args (suc zero) l r false = refl
-    few-args (suc (suc k)) l r b = absurd (omega arith)
+    few_args zero l r true = refl
+    few_args zero l r false = refl
+    few_args (suc zero) l r true = rw (exprs_next d 0 (end_at S (suc i)) (row_first r).within) refl
+    few_args (suc zero) l r false = refl
+    few_args (suc (suc k)) l r b = absurd (omega arith)
 
     pub no_amount : m < 2 → Does s (amount_rule (env_of s T env) (method_at s S i) (args_at s S i)) T Fine T
     unfolding amount_rule method_at args_at done_of
-    no_amount l = record { gives = few-args (call_arg_count S i) (omega arith) (row_rest all) (is_one (name_at s S (suc i)) ("credit" ∷ "debit" ∷ [])) }
+    no_amount l = record { gives = few_args (call_arg_count S i) (omega arith) (row_rest all) (is_one (name_at s S (suc i)) ("credit" ∷ "debit" ∷ [])) }
 
     module _ (x : Name) (b : Bool) (ex : x ≡ name_at s S (i + 1)) (eb : b ≡ is_one x ("credit" ∷ "debit" ∷ [])) where
       method : is_one (name_at s S (suc i)) ("credit" ∷ "debit" ∷ []) ≡ b
@@ -249,16 +249,16 @@ module _ (s S : List ℕ) (env : Env) (T : Table) (i : ℕ) (h : AsksMethod s S 
 -- ------------------------------------------------------------ check_keys
 
 -- the declared types that are still wanted
-wanted-next : (ty : Type') (index wants : ℕ) → index < wants → wants ≤ 2 → wanted ty index wants ≡ declared_arg ty index ∷ wanted ty (index + 1) wants
+wanted_next : (ty : Type') (index wants : ℕ) → index < wants → wants ≤ 2 → wanted ty index wants ≡ declared_arg ty index ∷ wanted ty (index + 1) wants
 unfolding wanted
-wanted-next ty zero (suc zero) h l = refl
-wanted-next ty zero (suc (suc zero)) h l = refl
-wanted-next ty (suc zero) (suc (suc zero)) h l = refl
-wanted-next ty index zero h l = absurd (omega arith)
-wanted-next ty (suc index) (suc zero) h l = absurd (omega arith)
-wanted-next ty (suc (suc index)) (suc (suc wants)) h l = absurd (omega arith)
-wanted-next ty zero (suc (suc (suc wants))) h l = absurd (omega arith)
-wanted-next ty (suc zero) (suc (suc (suc wants))) h l = absurd (omega arith)
+wanted_next ty zero (suc zero) h l = refl
+wanted_next ty zero (suc (suc zero)) h l = refl
+wanted_next ty (suc zero) (suc (suc zero)) h l = refl
+wanted_next ty index zero h l = absurd (omega arith)
+wanted_next ty (suc index) (suc zero) h l = absurd (omega arith)
+wanted_next ty (suc (suc index)) (suc (suc wants)) h l = absurd (omega arith)
+wanted_next ty zero (suc (suc (suc wants))) h l = absurd (omega arith)
+wanted_next ty (suc zero) (suc (suc (suc wants))) h l = absurd (omega arith)
 
 drop_none : {A : Type 0} (k : ℕ) → ◌≡◌ {A = List A} (drop k []) []
 drop_none zero = refl
@@ -296,7 +296,7 @@ module _ (s S : List ℕ) (env : Env) (T : Table) (field index wants left at : �
     more_to_go = let q = or_parts (leb wants index) (eqb left 0) g in (leb-false wants index q.0, eqb-false left 0 q.1)
 
     row_on : Row S grammar.Expr (suc (left - 1)) at
-    row_on = row-some (omega (arith, more_to_go.1)) h.row
+    row_on = row_some (omega (arith, more_to_go.1)) h.row
 
     list : exprs_at s left at ≡ more (expr_at s at) (exprs_at s (left - 1) (end_at S at))
     list = exprs_some h.ready.force.loaded (omega (arith, more_to_go.1)) h.row
@@ -328,7 +328,7 @@ module _ (s S : List ℕ) (env : Env) (T : Table) (field index wants left at : �
       keys_no r e =
           record {
             gives =
-                rw (list, wanted-next (field_at s field).ty index wants more_to_go.0 h.few)
+                rw (list, wanted_next (field_at s field).ty index wants more_to_go.0 h.few)
                 (then_refused (ty_of Γ (expr_at s at)) _ T U (refusal_of s r) (k.gives ∙ rw e refl));
           }
 
@@ -341,13 +341,13 @@ module _ (s S : List ℕ) (env : Env) (T : Table) (field index wants left at : �
 
         judged : kept judge U ≡ record { res = done_of s d; table = U }
         unfolding judge_key is_name_param env_of
-        judged = rw (← from-code want (declared_arg (field_at s field).ty index) (rw (type_at_lem.field, ← add-one field) w)) (j.judged.answers U)
+        judged = rw (← from_code want (declared_arg (field_at s field).ty index) (rw (type_at_lem.field, ← add-one field) w)) (j.judged.answers U)
 
         -- the first argument was typed: it is judged, then the others
         went : (o : Kept Unit) → kept (judge >>= λ _. others) U ≡ o → kept (keys_rule Γ (field_at s field) index wants (exprs_at s left at)) T ≡ o
         unfolding keys_rule typings check_keys asked ask_of ty_of ◌>>◌
         went o q =
-            rw (list, wanted-next (field_at s field).ty index wants more_to_go.0 h.few)
+            rw (list, wanted_next (field_at s field).ty index wants more_to_go.0 h.few)
             (then_ok (ty_of Γ (expr_at s at)) _ T U (ty_from c) o (gave s _ T a U k c e) q)
 
         pub keys_wrong : (r : Refusal) → d ≡ Refused r → Does s (keys_rule Γ (field_at s field) index wants (exprs_at s left at)) T (Refused r) U
@@ -359,7 +359,7 @@ module _ (s S : List ℕ) (env : Env) (T : Table) (field index wants left at : �
           on_keys = onward s S env T U _ _ h.ready (off_type h.ready.force.loaded (env_of s T env) (row_first row_on) h.no_value) (gave s _ T a U k c e)
 
           pub keys_rest : AsksKeys s S env U field wants (left - 1) m
-          keys_rest = record { ready = on_keys.ready; row = rw em (row_rest row_on); no_value = rw em (no_value-next h.ready.force.loaded (row_first row_on)); within = h.within; kind = h.kind; few = h.few }
+          keys_rest = record { ready = on_keys.ready; row = rw em (row_rest row_on); no_value = rw em (no_value_next h.ready.force.loaded (row_first row_on)); within = h.within; kind = h.kind; few = h.few }
 
           pub keys_falls : (τ : ℕ) → 10 * (line_count S - at) + 8 ≡ τ → 10 * (line_count S - m) + 8 < τ
           keys_falls τ q = omega (arith, em, (row_first row_on).after, (row_first row_on).within, q)
@@ -371,8 +371,8 @@ module _ (s S : List ℕ) (env : Env) (T : Table) (field index wants left at : �
               let g' : kept others U ≡ record { res = done_of s r; table = W } = rw (ne_eqb (index + 1) 0 (omega arith), em, on_keys.same) at q.gives in
               record { gives = went _ (then_ok judge (λ _. others) U U tt _ (did s _ U d U judged f) g') }
 
-pub ruleset laws_keyed-call = (rules, types-length, does-length, no_keyed, by_method, amount_ends, keys_asked, keys_below, keys_done)
+pub ruleset laws_keyed_call = (rules, types-length, does_length, no_keyed, by_method, amount_ends, keys_asked, keys_below, keys_done)
 
-pub ruleset laws_amount = (rules, types-length, does-length, no_amount, no_move, amount_asks, amount_falls, amount_no, amount_ok)
+pub ruleset laws_amount = (rules, types-length, does_length, no_amount, no_move, amount_asks, amount_falls, amount_no, amount_ok)
 
-pub ruleset laws_keys = (rules, types-length, does-length, keys_stop, keys_first, keys_index, keys_next, keys_arg, keys_type, keys_no, keys_wrong, keys_rest, keys_falls, keys_ok)
+pub ruleset laws_keys = (rules, types-length, does_length, keys_stop, keys_first, keys_index, keys_next, keys_arg, keys_type, keys_no, keys_wrong, keys_rest, keys_falls, keys_ok)

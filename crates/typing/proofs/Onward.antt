@@ -22,11 +22,11 @@ use Rattle.rules.specs.Standing.{expr_at, exprs_at, Loaded, Here, Row, stop, nex
 use Rattle.rules.proofs.All.{All}
 use Rattle.rules.proofs.Binding.{kept-length, Off, kept_off}
 use Rattle.rules.proofs.Coherence.{Fits, FitsAll, c_bind, c_expect, c_ty_of, c_typings, c_each, c_provided, c_amount}
-use Rattle.rules.proofs.Forest.{here-inside, placed_at}
+use Rattle.rules.proofs.Forest.{here_inside, placed_at}
 use Rattle.rules.proofs.Keeps.{Throughout, OfLine, Any, throughout_map}
-use Rattle.rules.proofs.Lines.{fits-lines}
+use Rattle.rules.proofs.Lines.{fits_lines}
 use Rattle.rules.proofs.Standing.{stands, exprs_next}
-use Rattle.lookups.proofs.Codes.{code_of}
+use Rattle.lookups.proofs.Codes.{code_of_lem}
 use Rattle.env.proofs.Lets.{lets_all}
 use Rattle.env.specs.Answers.{typed_of, Valid}
 use Rattle.env.specs.Force.{env_of, local_of, lets, Ready}
@@ -39,7 +39,7 @@ use Rattle.grammar.specs.Kinds as kinds
 -- the mark of an answer is its code
 pub mark_code : (s : List ℕ) (a : Typed) → Valid a → code_r (typed_of s a) ≡ answer_mark a
 unfolding code_r typed_of answer_mark
-mark_code s (Is c) h = (code_of c h).1
+mark_code s (Is c) h = (code_of_lem c h).1
 mark_code s (Refused r) h = refl
 
 -- ------------------------------------------------------------ lines that are no `let`'s value
@@ -51,14 +51,14 @@ no_value_below S i n = record { before = λ j e k. n (ap (kind_at S) (let q : i 
 module _ {s S : List ℕ} (d : Loaded s S) {i : ℕ} (h : Here S grammar.Expr i) where
   -- the lines behind that of an expression, up to the one behind its parts
   behind : (l : ℕ) → i < l → l ≤ end_at S i → NoValue S l
-  behind l a b = record { before = λ j e k. let q = here-inside d j h (omega arith) (omega arith) in omega (arith, q.kind.0, k) }
+  behind l a b = record { before = λ j e k. let q = here_inside d j h (omega arith) (omega arith) in omega (arith, q.kind.0, k) }
 
-  pub no_value-next : NoValue S (end_at S i)
-  no_value-next = behind (end_at S i) h.after (omega arith)
+  pub no_value_next : NoValue S (end_at S i)
+  no_value_next = behind (end_at S i) h.after (omega arith)
 
   -- each of its lines, where it is no `let`'s value itself
-  no_value-lines : NoValue S i → (l : ℕ) → i ≤ l → l < end_at S i → NoValue S l
-  no_value-lines a l u v = record { before = λ j e k. by_first j e k (leb l i) refl }
+  no_value_lines : NoValue S i → (l : ℕ) → i ≤ l → l < end_at S i → NoValue S l
+  no_value_lines a l u v = record { before = λ j e k. by_first j e k (leb l i) refl }
     where
       by_first : (j : ℕ) → suc j ≡ l → kind_at S j ≡ kinds.let' → (b : Bool) → leb l i ≡ b → ⊥
       by_first j e k true q = a.before j (let w = leb-true l i q in omega arith) k
@@ -73,12 +73,12 @@ module _ {s S : List ℕ} (d : Loaded s S) (Γ : rules.Env) where
   fits_at : {i : ℕ} → Here S grammar.Expr i → NoValue S i → Fits (OfLine (NoValue S)) Any Γ (expr_at s i)
   fits_at {i} h a =
       let p = placed_at d h in
-      fits-lines (NoValue S) Any Γ (expr_at s i) p.1 (λ l u v. no_value-lines d h a l (omega (arith, p.0, u)) (omega (arith, p.2, v)))
+      fits_lines (NoValue S) Any Γ (expr_at s i) p.1 (λ l u v. no_value_lines d h a l (omega (arith, p.0, u)) (omega (arith, p.2, v)))
 
-  fits-row : {m i : ℕ} → Row S grammar.Expr m i → NoValue S i → FitsAll (OfLine (NoValue S)) Any Γ (exprs_at s m i)
+  fits_row : {m i : ℕ} → Row S grammar.Expr m i → NoValue S i → FitsAll (OfLine (NoValue S)) Any Γ (exprs_at s m i)
   unfolding exprs_at take_nodes exprs_of
-  fits-row stop a = tt
-  fits-row {m = suc m} {i = i} (next h r) a = rw (exprs_next d m i h.within) (fits_at h a, fits-row r (no_value-next d h))
+  fits_row stop a = tt
+  fits_row {m = suc m} {i = i} (next h r) a = rw (exprs_next d m i h.within) (fits_at h a, fits_row r (no_value_next d h))
 
   pub off_type : {i : ℕ} → Here S grammar.Expr i → NoValue S i → OffValues S (ty_of Γ (expr_at s i))
   off_type h a = c_ty_of (OfLine (NoValue S)) Any Γ _ (fits_at h a)
@@ -88,11 +88,11 @@ module _ {s S : List ℕ} (d : Loaded s S) (Γ : rules.Env) where
   off_judged h a b n at ps = c_bind (OfLine (NoValue S)) Any _ _ (off_type h a) (λ t. c_expect (OfLine (NoValue S)) Any (b t) n at (ps t))
 
   pub off_each : {m i : ℕ} → Row S grammar.Expr m i → NoValue S i → OffValues S (ask_each (typings Γ (exprs_at s m i)))
-  off_each r a = c_each (OfLine (NoValue S)) Any _ (c_typings (OfLine (NoValue S)) Any Γ _ (fits-row r a))
+  off_each r a = c_each (OfLine (NoValue S)) Any _ (c_typings (OfLine (NoValue S)) Any Γ _ (fits_row r a))
 
   pub off_amount : (x : Name) {m i : ℕ} → Row S grammar.Expr m i → NoValue S i → OffValues S (amount_rule Γ x (exprs_at s m i))
   unfolding amount_rule
-  off_amount x r a = c_provided (OfLine (NoValue S)) Any _ _ (c_amount (OfLine (NoValue S)) Any x _ (c_typings (OfLine (NoValue S)) Any Γ _ (fits-row r a)))
+  off_amount x r a = c_provided (OfLine (NoValue S)) Any _ _ (c_amount (OfLine (NoValue S)) Any x _ (c_typings (OfLine (NoValue S)) Any Γ _ (fits_row r a)))
 
 off_let : (S : List ℕ) {A : Type 0} (j : ℕ) (p : Rule A) → kind_at S j ≡ kinds.let' → OffValues S p → Off (suc j) p
 off_let S j p k c = throughout_map (NoValue S) (λ l. suc j ≢ l) (λ l v e. v.before j e k) p c

@@ -19,7 +19,7 @@ use Rattle.rules.proofs.Exprs.{un_at, bin_at}
 use Rattle.rules.proofs.Standing.{row_first, row_rest}
 use Rattle.refusals.specs.Refusal.{refusal_of}
 use Rattle.refusals.specs.declared.refusal.Refusal.{Refusal}
-use Rattle.lookups.proofs.Codes.{code_of}
+use Rattle.lookups.proofs.Codes.{code_of_lem}
 use Rattle.env.specs.Answers.{typed_of, Judged, JudgedIn, Operands}
 use Rattle.env.specs.Force.{env_of}
 use Rattle.env.specs.declared.env.Env.{Env}
@@ -37,7 +37,7 @@ module _ (s : List ℕ) (p : Rule Ty) (T : Table) (a : Typed) (U : Table) (k : T
   gave c e = k.gives ∙ rw e refl
 
   pub gave_code : (c : ℕ) → a ≡ Is c → c ≡ code (ty_from c)
-  gave_code c e = sym (code_of c (rw e at k.valid)).1
+  gave_code c e = sym (code_of_lem c (rw e at k.valid)).1
 
   -- a refusal ends the rule
   pub ends : (f : Ty → Rule Ty) (r : Refusal) → a ≡ Refused r → Types s (p >>= f) T (Refused r) U
@@ -52,10 +52,10 @@ module _ (s S : List ℕ) (env : Env) (T : Table) (i : ℕ) (h : AsksAt kinds.un
   un_child = record { ready = h.asks.ready; here = rw (add-one i) (row_first un.1) }
 
   module _ (a : Typed) (U : Table) (k : Types s (ty_of (env_of s T env) (expr_at s (i + 1))) T a U) where
-    pub un-ok : (c o : ℕ) (r : Typed) → a ≡ Is c → o ≡ op_at S i → Judged (λ x. judge_unary (get_or unary_ops o Neg) (expr_at x (i + 1))) c r
+    pub un_ok : (c o : ℕ) (r : Typed) → a ≡ Is c → o ≡ op_at S i → Judged (λ x. judge_unary (get_or unary_ops o Neg) (expr_at x (i + 1))) c r
         → Types s (typing (env_of s T env) (expr_at s i)) T r U
     unfolding typing ty_of_unary ty_of ask_of asked
-    un-ok c o r e q j =
+    un_ok c o r e q j =
         record {
           gives =
               rw (un.0, ← q, ← add-one i)
@@ -72,8 +72,8 @@ module _ (s S : List ℕ) (env : Env) (T : Table) (i : ℕ) (h : AsksAt kinds.bi
   bin : (expr_at s i ≡ binary i (span_at s S i) (get_or bin_ops (op_at S i) Shr) (expr_at s (suc i)) (expr_at s (end_at S (suc i)))) × Row S grammar.Expr 2 (suc i)
   bin = bin_at h.asks.ready.force.loaded h.asks.here h.kind
 
-  pub bin-left : Asks s S env T (i + 1)
-  bin-left = record { ready = h.asks.ready; here = rw (add-one i) (row_first bin.1) }
+  pub bin_left : Asks s S env T (i + 1)
+  bin_left = record { ready = h.asks.ready; here = rw (add-one i) (row_first bin.1) }
 
   module _ (m : ℕ) (em : m ≡ end_at S (i + 1)) where
     right : m ≡ end_at S (suc i)
@@ -85,7 +85,7 @@ module _ (s S : List ℕ) (env : Env) (T : Table) (i : ℕ) (h : AsksAt kinds.bi
     pub bin_operands : Operands s S (i + 1) m
     bin_operands =
         record {
-          one = record { loaded = h.asks.ready.force.loaded; here = bin-left.here };
+          one = record { loaded = h.asks.ready.force.loaded; here = bin_left.here };
           other = record { loaded = h.asks.ready.force.loaded; here = rw right (row_first (row_rest bin.1)) };
         }
 
@@ -93,17 +93,17 @@ module _ (s S : List ℕ) (env : Env) (T : Table) (i : ℕ) (h : AsksAt kinds.bi
       on : Onward s S env T U
       on = onward s S env T U _ _ h.asks.ready (rw (add-one i) (off_type h.asks.ready.force.loaded (env_of s T env) (row_first bin.1) (no_value_below S i (omega (arith, h.kind))))) (gave s _ T a U k c e)
 
-      pub bin-right : Asks s S env U m
-      bin-right = record { ready = on.ready; here = bin_operands.other.here }
+      pub bin_right : Asks s S env U m
+      bin_right = record { ready = on.ready; here = bin_operands.other.here }
 
       module _ (b : Typed) (W : Table) (g : Types s (ty_of (env_of s U env) (expr_at s m)) U b W) where
         second : Types s (ty_of (env_of s T env) (expr_at s m)) U b W
         second = rw (← on.same) g
 
-        pub bin-ok : (d o : ℕ) (r : Typed) → b ≡ Is d → o ≡ op_at S i → JudgedIn s (judge_binary (get_or bin_ops o Shr) (expr_at s (i + 1)) (expr_at s m)) c d r
+        pub bin_ok : (d o : ℕ) (r : Typed) → b ≡ Is d → o ≡ op_at S i → JudgedIn s (judge_binary (get_or bin_ops o Shr) (expr_at s (i + 1)) (expr_at s m)) c d r
             → Types s (typing (env_of s T env) (expr_at s i)) T r W
         unfolding typing ty_of_binary ty_of ask_of asked
-        bin-ok d o r f q j =
+        bin_ok d o r f q j =
             record {
               gives =
                   rw (bin.0, ← q, ← right, ← add-one i)
@@ -129,6 +129,6 @@ module _ (s S : List ℕ) (env : Env) (T : Table) (i : ℕ) (h : AsksAt kinds.bi
   unfolding typing ty_of_binary ty_of ask_of asked
   bin_no_left a U r k e = rw (bin.0, ← add-one i) (ends s (ty_of (env_of s T env) (expr_at s (i + 1))) T a U k _ r e)
 
-pub ruleset laws_un = (rules, types-length, un_child, un-ok, un_no)
+pub ruleset laws_un = (rules, types-length, un_child, un_ok, un_no)
 
-pub ruleset laws_bin = (rules, types-length, bin-left, bin_falls, bin_operands, bin-right, bin-ok, bin_no, bin_no_left)
+pub ruleset laws_bin = (rules, types-length, bin_left, bin_falls, bin_operands, bin_right, bin_ok, bin_no, bin_no_left)

@@ -30,10 +30,10 @@ in_full s types scratch message = by_cases (load s types scratch)
 
 -- So, where 16,384 bytes are lent, the first bytes of the buffer are the message, as many as the answer says. The first two premises are
 -- what a call of `verdict` promises.
-pub message-whole : (s S T M : List ℕ) (o : Outcome) → o ≡ outcome s S T M → o.answer.length ≤ longest → longest ≤ length M
+pub message_whole : (s S T M : List ℕ) (o : Outcome) → o ≡ outcome s S T M → o.answer.length ≤ longest → longest ≤ length M
     → let a = verdict s (length T) (length S) (length M) in
     (length a.message ≡ o.answer.length) × (take o.answer.length o.message ≡ a.message)
 unfolding outcome answer_of overwritten
-message-whole s S T M o e h g =
+message_whole s S T M o e h g =
     let w = in_full s (length T) (length S) (length M) (omega (arith, h, g, ap (λ o. o.answer.length) e)) in
     rw e (w, take_at _ _ _ w)

@@ -14,9 +14,9 @@ use Rattle.sheet.specs.Promise.{answer, laid, scratch_from, scratch_after}
 use Rattle.sheet.specs.declared.loader.Answer as loader
 use Rattle.sheet.specs.declared.loader.Answer.TheVariants.{Lines, Refused}
 use Rattle.sheet.proofs.Due.{length-copies}
-use Rattle.sheet.proofs.Holds.{length-put-lines, length-closed}
-use Rattle.sheet.proofs.Loading.{scan-length, room, types-room, passed, loads, loaded-whole, load-place}
-use Rattle.sheet.proofs.Loaded.{answer-lines}
+use Rattle.sheet.proofs.Holds.{length-put_lines, length-closed}
+use Rattle.sheet.proofs.Loading.{scan-length, room, types_room, passed, loads, loaded_whole, load_place}
+use Rattle.sheet.proofs.Loaded.{answer_lines}
 use Rattle.rules.specs.Asking.{Res, ok, refused as ruled_out}
 use Rattle.rules.specs.Kept.{Table}
 use Rattle.rules.specs.Check.{check}
@@ -40,7 +40,7 @@ written_length new old n e = rw e refl
 
 laid-length : (r : LoadResult) (S : List ℕ) → length (laid r S) ≡ length S
 unfolding laid
-laid-length (lines ls) S = length-closed (length ls) _ ∙ length-put-lines ls S 0
+laid-length (lines ls) S = length-closed (length ls) _ ∙ length-put_lines ls S 0
 laid-length (refused n i) S = length-copies (length S) 0
 
 answer-refused : {k i : ℕ} (r : LoadResult) → Refused k i ≡ answer r → r ≡ refused k i
@@ -76,22 +76,22 @@ ruled : (s : List ℕ) (types scratch most n : ℕ) (ls : List Line) → load s 
 unfolding judged kept_verdict kept_judge model_in lines_in read_lines
 ruled s types scratch most n ls l e c = verdict-kept s types scratch most ∙ rw (l, e, c, copies-replicate) refl
 
-pub told-types : (most : ℕ) (r : Res Unit) (T : Table) → (answer_for most r T).types ≡ T
+pub told_types : (most : ℕ) (r : Res Unit) (T : Table) → (answer_for most r T).types ≡ T
 unfolding answer_for
-told-types most (ok u) T = refl
-told-types most (ruled_out r) T = refl
+told_types most (ok u) T = refl
+told_types most (ruled_out r) T = refl
 
 judged-length : (s : List ℕ) (n most : ℕ) → length (judged s (copies n 0) most).types ≡ n
 unfolding judged
-judged-length s n most = ap length (told-types most _ _) ∙ kept-length (check (model_in s)) (copies n 0) ∙ length-copies n 0
+judged-length s n most = ap length (told_types most _ _) ∙ kept-length (check (model_in s)) (copies n 0) ∙ length-copies n 0
 
-outcome-read : (s S T M : List ℕ) (n : ℕ) (Z W N D : List ℕ) (b : Answer) → early s (length T) (length S) ≡ 0 → n ≡ length (lines_of s)
+outcome_read : (s S T M : List ℕ) (n : ℕ) (Z W N D : List ℕ) (b : Answer) → early s (length T) (length S) ≡ 0 → n ≡ length (lines_of s)
     → verdict s (length T) (length S) (length M) ≡ judged s (copies n 0) (length M)
     → Judges s (copies n 0) M b W N
     → Z ≡ copies (cells_per_line * n) 0 → D ≡ drop (cells_per_line * n) S
     → record { answer = b; scratch = Z ++ D; types = W ++ drop n T; message = N } ≡ outcome s S T M
 unfolding outcome zeros
-outcome-read s S T M n Z W N D b e c v x z d =
+outcome_read s S T M n Z W N D b e c v x z d =
     rw (v, e, ← c, written_length (copies (cells_per_line * n) 0) S (cells_per_line * n) (length-copies (cells_per_line * n) 0), written_length _ T n (judged-length s n (length M)), z, d, x.answer, x.types, x.message) refl
 
 -- `load` answered r, and left U in the scratch S; types is the length it was told.
@@ -99,8 +99,8 @@ module _ (s S U : List ℕ) (types : ℕ) (r : loader.Answer) (a : r ≡ answer 
   module _ (n : ℕ) (e : r ≡ Lines n) where
     read_as_lem : ReadAs s types S n
     read_as_lem =
-        let l = answer-lines (load s types (length S)) (sym e ∙ a) in
-        let w = loaded-whole s types (length S) l.0 l.1 in
+        let l = answer_lines (load s types (length S)) (sym e ∙ a) in
+        let w = loaded_whole s types (length S) l.0 l.1 in
         record {
           read = l.0;
           load = l.1;
@@ -113,11 +113,11 @@ module _ (s S U : List ℕ) (types : ℕ) (r : loader.Answer) (a : r ≡ answer 
     in_scratch : LoadedIn s U n
     in_scratch = by_answer s S U types n r a e u
 
-    pub cells-within : cells_per_line * n ≤ length U
-    cells-within = in_scratch.cells
+    pub cells_within : cells_per_line * n ≤ length U
+    cells_within = in_scratch.cells
 
-    pub cells-length : cells_per_line * n ≡ length (take (cells_per_line * n) U)
-    cells-length = sym (length-take-le (cells_per_line * n) U cells-within)
+    pub cells_length : cells_per_line * n ≡ length (take (cells_per_line * n) U)
+    cells_length = sym (length-take-le (cells_per_line * n) U cells_within)
 
     pub cells_fit : Fits w64 (cells_per_line * n)
     cells_fit = omega (arith, in_scratch.few)
@@ -131,11 +131,11 @@ module _ (s S U : List ℕ) (types : ℕ) (r : loader.Answer) (a : r ≡ answer 
 
     -- the table T has as many bytes at least
     module _ (T : List ℕ) (t : types ≤ length T) where
-      pub table-within : n ≤ length T
-      table-within = omega (arith, types-room s types S _ n refl read_as_lem.early read_as_lem.count)
+      pub table_within : n ≤ length T
+      table_within = omega (arith, types_room s types S _ n refl read_as_lem.early read_as_lem.count)
 
-      pub table-length : n ≡ length (take n T)
-      table-length = sym (length-take-le n T table-within)
+      pub table_length : n ≡ length (take n T)
+      table_length = sym (length-take-le n T table_within)
 
       pub exact : Exact s (take (cells_per_line * n) U) (take n T)
       exact =
@@ -144,29 +144,29 @@ module _ (s S U : List ℕ) (types : ℕ) (r : loader.Answer) (a : r ≡ answer 
                 record {
                   loaded = in_scratch.loaded;
                   small = (passed s types S _ n refl read_as_lem.early read_as_lem.count).small;
-                  few = omega (arith, in_scratch.few, cells-length);
+                  few = omega (arith, in_scratch.few, cells_length);
                 };
-            bytes = omega (arith, cells-length, table-length);
+            bytes = omega (arith, cells_length, table_length);
           }
 
   module _ (k i : ℕ) (e : r ≡ Refused k i) where
     unread : load s types (length S) ≡ refused k i
     unread = answer-refused (load s types (length S)) (sym e ∙ a)
 
-    pub place-fits : Fits w32 i
-    place-fits = omega (arith, load-place s types S k i unread)
+    pub place_fits : Fits w32 i
+    place_fits = omega (arith, load_place s types S k i unread)
 
 -- ------------------------------------------------------------ the outcome
 
 -- the same, where it was told the length of the table T; M is the message buffer
 module _ (s S T M U : List ℕ) (r : loader.Answer) (a : r ≡ answer (load s (length T) (length S))) (u : U ≡ scratch_after s (length T) S) where
-  pub outcome-lines : (n : ℕ) (b : Answer) (Z W N : List ℕ) → r ≡ Lines n → Judges s (copies (length (take n T)) 0) M b W N → Z ≡ copies (length (take (cells_per_line * n) U)) 0
+  pub outcome_lines : (n : ℕ) (b : Answer) (Z W N : List ℕ) → r ≡ Lines n → Judges s (copies (length (take n T)) 0) M b W N → Z ≡ copies (length (take (cells_per_line * n) U)) 0
       → record { answer = b; scratch = Z ++ drop (cells_per_line * n) U; types = W ++ drop n T; message = N } ≡ outcome s S T M
-  outcome-lines n b Z W N e x z =
+  outcome_lines n b Z W N e x z =
       let h = read_as_lem s S U (length T) r a u n e in
-      let k = table-length s S U (length T) r a u n e T (omega arith) in
-      let l = cells-length s S U (length T) r a u n e in
-      outcome-read s S T M n Z W N _ b h.early h.count (ruled s (length T) (length S) (length M) n h.read h.load h.scan h.size)
+      let k = table_length s S U (length T) r a u n e T (omega arith) in
+      let l = cells_length s S U (length T) r a u n e in
+      outcome_read s S T M n Z W N _ b h.early h.count (ruled s (length T) (length S) (length M) n h.read h.load h.scan h.size)
       (rw (← k) at x) (z ∙ ap (λ m. copies m 0) (sym l)) (behind s S U (length T) r a u n e)
 
   pub outcome-refused : (k i : ℕ) → r ≡ Refused k i

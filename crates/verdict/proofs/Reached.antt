@@ -14,12 +14,12 @@ use Rattle.rules.specs.Verdict.{overwritten, answer_for, model_of, ruled, judge,
 use Rattle.rules.proofs.Keeps.{length-marks}
 use Rattle.rules.proofs.Marks.{marks-code, code-reached, count-reached}
 use Rattle.verdict.specs.Outcome.{answer_of, outcome}
-use Rattle.verdict.proofs.Outcomes.{told-types}
+use Rattle.verdict.proofs.Outcomes.{told_types}
 
-told-count : (most : ℕ) (r : Res Unit) (T : Table) → (answer_for most r T).count ≡ count T
+told_count : (most : ℕ) (r : Res Unit) (T : Table) → (answer_for most r T).count ≡ count T
 unfolding answer_for
-told-count most (ok u) T = refl
-told-count most (refused r) T = refl
+told_count most (ok u) T = refl
+told_count most (refused r) T = refl
 
 -- A sheet that is read, with what is lent for it.
 module _ (s S T M : List ℕ) (ls : List Line) (h : load s (length T) (length S) ≡ lines ls) where
@@ -35,7 +35,7 @@ module _ (s S T M : List ℕ) (ls : List Line) (h : load s (length T) (length S)
   unfolding outcome verdict judge ruled overwritten
   line-type l w =
       let e : length table ≡ length ls = length-marks (replicate (length ls) 0) askings ∙ length-replicate {A = ℕ} (length ls) 0 in
-      rw (h, told-types (length M) (fresh (check (model_of ls))).res table)
+      rw (h, told_types (length M) (fresh (check (model_of ls))).res table)
       (get_or-append table (drop (length table) T) 0 l (rw e w) ∙ marks-code (check (model_of ls)) (length ls) l w)
 
   -- It is 0 exactly where the line is not reached.
@@ -45,4 +45,4 @@ module _ (s S T M : List ℕ) (ls : List Line) (h : load s (length T) (length S)
   -- The count is the number of lines that are reached.
   pub lines_counted : (outcome s S T M).answer.count ≡ reached_from 0 (length ls) askings
   unfolding outcome answer_of verdict judge ruled
-  lines_counted = rw (h, told-count (length M) (fresh (check (model_of ls))).res table) (count-reached (check (model_of ls)) (length ls))
+  lines_counted = rw (h, told_count (length M) (fresh (check (model_of ls))).res table) (count-reached (check (model_of ls)) (length ls))

@@ -21,7 +21,7 @@ use Rattle.refusals.specs.declared.refusal.Done.{Done}
 use Rattle.refusals.specs.declared.refusal.Done.TheVariants.{Fine, Refused}
 use Rattle.writing.specs.Writing.{Adds}
 use Rattle.writing.proofs.Adding.{told_all, all_written}
-use Rattle.message.proofs.Lengths.{message-short}
+use Rattle.message.proofs.Lengths.{message_short}
 use Rattle.refusals.specs.Numbers.{Numbers}
 use Rattle.checking.specs.Walk.{SheetIn}
 use Rattle.typing.specs.Asks.{Does}
@@ -36,26 +36,26 @@ written_none B = refl
 
 -- A message of r: `add_message` told its length n of the buffer B and left U. M is the lent buffer.
 module _ (s S : List ℕ) (r : Refusal) (h : Few s S) where
-  text-short : length (text_of s r) ≤ longest
+  text_short : length (text_of s r) ≤ longest
   unfolding text_of
-  text-short = message-short s S r h.loaded h.small h.few
+  text_short = message_short s S r h.loaded h.small h.few
 
-  pub told-length : (B U : List ℕ) (n : ℕ) → Adds (render (refusal_of s r).text) B 0 U n → n ≡ length (text_of s r)
+  pub told_length : (B U : List ℕ) (n : ℕ) → Adds (render (refusal_of s r).text) B 0 U n → n ≡ length (text_of s r)
   unfolding text_of
-  told-length B U n x = let b = text-short in omega (arith, x.told, told_all (0 + length (text_of s r)) (omega arith))
+  told_length B U n x = let b = text_short in omega (arith, x.told, told_all (0 + length (text_of s r)) (omega arith))
 
-  pub told-fits : (B U : List ℕ) (n : ℕ) → Adds (render (refusal_of s r).text) B 0 U n → Fits w32 n
-  told-fits B U n x = omega (arith, told-length B U n x, text-short)
+  pub told_fits : (B U : List ℕ) (n : ℕ) → Adds (render (refusal_of s r).text) B 0 U n → Fits w32 n
+  told_fits B U n x = omega (arith, told_length B U n x, text_short)
 
   pub told_long : (B U M : List ℕ) (n : ℕ) → Adds (render (refusal_of s r).text) B 0 U n → length M < n → M ≡ overwritten (fitting (length M) (text_of s r)) M
   unfolding fitting
-  told_long B U M n x g = sym (rw (lt-leb (length (text_of s r)) (length M) (omega (arith, told-length B U n x))) (written_none M))
+  told_long B U M n x g = sym (rw (lt-leb (length (text_of s r)) (length M) (omega (arith, told_length B U n x))) (written_none M))
 
-  pub told-whole : (B U M N : List ℕ) (n m : ℕ) → Adds (render (refusal_of s r).text) B 0 U n → n ≤ length M → Adds (render (refusal_of s r).text) M 0 N m
+  pub told_whole : (B U M N : List ℕ) (n m : ℕ) → Adds (render (refusal_of s r).text) B 0 U n → n ≤ length M → Adds (render (refusal_of s r).text) M 0 N m
       → N ≡ overwritten (fitting (length M) (text_of s r)) M
   unfolding fitting text_of overwritten
-  told-whole B U M N n m x g y =
-      let k : length (text_of s r) ≤ length M = omega (arith, told-length B U n x) in
+  told_whole B U M N n m x g y =
+      let k : length (text_of s r) ≤ length M = omega (arith, told_length B U n x) in
       rw (le-leb (length (text_of s r)) (length M) k) (all_written (text_of s r) M N m y k)
 
 -- ------------------------------------------------------------ what `check` says
@@ -71,20 +71,20 @@ count_most (suc c ∷ T) = omega (arith, count_most T)
 
 -- `check` answered d on the table T, and left U.
 module _ (s S : List ℕ) (T U : Table) (d : Done) (x : Does s (check (model_in s)) T d U) where
-  done-length : length U ≡ length T
-  done-length = sym (ap (λ o. length o.table) x.gives) ∙ kept-length (check (model_in s)) T
+  done_length : length U ≡ length T
+  done_length = sym (ap (λ o. length o.table) x.gives) ∙ kept-length (check (model_in s)) T
 
   pub count_fits : (n : ℕ) → Exact s S T → n ≡ count U → Fits w32 n
-  count_fits n h e = omega (arith, h.lines.few, h.bytes, done-length, count_most U)
+  count_fits n h e = omega (arith, h.lines.few, h.bytes, done_length, count_most U)
 
-  judged-told : (most : ℕ) → judged s T most ≡ answer_for most (done_of s d) U
+  judged_told : (most : ℕ) → judged s T most ≡ answer_for most (done_of s d) U
   unfolding judged
-  judged-told most = rw x.gives refl
+  judged_told most = rw x.gives refl
 
   pub judges_accepted : (M : List ℕ) (n : ℕ) → d ≡ Fine → n ≡ count U → Judges s T M (record { number = 0; place = 0; count = n; length = 0 }) U M
   unfolding answer_for answer_of done_of
   judges_accepted M n e c =
-      let j = rw e at (judged-told (length M)) in
+      let j = rw e at (judged_told (length M)) in
       record { answer = rw (j, c) refl; short = omega arith; types = rw j refl; message = rw j (sym (written_none M)) }
 
   pub judges_refused : (r : Refusal) (M N : List ℕ) (k p n l : ℕ) → Exact s S T → d ≡ Refused r → Numbers r k → p ≡ (refusal_of s r).place → n ≡ count U → l ≡ length (text_of s r)
@@ -92,8 +92,8 @@ module _ (s S : List ℕ) (T U : Table) (d : Done) (x : Does s (check (model_in 
       → Judges s T M (record { number = k; place = p; count = n; length = l }) U N
   unfolding answer_for answer_of done_of text_of
   judges_refused r M N k p n l h e a b c f g =
-      let j = rw e at (judged-told (length M)) in
-      record { answer = rw (j, a.numbers s, b, c, f) refl; short = rw f (text-short s S r h.lines); types = rw j refl; message = rw j g }
+      let j = rw e at (judged_told (length M)) in
+      record { answer = rw (j, a.numbers s, b, c, f) refl; short = rw f (text_short s S r h.lines); types = rw j refl; message = rw j g }
 
 -- ------------------------------------------------------------ a table that is cleared before
 

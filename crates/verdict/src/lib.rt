@@ -24,8 +24,8 @@ pub struct Answer {
 // The whole call. It asks nothing of the sheet, of the buffers' lengths or of what they hold. Of several guardian sets that are out of
 // bound among the state fields it names the first in the sheet, where the rules leave open which (`Allowed` of rules/specs/Verdict).
 pub fn verdict(sheet: &[u8], scratch: &mut [u16], types: &mut [u8], message: &mut [u8]) -> Answer
-    ensures message_after { record { answer = result; scratch = scratch.new; types = types.new; message = message.new } ≡ outcome sheet.now scratch.old types.old message.old }
-    ensures length_le_longest { result.length ≤ longest }
+    ensures equals_outcome { record { answer = result; scratch = scratch.new; types = types.new; message = message.new } ≡ outcome sheet.now scratch.old types.old message.old }
+    ensures message_fits { result.length ≤ longest }
 {
     match load(sheet, scratch, types.len()) {
         sheet::Answer::Lines(n) => judge_lines(

@@ -22,14 +22,14 @@ use Rattle.rules.specs.Assets.{wraps, reaches, event_slot}
 use Rattle.rules.specs.Standing.{expr_at, exprs_at, param_at, params_at, Loaded, Row}
 use Rattle.rules.proofs.Standing.{row_first, row_rest}
 use Rattle.rules.proofs.Records.{named, emit_at, event_at_lem, param_at_lem, no_params}
-use Rattle.rules.proofs.Rows.{exprs, row-some, list-some}
+use Rattle.rules.proofs.Rows.{exprs, row_some, list_some}
 use Rattle.rules.proofs.Rows as rows
 use Rattle.refusals.specs.Answers.{Answers}
 use Rattle.refusals.specs.Refusal.{refusal_of, done_of}
 use Rattle.refusals.specs.declared.refusal.Refusal.TheVariants.{ReachesEvent}
 use Rattle.refusals.specs.declared.refusal.Done.TheVariants.{Fine, Refused}
 use Rattle.refusals.proofs.Answers.{gives, then_fine, then_refused}
-use Rattle.lookups.proofs.Types.{type-name}
+use Rattle.lookups.proofs.Types.{type_name_lem}
 use Rattle.narrow.specs.Narrow.{most_of}
 use Rattle.narrow.proofs.Narrow.{max_some}
 use Rattle.wrapping.specs.Lines.{After}
@@ -50,9 +50,9 @@ pub record Emitting (s S M : List ℕ) (k body i event args arg params param : �
   pub rest : (r : Res Unit) → Answers (sides s S M k body i args arg params param) r
       → Answers (sides s S M k body i (emit_arg_count S i) (suc i) (param_count S event) (suc event)) r
 
-pub emit-start : (s S M : List ℕ) (k body i event args params : ℕ) → Emits s S k body i event → args ≡ emit_arg_count S i → params ≡ param_count S event
+pub emit_start : (s S M : List ℕ) (k body i event args params : ℕ) → Emits s S k body i event → args ≡ emit_arg_count S i → params ≡ param_count S event
     → Emitting s S M k body i event args (i + 1) params (event + 1)
-emit-start s S M k body i event args params e a p =
+emit_start s S M k body i event args params e a p =
     let d = e.stmt.before.loaded in
     rw (a, p, add-one i, add-one event)
     (record {
@@ -81,35 +81,35 @@ module _ (s S M : List ℕ) (k body i event args arg params param : ℕ) (g : Em
   unfolding reaches_each for_each zip list exprs_at take_nodes exprs_of done_of
   emit_over h = g.rest _ (rw (let z : args ≡ 0 = omega arith in z) (gives tt))
 
-  pub emit-short : params ≡ 0 → Judged (done_of s Fine)
+  pub emit_short : params ≡ 0 → Judged (done_of s Fine)
   unfolding done_of
-  emit-short h = g.rest _ (rw (h, no_params s param) (each_none xs (name_at s S i) (list (exprs_at s args arg))))
+  emit_short h = g.rest _ (rw (h, no_params s param) (each_none xs (name_at s S i) (list (exprs_at s args arg))))
 
   module _ (h : 0 < args) (n : params ≢ 0) where
     es : Row S grammar.Expr (suc (args - 1)) arg
-    es = row-some h g.exprs
+    es = row_some h g.exprs
 
     ps : Row S grammar.Param (suc (params - 1)) param
-    ps = row-some (omega arith) g.declared
+    ps = row_some (omega arith) g.declared
 
-    pub emit-value : After grammar.Expr s S k body arg
-    emit-value = record { before = g.emits.stmt.before; here = row_first es }
+    pub emit_value : After grammar.Expr s S k body arg
+    emit_value = record { before = g.emits.stmt.before; here = row_first es }
 
-    pub param-fits : length S < 18446744073709551616 → Fits w64 (param + 1)
-    param-fits l = record { fits = omega (arith, (row_first ps).within) }
+    pub param_fits : length S < 18446744073709551616 → Fits w64 (param + 1)
+    param_fits l = record { fits = omega (arith, (row_first ps).within) }
 
     type-is : name_at s S (suc param) ≡ type_name (param_at s param).ty
     type-is =
         let x = row_first ps in
         let p = param_at_lem d x.within (omega (arith, x.kind.0, x.kind.1)) in
-        type-name s S (suc param) (record { loaded = d; here = p.1 }) ∙ rw p.0 refl
+        type_name_lem s S (suc param) (record { loaded = d; here = p.1 }) ∙ rw p.0 refl
 
     -- the first pair, and those behind it
     sides_next : (r : Res Unit)
         → Answers (reaches xs (narrow_max (type_name (param_at s param).ty)) (expr_at s arg) (event_slot (name_at s S i)) >> sides s S M k body i (args - 1) (end_at S arg) (params - 1) (end_at S param)) r
         → Answers (sides s S M k body i args arg params param) r
     unfolding reaches_each for_each zip ◌>>◌
-    sides_next r j = rw (list-some exprs d h g.exprs, list-some rows.params d (omega arith) g.declared) j
+    sides_next r j = rw (list_some exprs d h g.exprs, list_some rows.params d (omega arith) g.declared) j
 
     module _ (y : Name) (w : ℕ) (b : Bool) (z : y ≡ name_at s S (param + 1)) (o : w ≡ most_of (narrow_max y)) (j : b ≡ (not (eqb w 0) && wraps xs (expr_at s arg))) where
       some_max : is_some (narrow_max (type_name (param_at s param).ty)) ≡ not (eqb w 0)
@@ -121,8 +121,8 @@ module _ (s S M : List ℕ) (k body i event args arg params param : ℕ) (g : Em
           g.rest _ (sides_next _ (rw (named d g.emits.stmt.here.within)
           (then_refused _ _ _ (reached xs _ _ (event_slot (name_at s S i)) w b some_max j p))))
 
-      pub emit-next : (arg' param' : ℕ) → b ≡ false → arg' ≡ end_at S arg → param' ≡ end_at S param → Emitting s S M k body i event (args - 1) arg' (params - 1) param'
-      emit-next arg' param' p u v =
+      pub emit_next : (arg' param' : ℕ) → b ≡ false → arg' ≡ end_at S arg → param' ≡ end_at S param → Emitting s S M k body i event (args - 1) arg' (params - 1) param'
+      emit_next arg' param' p u v =
           rw (u, v)
           (record {
             emits = g.emits;

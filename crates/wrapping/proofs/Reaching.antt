@@ -32,7 +32,7 @@ use Rattle.refusals.specs.declared.refusal.Refusal.TheVariants.{ReachesField, Re
 use Rattle.refusals.specs.declared.refusal.Done.TheVariants.{Fine, Refused}
 use Rattle.refusals.proofs.Answers.{gives, fits, misfits}
 use Rattle.narrow.specs.Narrow.{most_of}
-use Rattle.narrow.proofs.Narrow.{field-some, values-some}
+use Rattle.narrow.proofs.Narrow.{field_some, values_some}
 use Rattle.wrapping.specs.Lines.{After}
 use Rattle.wrapping.specs.Marks.{wrapped_names}
 use Rattle.wrapping.specs.Reach.{sets_at}
@@ -76,8 +76,8 @@ module _ (s S M : List ℕ) (k body i : ℕ) (a : After grammar.Stmt s S k body 
   unfolding narrow_stmt if_some done_of
   assign_other h = rw ((assign_at d a.here e).0, ident_at d (row_first parts), ← add-one i, ← q, ne_eqb n kinds.id h) (gives tt)
 
-  pub assign-value : (v : ℕ) → v ≡ end_at S (i + 1) → After grammar.Expr s S k body v
-  assign-value v z = record { before = a.before; here = rw (z, add-one i) (row_first (row_rest parts)) }
+  pub assign_value : (v : ℕ) → v ≡ end_at S (i + 1) → After grammar.Expr s S k body v
+  assign_value v z = record { before = a.before; here = rw (z, add-one i) (row_first (row_rest parts)) }
 
   module _ (x : Name) (w v : ℕ) (b : Bool) (h : n ≡ kinds.id) (z : v ≡ end_at S (i + 1)) (y : x ≡ name_at s S (i + 1)) (f : w ≡ most_of (narrow_field (model_in s) x)) (g : b ≡ (not (eqb w 0) && wraps xs (expr_at s v))) where
     assign-judged : (r : Res Unit) → Answers (reaches xs (narrow_field (model_in s) x) (expr_at s v) (field_slot x)) r → Judged r
@@ -85,18 +85,18 @@ module _ (s S M : List ℕ) (k body i : ℕ) (a : After grammar.Stmt s S k body 
     assign-judged r j =
         rw ((assign_at d a.here e).0, ident_at d (row_first parts), ← add-one i, ← q, eq-eqb n kinds.id h, ← y, ← z) j
 
-    some-field : is_some (narrow_field (model_in s) x) ≡ not (eqb w 0)
-    some-field = rw f (field-some (model_in s) x)
+    some_field : is_some (narrow_field (model_in s) x) ≡ not (eqb w 0)
+    some_field = rw f (field_some (model_in s) x)
 
-    pub assign-fine : b ≡ false → Judged (done_of s Fine)
+    pub assign_fine : b ≡ false → Judged (done_of s Fine)
     unfolding done_of
-    assign-fine p = assign-judged _ (unreached xs _ _ (field_slot x) w b some-field g p)
+    assign_fine p = assign-judged _ (unreached xs _ _ (field_slot x) w b some_field g p)
 
     pub assign-refused : b ≡ true → Judged (done_of s (Refused (ReachesField (i + 1) v)))
     unfolding done_of refusal_of
     assign-refused p =
         let t : named_at s (i + 1) ≡ x = rw (add-one i) (named d (row_first parts).within) ∙ sym y in
-        assign-judged _ (rw t (reached xs _ _ (field_slot x) w b some-field g p))
+        assign-judged _ (rw t (reached xs _ _ (field_slot x) w b some_field g p))
 
 -- ------------------------------------------------------------ calls of `set`
 
@@ -208,8 +208,8 @@ module _ (s S M : List ℕ) (k body i : ℕ) (a : After grammar.Expr s S k body 
       map_named = rw map_at (named ld (row_first (dot_at_lem ld (callee is_call) (eqb-true _ _ then.0)).1).within)
 
       module _ (x : Name) (w : ℕ) (b : Bool) (y : x ≡ name_at s S (i + 2)) (o : w ≡ most_of (narrow_values (model_in s) x)) (j : b ≡ (not (eqb w 0) && wraps ys (expr_at s v))) where
-        some-values : is_some (narrow_values (model_in s) x) ≡ not (eqb w 0)
-        some-values = rw o (values-some (model_in s) x)
+        some_values : is_some (narrow_values (model_in s) x) ≡ not (eqb w 0)
+        some_values = rw o (values_some (model_in s) x)
 
         name-is : x ≡ name_at s S (suc (suc i))
         name-is = y ∙ rw map_at refl
@@ -218,10 +218,10 @@ module _ (s S M : List ℕ) (k body i : ℕ) (a : After grammar.Expr s S k body 
         unfolding provided
         set-judged r z = set_rule x name-is r (rw (tests, ← second_at) z)
 
-        pub set-fine : b ≡ false → Set' (done_of s Fine)
+        pub set_fine : b ≡ false → Set' (done_of s Fine)
         unfolding done_of
-        set-fine p = set-judged _ (unreached ys _ _ (values_slot x) w b some-values j p)
+        set_fine p = set-judged _ (unreached ys _ _ (values_slot x) w b some_values j p)
 
         pub set-refused : b ≡ true → Set' (done_of s (Refused (ReachesValues (i + 2) v)))
         unfolding done_of refusal_of
-        set-refused p = set-judged _ (rw (map_named ∙ sym name-is) (reached ys _ _ (values_slot x) w b some-values j p))
+        set-refused p = set-judged _ (rw (map_named ∙ sym name-is) (reached ys _ _ (values_slot x) w b some_values j p))

@@ -18,7 +18,7 @@ use Rattle.rules.specs.Asking.{Res, ◌>>◌, if_some}
 use Rattle.rules.specs.Assets.{wraps, narrow_set, narrow_stmt, wrapped_after, narrow_stmts, narrow_wrapping}
 use Rattle.rules.specs.Standing.{expr_at, exprs_at, params_at, stmt_at, stmts_at, entry_at, model_in, Loaded, Row, stop, next}
 use Rattle.rules.proofs.Parts.{stop as end', ◌also◌, pick}
-use Rattle.rules.proofs.Standing.{row_first, row_nth, row-take, skip-next}
+use Rattle.rules.proofs.Standing.{row_first, row_nth, row_take, skip_next}
 use Rattle.rules.proofs.Forest.{skip_least}
 use Rattle.rules.proofs.Records.{guard_at, let_at, emit_at, assign_at, do_at, event_at_lem, EntryParts, entry_at_lem, stmts_next, no_stmts}
 use Rattle.refusals.specs.Answers.{Answers}
@@ -64,8 +64,8 @@ module _ (s S M : List ℕ) (k body i n : ℕ) (a : After grammar.Stmt s S k bod
   abbrev Said : Res Unit → Type 0
   Said t = Answers (narrow_stmt (model_in s) (wrapped_names s S M k body) (stmt_at s i)) t
 
-  pub stmt-kind : (m : ℕ) → n ≡ m → kind_at S i ≡ m
-  stmt-kind m h = sym q ∙ h
+  pub stmt_kind : (m : ℕ) → n ≡ m → kind_at S i ≡ m
+  stmt_kind m h = sym q ∙ h
 
   pub do_value : n ≡ kinds.do' → After grammar.Expr s S k body (i + 1)
   do_value h = record { before = a.before; here = rw (add-one i) (row_first (do_at a.before.loaded a.here (sym q ∙ h)).1) }
@@ -74,9 +74,9 @@ module _ (s S M : List ℕ) (k body i n : ℕ) (a : After grammar.Stmt s S k bod
   unfolding narrow_stmt
   do_judged t h j = rw ((do_at a.before.loaded a.here (sym q ∙ h)).0, ← add-one i) j
 
-  pub stmt-plain : n ≢ kinds.emit → n ≢ kinds.assign → n ≢ kinds.do' → Said (done_of s Fine)
+  pub stmt_plain : n ≢ kinds.emit → n ≢ kinds.assign → n ≢ kinds.do' → Said (done_of s Fine)
   unfolding narrow_stmt done_of
-  stmt-plain x y z =
+  stmt_plain x y z =
       let d = a.before.loaded in
       pick {P = λ m. n ≡ m → Said (done_of s Fine)} {i = kinds.guard} {n = 5} n
       ((λ h. rw (guard_at d a.here (sym q ∙ h)).0 (gives tt))
@@ -115,8 +115,8 @@ module _ (s S M : List ℕ) (k body i : ℕ) (a : After grammar.Stmt s S k body 
   unfolding wrapped_names is_marked
   names_of N m e = rw (← z, e) refl
 
-  other-names : (m : ℕ) → m ≢ kinds.let' → kind_at S i ≡ m → wrapped_names s S (marks_after s S M k body i) (suc k) body ≡ wrapped_names s S M k body
-  other-names m h e =
+  other_names : (m : ℕ) → m ≢ kinds.let' → kind_at S i ≡ m → wrapped_names s S (marks_after s S M k body i) (suc k) body ≡ wrapped_names s S M k body
+  other_names m h e =
       ap (λ N. wrapped_names s S N (suc k) body) (marks_of m e ∙ rw (ne_eqb m kinds.let' h) refl) ∙ names_of M m e ∙ rw (ne_eqb m kinds.let' h) refl
 
   let_names : kind_at S i ≡ kinds.let' → wrapped_names s S (marks_after s S M k body i) (suc k) body ≡ wrapped_after (wrapped_names s S M k body) (stmt_at s i)
@@ -142,11 +142,11 @@ module _ (s S M : List ℕ) (k body i : ℕ) (a : After grammar.Stmt s S k body 
   unfolding wrapped_after
   names-after =
       pick {P = λ m. kind_at S i ≡ m → wrapped_names s S (marks_after s S M k body i) (suc k) body ≡ wrapped_after (wrapped_names s S M k body) (stmt_at s i)} {i = kinds.guard} {n = 5} (kind_at S i)
-      ((λ e. other-names kinds.guard (λ q. omega arith) e ∙ rw (guard_at d a.here e).0 refl)
+      ((λ e. other_names kinds.guard (λ q. omega arith) e ∙ rw (guard_at d a.here e).0 refl)
       also let_names
-      also (λ e. other-names kinds.emit (λ q. omega arith) e ∙ rw (emit_at d a.here e).0 refl)
-      also (λ e. other-names kinds.assign (λ q. omega arith) e ∙ rw (assign_at d a.here e).0 refl)
-      also (λ e. other-names kinds.do' (λ q. omega arith) e ∙ rw (do_at d a.here e).0 refl)
+      also (λ e. other_names kinds.emit (λ q. omega arith) e ∙ rw (emit_at d a.here e).0 refl)
+      also (λ e. other_names kinds.assign (λ q. omega arith) e ∙ rw (assign_at d a.here e).0 refl)
+      also (λ e. other_names kinds.do' (λ q. omega arith) e ∙ rw (do_at d a.here e).0 refl)
       also end')
       a.here.kind.0 a.here.kind.1 refl
 
@@ -212,7 +212,7 @@ module _ (s S M : List ℕ) (i body n k at : ℕ) (g : Going s S M i body n k at
     pub go_stmt : After grammar.Stmt s S k body at
     go_stmt =
         record {
-          before = record { loaded = g.loaded; few = g.few; row = row-take k (omega arith) g.row };
+          before = record { loaded = g.loaded; few = g.few; row = row_take k (omega arith) g.row };
           here = rw g.here (row_nth k h g.row);
         }
 
@@ -236,7 +236,7 @@ module _ (s S M : List ℕ) (i body n k at : ℕ) (g : Going s S M i body n k at
             few = g.few;
             row = g.row;
             most = omega arith;
-            here = rw g.here (sym (skip-next S k body));
+            here = rw g.here (sym (skip_next S k body));
             marks = marks-length s S M k body at go_stmt g.here g.marks;
             rest =
                 λ r j. turn r (then_fine _ _ tt r (rw q at f)

@@ -19,7 +19,7 @@ use Rattle.rules.specs.Typing.{ident_leaf, leaf_has}
 use Rattle.rules.specs.Standing.{expr_at, Loaded, Here, Row}
 use Rattle.rules.proofs.Lookups.{among_first}
 use Rattle.rules.proofs.Parts.{stop, ◌also◌, pick}
-use Rattle.rules.proofs.Rows.{row-some}
+use Rattle.rules.proofs.Rows.{row_some}
 use Rattle.rules.proofs.Standing.{stands, row_first, row_rest}
 use Rattle.rules.proofs.Exprs.{by_kind, leaf_at, dot_at_lem, call_at_lem}
 use Rattle.rules.proofs.Forest.{joined, parts_of}
@@ -82,7 +82,7 @@ module _ (s S M : List ℕ) (x : Name) (bound body left at : ℕ) (g : Seeking s
 
   module _ (h : 0 < left) where
     row : Row S grammar.Stmt (suc (left - 1)) at
-    row = row-some h g.stmts.row
+    row = row_some h g.stmts.row
 
     pub seek_line : at < most_lines
     seek_line = omega (arith, (row_first row).within, g.stmts.few)
@@ -108,9 +108,9 @@ module _ (s S M : List ℕ) (x : Name) (bound body left at : ℕ) (g : Seeking s
 -- ------------------------------------------------------------ one line of a value
 
 module _ (s S : List ℕ) (xs : List Name) (i k : ℕ) (e : k ≡ kind_at S i) where
-  pub is-wrapping : k ≡ kinds.wrapping → true ≡ wraps_here s S xs i
+  pub is_wrapping_lem : k ≡ kinds.wrapping → true ≡ wraps_here s S xs i
   unfolding wraps_here
-  is-wrapping h = rw (← e, h) refl
+  is_wrapping_lem h = rw (← e, h) refl
 
   pub no_id : k ≢ kinds.wrapping → k ≢ kinds.id → false ≡ wraps_here s S xs i
   unfolding wraps_here
@@ -235,9 +235,9 @@ module _ (s S : List ℕ) (xs : List Name) (i end at : ℕ) (g : Walking s S xs 
 -- ------------------------------------------------------------ the mark of a `let`
 
 module _ (s S M : List ℕ) (k body i : ℕ) (n : ℕ) (e : n ≡ kind_at S i) where
-  pub mark-other : n ≢ kinds.let' → M ≡ marks_after s S M k body i
+  pub mark_other : n ≢ kinds.let' → M ≡ marks_after s S M k body i
   unfolding marks_after
-  mark-other h = rw (← e, ne_eqb n kinds.let' h) refl
+  mark_other h = rw (← e, ne_eqb n kinds.let' h) refl
 
   pub let_value : After grammar.Stmt s S k body i → n ≡ kinds.let' → After grammar.Expr s S k body (i + 1)
   let_value a h = record { before = a.before; here = rw (add-one i) (row_first (let_at a.before.loaded a.here (sym e ∙ h)).1) }

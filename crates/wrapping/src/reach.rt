@@ -49,7 +49,7 @@ fn narrow_assign(
     i: usize,
 ) -> Done
     requires after { After Stmt sheet.now lines.now bound body i }
-    requires i_value { kind_at lines.now i ≡ kinds.assign }
+    requires is_assign { kind_at lines.now i ≡ kinds.assign }
     ensures { Answers (narrow_stmt (model_in sheet.now) (wrapped_names sheet.now lines.now marks.now bound body) (stmt_at sheet.now i)) (done_of sheet.now result) }
 {
     let target = i + 1;
@@ -158,7 +158,7 @@ fn narrow_emit(
     i: usize,
 ) -> Done
     requires after { After Stmt sheet.now lines.now bound body i }
-    requires i_value { kind_at lines.now i ≡ kinds.emit }
+    requires is_emit { kind_at lines.now i ≡ kinds.emit }
     ensures { Answers (narrow_stmt (model_in sheet.now) (wrapped_names sheet.now lines.now marks.now bound body) (stmt_at sheet.now i)) (done_of sheet.now result) }
 {
     match event_named(sheet, lines, name(sheet, lines, i)) {

@@ -18,9 +18,9 @@ pub told_all : (n : ℕ) → n ≤ MOST → told_as n ≡ n
 unfolding told_as
 told_all n h = rw (le-leb n MOST h) refl
 
-pub told-most : (n : ℕ) → MOST ≤ n → told_as n ≡ MOST
+pub told_most : (n : ℕ) → MOST ≤ n → told_as n ≡ MOST
 unfolding told_as
-told-most n h = by_cases (leb n MOST) refl
+told_most n h = by_cases (leb n MOST) refl
   where
     by_cases : (t : Bool) → leb n MOST ≡ t → cond t n MOST ≡ MOST
     by_cases true e = omega (arith, leb-true n MOST e)
@@ -33,7 +33,7 @@ told_add a b = by_cases (leb a MOST) refl
     by_cases true e = ap (λ x. told_as (x + b)) (told_all a (leb-true a MOST e))
     by_cases false e =
         let h = leb-false a MOST e in
-        ap (λ x. told_as (x + b)) (told-most a (omega arith)) ∙ told-most (MOST + b) (omega arith) ∙ sym (told-most (a + b) (omega arith))
+        ap (λ x. told_as (x + b)) (told_most a (omega arith)) ∙ told_most (MOST + b) (omega arith) ∙ sym (told_most (a + b) (omega arith))
 
 -- ------------------------------------------------------------ a text over a buffer
 
@@ -93,14 +93,14 @@ pub adds_same : (t B : List ℕ) (a : ℕ) (U : List ℕ) (b : ℕ) → Adds t B
 adds_same t B a U b x = ap length x.buffer ∙ overlay-length B a t
 
 -- a place that is told as MOST is beyond the buffer, as is the place itself
-overlay-told : (B : List ℕ) (a : ℕ) (t : List ℕ) → length B < 18446744073709551616 → overlay B (told_as a) t ≡ overlay B a t
-overlay-told B a t l = by_cases (leb a MOST) refl
+overlay_told : (B : List ℕ) (a : ℕ) (t : List ℕ) → length B < 18446744073709551616 → overlay B (told_as a) t ≡ overlay B a t
+overlay_told B a t l = by_cases (leb a MOST) refl
   where
     by_cases : (k : Bool) → leb a MOST ≡ k → overlay B (told_as a) t ≡ overlay B a t
     by_cases true e = ap (λ x. overlay B x t) (told_all a (leb-true a MOST e))
     by_cases false e =
         let h = leb-false a MOST e in
-        ap (λ x. overlay B x t) (told-most a (omega arith)) ∙ overlay_beyond B MOST t (omega arith) ∙ sym (overlay_beyond B a t (omega arith))
+        ap (λ x. overlay B x t) (told_most a (omega arith)) ∙ overlay_beyond B MOST t (omega arith) ∙ sym (overlay_beyond B a t (omega arith))
 
 pub both : (t u B : List ℕ) (a : ℕ) (U : List ℕ) (b : ℕ) (W : List ℕ) (c : ℕ) → length B < 18446744073709551616 → Adds t B a U b → Adds u U b W c
     → Adds (t ++ u) B a W c
@@ -110,7 +110,7 @@ both t u B a U b W c l x y =
       told = y.told ∙ rw (x.told, n) (told_add (a + length t) (length u));
       buffer =
           y.buffer
-          ∙ rw (x.buffer, x.told) (overlay-told (overlay B a t) (a + length t) u (omega (arith, overlay-length B a t)))
+          ∙ rw (x.buffer, x.told) (overlay_told (overlay B a t) (a + length t) u (omega (arith, overlay-length B a t)))
           ∙ overlay_both B a t u;
     }
 
@@ -133,8 +133,8 @@ module _ (B p U : List ℕ) (i : ℕ) (e : U ≡ overlay B 0 (take i p)) where
       let q : i ≡ 0 + length (take i p) = omega (arith, length-take-le i p h) in
       ap (λ k. overlay U k t) q ∙ ap (λ x. overlay x (0 + length (take i p)) t) e ∙ overlay_both B 0 (take i p) t
 
-  pub put-more : i < length p → set U i (get_or p i 0) ≡ overlay B 0 (take (i + 1) p)
-  put-more h = sym (overlay_one U i (get_or p i 0)) ∙ put_next (get_or p i 0 ∷ []) (omega arith) ∙ rw (add-one i, take-suc p i 0 h) refl
+  pub put_more : i < length p → set U i (get_or p i 0) ≡ overlay B 0 (take (i + 1) p)
+  put_more h = sym (overlay_one U i (get_or p i 0)) ∙ put_next (get_or p i 0 ∷ []) (omega arith) ∙ rw (add-one i, take-suc p i 0 h) refl
 
   pub put_full : i < length p → length U ≤ i → U ≡ overlay B 0 p
   put_full h k = sym (overlay_beyond U i (drop i p) k) ∙ put_next (drop i p) (omega arith) ∙ ap (overlay B 0) (take-append-drop i p)
@@ -159,7 +159,7 @@ module _ (B : List ℕ) (a : ℕ) (p : List ℕ) where
 -- What `add` meets: the length can be told or not.
 module _ (p B : List ℕ) (a : ℕ) (U : List ℕ) (e : U ≡ overlay B a p) where
   pub add_most : MOST - a < length p → Adds p B a U MOST
-  add_most h = record { told = sym (told-most (a + length p) (omega arith)); buffer = e }
+  add_most h = record { told = sym (told_most (a + length p) (omega arith)); buffer = e }
 
   pub add_all : length p ≤ MOST - a → a < 18446744073709551616 → Adds p B a U (a + length p)
   add_all h l = record { told = sym (told_all (a + length p) (omega arith)); buffer = e }

@@ -37,11 +37,11 @@ render-append (dec n ∷ ps) qs = rw (render-append ps qs) (sym (append_assoc (d
 -- ------------------------------------------------------------ what stands at the lines
 
 -- trees that stand before line j, and others that don't
-upto-parts : {S : List ℕ} {n i j : ℕ} {ps : Nodes} → HeldAll S n i j ps → (ns : Nodes) → upto j ns ≡ nil → upto j (joined ps ns) ≡ ps
+upto_parts : {S : List ℕ} {n i j : ℕ} {ps : Nodes} → HeldAll S n i j ps → (ns : Nodes) → upto j ns ≡ nil → upto j (joined ps ns) ≡ ps
 unfolding upto joined
-upto-parts no_tree ns e = e
-upto-parts {i = i} {j} (tree (held h y r) rs) ns e =
-    rw (lt-ltb i j (omega (arith, all_le r, all_le rs)), upto-parts rs ns e) refl
+upto_parts no_tree ns e = e
+upto_parts {i = i} {j} (tree (held h y r) rs) ns e =
+    rw (lt-ltb i j (omega (arith, all_le r, all_le rs)), upto_parts rs ns e) refl
 
 module _ {s S : List ℕ} (d : Loaded s S) where
   upto_none : (i j : ℕ) → j ≤ i → upto j (trees_from s i) ≡ nil
@@ -51,16 +51,16 @@ module _ {s S : List ℕ} (d : Loaded s S) where
       (λ w. let t = stands d i w in rw (t.next, t.here, le-ltb i j h) refl)
       (λ w. rw (none_beyond d i w) refl)
 
-  args-next : (i j : ℕ) → i < line_count S → i < j → args_upto s i j ≡ amore (arg_at s i) (args_upto s (end_at S i) j)
+  args_next : (i j : ℕ) → i < line_count S → i < j → args_upto s i j ≡ amore (arg_at s i) (args_upto s (end_at S i) j)
   unfolding args_upto upto arg_at args_of
-  args-next i j w h = let t = stands d i w in rw (t.next, t.here, lt-ltb i j h) refl
+  args_next i j w h = let t = stands d i w in rw (t.next, t.here, lt-ltb i j h) refl
 
   -- a type's text
   type_said : (i : ℕ) → i < line_count S → render (type_text (type_at s i)) ≡ name_at s S i ++ render (args_text true (args_upto s (suc i) (end_at S i)))
   unfolding type_at type_of type_text render args_upto
   type_said i w =
       let t = stands d i w in
-      rw (t.here, t.spells.name, t.behind, upto-parts t.held _ (upto_none (end_at S i) (end_at S i) (omega arith))) refl
+      rw (t.here, t.spells.name, t.behind, upto_parts t.held _ (upto_none (end_at S i) (end_at S i) (omega arith))) refl
 
   no_type : (i : ℕ) → line_count S ≤ i → render (type_text (type_at s i)) ≡ []
   unfolding type_at type_of type_text args_of args_text render is same
@@ -68,21 +68,21 @@ module _ {s S : List ℕ} (d : Loaded s S) where
 
 -- ------------------------------------------------------------ `add_before` and `add_closing`
 
-pub before-first : (o : Bool) (B : List ℕ) (a : ℕ) (U : List ℕ) (b : ℕ) → o ≡ true → Adds (bytes "<") B a U b → Adds (bytes (before o)) B a U b
+pub before_first : (o : Bool) (B : List ℕ) (a : ℕ) (U : List ℕ) (b : ℕ) → o ≡ true → Adds (bytes "<") B a U b → Adds (bytes (before o)) B a U b
 unfolding before
-before-first o B a U b e x = rw e x
+before_first o B a U b e x = rw e x
 
-pub before-other : (o : Bool) (B : List ℕ) (a : ℕ) (U : List ℕ) (b : ℕ) → o ≡ false → Adds (bytes ", ") B a U b → Adds (bytes (before o)) B a U b
+pub before_other : (o : Bool) (B : List ℕ) (a : ℕ) (U : List ℕ) (b : ℕ) → o ≡ false → Adds (bytes ", ") B a U b → Adds (bytes (before o)) B a U b
 unfolding before
-before-other o B a U b e x = rw e x
+before_other o B a U b e x = rw e x
 
-pub closing-first : (o : Bool) (B : List ℕ) (a : ℕ) → o ≡ true → a < 18446744073709551616 → Adds (closing o) B a B a
+pub closing_first : (o : Bool) (B : List ℕ) (a : ℕ) → o ≡ true → a < 18446744073709551616 → Adds (closing o) B a B a
 unfolding closing
-closing-first o B a e h = rw e (adds_none B a h)
+closing_first o B a e h = rw e (adds_none B a h)
 
-pub closing-other : (o : Bool) (B : List ℕ) (a : ℕ) (U : List ℕ) (b : ℕ) → o ≡ false → Adds (bytes ">") B a U b → Adds (closing o) B a U b
+pub closing_other : (o : Bool) (B : List ℕ) (a : ℕ) (U : List ℕ) (b : ℕ) → o ≡ false → Adds (bytes ">") B a U b → Adds (closing o) B a U b
 unfolding closing
-closing-other o B a U b e x = rw e x
+closing_other o B a U b e x = rw e x
 
 -- ------------------------------------------------------------ the measure
 
@@ -100,14 +100,14 @@ module _ (s S : List ℕ) (i : ℕ) (d : Loaded s S) where
     w : i < line_count S
     w = omega (arith, counted)
 
-    pub type-next : length S < 18446744073709551616 → Fits w64 (i + 1)
-    type-next l = record { fits = omega (arith, w) }
+    pub type_next : length S < 18446744073709551616 → Fits w64 (i + 1)
+    type_next l = record { fits = omega (arith, w) }
 
     pub type_falls : (t : ℕ) → rank (line_count S) i 0 ≡ t → rank (line_count S) (i + 1) 2 < t
     type_falls t e = omega (arith, w)
 
-    pub type-args : (j : ℕ) → j ≡ end_at S i → LinesUpto s S j
-    type-args j e = record { loaded = d; within = rw e (stands d i w).ends }
+    pub type_args_lem : (j : ℕ) → j ≡ end_at S i → LinesUpto s S j
+    type_args_lem j e = record { loaded = d; within = rw e (stands d i w).ends }
 
     pub type_all : (x B : List ℕ) (a : ℕ) (U : List ℕ) (b j : ℕ) (W : List ℕ) (c : ℕ) → length B < 18446744073709551616 → x ≡ name_at s S i → Adds x B a U b → j ≡ end_at S i
         → Adds (render (args_text true (args_upto s (i + 1) j))) U b W c → Adds (render (type_text (type_at s i))) B a W c
@@ -164,5 +164,5 @@ module _ (s S : List ℕ) (i j : ℕ) (o : Bool) (h : LinesUpto s S j) where
           → Adds (render (args_text o (args_upto s i j))) B a X x
       unfolding before
       args_all B a U b W c X x l p q r =
-          let next : args_upto s i j ≡ amore (arg_at s i) (args_upto s n j) = rw f (args-next h.loaded i j (omega (arith, h.within)) e) in
+          let next : args_upto s i j ≡ amore (arg_at s i) (args_upto s n j) = rw f (args_next h.loaded i j (omega (arith, h.within)) e) in
           rw (next, more_said o (arg_at s i) (args_upto s n j)) (both _ _ B a W c X x l (both _ _ B a U b W c l p q) r)

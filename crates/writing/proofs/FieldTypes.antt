@@ -47,25 +47,25 @@ module _ (s S : List ℕ) (d : Loaded s S) where
   no_type = rw (beyond d (line_count S) (omega arith)) refl
 
   -- the first of the trees from line i up to line j, as a type
-  first-type : {n i j : ℕ} {ps : Nodes} (ns : Nodes) → trees_from s i ≡ before ps ns → HeldAll S n i j ps
+  first_type : {n i j : ℕ} {ps : Nodes} (ns : Nodes) → trees_from s i ≡ before ps ns → HeldAll S n i j ps
       → type_at s (cond (ltb i j) i (line_count S)) ≡ type_of (get_or (nodes ps) 0 blank_node)
   unfolding type_at node_at before nodes
-  first-type {i = i} ns e no_tree = rw (le-ltb i i (omega arith)) no_type
-  first-type {i = i} {j} ns e (tree (held h y r) rs) = rw (lt-ltb i j (omega (arith, all_le r, all_le rs)), e) refl
+  first_type {i = i} ns e no_tree = rw (le-ltb i i (omega arith)) no_type
+  first_type {i = i} {j} ns e (tree (held h y r) rs) = rw (lt-ltb i j (omega (arith, all_le r, all_le rs)), e) refl
 
   declared_at : (i : ℕ) → type_at s (type_line S i) ≡ (field_at s i).ty
   unfolding type_line field_at field_of nodes
   declared_at i =
       there_or_not d i
-      (λ w. let t = stands d i w in rw t.here (first-type _ t.behind t.held))
+      (λ w. let t = stands d i w in rw t.here (first_type _ t.behind t.held))
       (λ w. rw (← line_beyond S i w, beyond d i w) no_type)
 
   module _ (i j : ℕ) (e : j ≡ type_line S i) where
     pub type_of_lem : (B : List ℕ) (a : ℕ) (U : List ℕ) (b : ℕ) → Adds (render (type_text (type_at s j))) B a U b → Adds (render (type_text (field_at s i).ty)) B a U b
     type_of_lem B a U b x = rw (← declared_at i, ← e) x
 
-    pub type-name_of : (y : List ℕ) → y ≡ name_at s S j → y ≡ type_name (field_at s i).ty
-    type-name_of y f = rw (← declared_at i, ← e) (f ∙ named_at_lem d j ∙ sym (type-name_at s j))
+    pub type_name_of : (y : List ℕ) → y ≡ name_at s S j → y ≡ type_name (field_at s i).ty
+    type_name_of y f = rw (← declared_at i, ← e) (f ∙ named_at_lem d j ∙ sym (type-name_at s j))
 
 -- ------------------------------------------------------------ parameters
 
@@ -74,6 +74,6 @@ unfolding param_of field_of
 same-type (node i l ps) = refl
 
 -- a parameter declares the type that a field at its line would
-pub param-type : (s : List ℕ) (i : ℕ) → (param_at s i).ty ≡ (field_at s i).ty
+pub param_type : (s : List ℕ) (i : ℕ) → (param_at s i).ty ≡ (field_at s i).ty
 unfolding param_at field_at
-param-type s i = same-type (node_at s i)
+param_type s i = same-type (node_at s i)

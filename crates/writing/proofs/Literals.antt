@@ -144,11 +144,11 @@ unfolding counting
 counting-is b bs t e = ap (λ t. elim t as (λ _. List ℕ) [ true ↦ counting bs | false ↦ b ∷ bs ]) e
 
 module _ (t : List ℕ) (i : ℕ) (e : counting t ≡ counting (drop i t)) where
-  pub start-stop : zero_digit (get_or t i 0) ≡ false → i < length t → drop i t ≡ counting t
-  start-stop f h = sym (e ∙ rw (drop-cons t i 0 h) (counting-is (get_or t i 0) (drop (suc i) t) false f))
+  pub start_stop : zero_digit (get_or t i 0) ≡ false → i < length t → drop i t ≡ counting t
+  start_stop f h = sym (e ∙ rw (drop-cons t i 0 h) (counting-is (get_or t i 0) (drop (suc i) t) false f))
 
-  pub start-more : zero_digit (get_or t i 0) ≡ true → i < length t → counting t ≡ counting (drop (i + 1) t)
-  start-more f h = e ∙ rw (add-one, drop-cons t i 0 h) (counting-is (get_or t i 0) (drop (suc i) t) true f)
+  pub start_more : zero_digit (get_or t i 0) ≡ true → i < length t → counting t ≡ counting (drop (i + 1) t)
+  start_more f h = e ∙ rw (add-one, drop-cons t i 0 h) (counting-is (get_or t i 0) (drop (suc i) t) true f)
 
   pub start_over : length t ≤ i → drop i t ≡ counting t
   unfolding counting
@@ -167,9 +167,9 @@ no_underscores_append (b ∷ bs) ys = by_cases (eqb b 95) (no_underscores_append
     by_cases true e = e
     by_cases false e = ap (λ xs. b ∷ xs) e
 
-pub digits-start : (t B : List ℕ) (a : ℕ) → a < 18446744073709551616 → Adds (no_underscores (take 0 t)) B a B a
+pub digits_start : (t B : List ℕ) (a : ℕ) → a < 18446744073709551616 → Adds (no_underscores (take 0 t)) B a B a
 unfolding no_underscores
-digits-start t B a h = adds_none B a h
+digits_start t B a h = adds_none B a h
 
 -- A turn: the message of a bytes has b bytes now, and i is the place of the turn.
 module _ (t B : List ℕ) (a : ℕ) (U : List ℕ) (b i : ℕ) (x : Adds (no_underscores (take i t)) B a U b) where
@@ -205,8 +205,8 @@ parsed most (b ∷ bs) n e = by_cases (leb v most) refl e
 not_zero : (b : ℕ) → zero_digit b ≡ false → (b ≢ 48) × (b ≢ 95)
 not_zero b e = ((λ q. true≢false (sym (ap (λ x. zero_digit x) q) ∙ e)), (λ q. true≢false (sym (ap (λ x. zero_digit x) q) ∙ e)))
 
-digits-first : {c : ℕ} {ds : List ℕ} → Digits (c ∷ ds) → (48 ≤ c) × (c ≤ 57) × Digits ds
-digits-first (a_digit l m r) = (l, m, r)
+digits_first : {c : ℕ} {ds : List ℕ} → Digits (c ∷ ds) → (48 ≤ c) × (c ≤ 57) × Digits ds
+digits_first (a_digit l m r) = (l, m, r)
 
 above_zero : (c : ℕ) → 48 ≤ c → c ≢ 48 → 49 ≤ c
 above_zero c l e = omega arith
@@ -221,7 +221,7 @@ literal_said t c cs n e p q =
     let k = counts t in
     let z = not_zero c (k.first c cs e) in
     let u = no_underscore c cs z.1 in
-    let d = digits-first (subst Digits u (subst (λ y. Digits (no_underscores y)) e (all_digits (counting t) (k.plain' p)))) in
+    let d = digits_first (subst Digits u (subst (λ y. Digits (no_underscores y)) e (all_digits (counting t) (k.plain' p)))) in
     let g = parsed TOP (no_underscores t) n q in
     let v : n ≡ value_from 0 (c ∷ no_underscores cs) = g.0 ∙ k.value ∙ ap (λ y. value_from 0 (no_underscores y)) e ∙ ap (value_from 0) u in
     ap (digits 39) v ∙ digits_given c (no_underscores cs) (above_zero c d.0 z.0) d.1 d.2 (subst (λ y. y < 10 ^ 39) v (below n TOP (10 ^ 39) g.1 (leb-true (suc TOP) (10 ^ 39) refl))) ∙ sym u

@@ -19,11 +19,11 @@ use Rattle.sheet.specs.Held.{Each, no_line, one, Every, every, EveryOf, no_more,
 use Rattle.sheet.specs.Scan.{scan_all}
 use Rattle.sheet.specs.Scratch.{kind_at, name_at, line_count}
 use Rattle.sheet.specs.Tree.{node, Nodes}
-use Rattle.sheet.proofs.Holds.{judged-lines}
-use Rattle.sheet.proofs.Loaded.{built, every_first, every-line}
+use Rattle.sheet.proofs.Holds.{judged_lines}
+use Rattle.sheet.proofs.Loaded.{built, every_first, every_line}
 use Rattle.sheet.proofs.ReadAs.{read_as_lem}
 use Rattle.rules.specs.Standing.{read_lines, lines_in, drop_lines, trees_from, Loaded}
-use Rattle.rules.proofs.Standing.{Stands, stands, spells-before}
+use Rattle.rules.proofs.Standing.{Stands, stands, spells_before}
 use Rattle.grammar.specs.Kinds as kinds
 
 -- ------------------------------------------------------------ a line that is read
@@ -33,8 +33,8 @@ pub record Named (l : Line) : Type 0 where
   pub short : length l.name ≤ 64
   pub literal : l.kind ≡ kinds.int → all (plain false) l.name ≡ true
 
-plain-parts : (b : Bool) (f : List ℕ) → is_plain b f ≡ true → (length f ≤ 64) × (all (plain b) f ≡ true)
-plain-parts b f e =
+plain_parts : (b : Bool) (f : List ℕ) → is_plain b f ≡ true → (length f ≤ 64) × (all (plain b) f ≡ true)
+plain_parts b f e =
     let h = (and-eq-true_iff (leb 1 (length f) && leb (length f) 64) (all (plain b) f)).0 e in
     (leb-true (length f) 64 ((and-eq-true_iff (leb 1 (length f)) (leb (length f) 64)).0 h.0).1, h.1)
 
@@ -42,15 +42,15 @@ name-plain : (f : List ℕ) → is_name f ≡ true → is_plain true f ≡ true
 unfolding is_name
 name-plain f e = ((and-eq-true_iff (is_plain true f) _).0 e).0
 
-when-some : (b : Bool) (l m : Line) → when b l ≡ some m → (b ≡ true) × (m ≡ l)
+when_some : (b : Bool) (l m : Line) → when b l ≡ some m → (b ≡ true) × (m ≡ l)
 unfolding when
-when-some true l m e = (refl, let q : l ≡ m = cc in sym q)
-when-some false l m e = absurd (let z : ◌≡◌ {A = ℕ} 0 1 = cc in omega arith)
+when_some true l m e = (refl, let q : l ≡ m = cc in sym q)
+when_some false l m e = absurd (let z : ◌≡◌ {A = ℕ} 0 1 = cc in omega arith)
 
-number-some : (v : Number) (f : ℕ → Line) (m : Line) → on_number v f ≡ some m → (n : ℕ) × (m ≡ f n)
+number_some : (v : Number) (f : ℕ → Line) (m : Line) → on_number v f ≡ some m → (n : ℕ) × (m ≡ f n)
 unfolding on_number
-number-some (Is v) f m e = (v, let q : f v ≡ m = cc in sym q)
-number-some Bad f m e = absurd (let z : ◌≡◌ {A = ℕ} 0 1 = cc in omega arith)
+number_some (Is v) f m e = (v, let q : f v ≡ m = cc in sym q)
+number_some Bad f m e = absurd (let z : ◌≡◌ {A = ℕ} 0 1 = cc in omega arith)
 
 -- a line of kind k with some of its fields read
 abbrev Begun : ℕ → Line → Type 0
@@ -58,14 +58,14 @@ Begun k l = (l.kind ≡ k) × (length l.name ≤ 64)
 
 field-begun : (k : ℕ) (r : Rule) (a : ℕ) (f : List ℕ) (l m : Line) → read_field r a f l ≡ some m → Begun k l → Begun k m
 unfolding read_field
-field-begun k span a f l m e h = rw (number-some _ _ m e).1 h
-field-begun k name a f l m e h = let w = when-some _ _ m e in rw w.1 (h.0, (plain-parts true f (name-plain f w.0)).0)
-field-begun k text a f l m e h = let w = when-some _ _ m e in rw w.1 (h.0, (plain-parts false f w.0).0)
-field-begun k (count s) a f l m e h = rw (number-some _ _ m e).1 h
-field-begun k (flag s) a f l m e h = rw (number-some _ _ m e).1 h
-field-begun k assign_op a f l m e h = rw (when-some _ _ m e).1 h
-field-begun k un_op a f l m e h = rw (when-some _ _ m e).1 h
-field-begun k bin_op a f l m e h = rw (when-some _ _ m e).1 h
+field-begun k span a f l m e h = rw (number_some _ _ m e).1 h
+field-begun k name a f l m e h = let w = when_some _ _ m e in rw w.1 (h.0, (plain_parts true f (name-plain f w.0)).0)
+field-begun k text a f l m e h = let w = when_some _ _ m e in rw w.1 (h.0, (plain_parts false f w.0).0)
+field-begun k (count s) a f l m e h = rw (number_some _ _ m e).1 h
+field-begun k (flag s) a f l m e h = rw (number_some _ _ m e).1 h
+field-begun k assign_op a f l m e h = rw (when_some _ _ m e).1 h
+field-begun k un_op a f l m e h = rw (when_some _ _ m e).1 h
+field-begun k bin_op a f l m e h = rw (when_some _ _ m e).1 h
 
 then_some : (o : Option Line) (g : Line → Option Line) (m : Line) → and_then o g ≡ some m → (l : Line) × (o ≡ some l) × (g l ≡ some m)
 unfolding and_then
@@ -84,14 +84,14 @@ unfolding read_fields read_field
 last_text a [] l m e = absurd (let z : ◌≡◌ {A = ℕ} 0 1 = cc in omega arith)
 last_text a (f ∷ fs) l m e =
     let t = then_some _ _ m e in
-    let w = when-some (is_text f) (with_name l a f) t.0 t.1 in
+    let w = when_some (is_text f) (with_name l a f) t.0 t.1 in
     let q : t.0 ≡ m = cc in
     rw (← q, w.1) w.0
 
-literal-text : (a : ℕ) (fs : List (List ℕ)) (l m : Line) → read_fields (span ∷ text ∷ []) a fs l ≡ some m → is_text m.name ≡ true
+literal_text_lem : (a : ℕ) (fs : List (List ℕ)) (l m : Line) → read_fields (span ∷ text ∷ []) a fs l ≡ some m → is_text m.name ≡ true
 unfolding read_fields
-literal-text a [] l m e = absurd (let z : ◌≡◌ {A = ℕ} 0 1 = cc in omega arith)
-literal-text a (f ∷ fs) l m e = let t = then_some _ _ m e in last_text _ fs t.0 m t.2
+literal_text_lem a [] l m e = absurd (let z : ◌≡◌ {A = ℕ} 0 1 = cc in omega arith)
+literal_text_lem a (f ∷ fs) l m e = let t = then_some _ _ m e in last_text _ fs t.0 m t.2
 
 pieces_named : (σ : Sort) (at : ℕ) (fs : List (List ℕ)) (l : Line) → read_pieces σ at fs ≡ good l → Named l
 unfolding read_pieces
@@ -103,7 +103,7 @@ pieces_named σ at (w ∷ fs) l e =
     let b = fields-begun k (record_of k).rules a fs (begun k at) l r (refl, omega arith) in
     let by_kind : l.kind ≡ kinds.int → read_fields (span ∷ text ∷ []) a fs (begun k at) ≡ some l =
     λ q. subst (λ j. read_fields (record_of j).rules a fs (begun k at) ≡ some l) (sym b.0 ∙ q) r in
-    record { short = b.1; literal = λ q. (plain-parts false l.name (literal-text a fs (begun k at) l (by_kind q))).1 }
+    record { short = b.1; literal = λ q. (plain_parts false l.name (literal_text_lem a fs (begun k at) l (by_kind q))).1 }
 
 pub lines_named : (ls : List (List ℕ)) (i j at : ℕ) (ds : List (ℕ × Sort)) (xs : List Line) → scan i at ds ls ≡ lines xs → Each (λ k. Named) j xs
 unfolding scan read_line
@@ -111,16 +111,16 @@ lines_named [] i j at [] xs e = let n : xs ≡ [] = cc in rw n no_line
 lines_named [] i j at (d ∷ ds) xs e = absurd (let z : ◌≡◌ {A = ℕ} 0 1 = cc in omega arith)
 lines_named (l ∷ ls) i j at [] xs e = absurd (let z : ◌≡◌ {A = ℕ} 0 1 = cc in omega arith)
 lines_named (l ∷ ls) i j at (d ∷ ds) xs e =
-    let r = judged-lines _ _ i _ xs e in
+    let r = judged_lines _ _ i _ xs e in
     rw r.4 (one (pieces_named d.1 at (fields_of l) r.0 r.2) (lines_named ls _ (suc j) _ _ _ r.3))
 
 -- ------------------------------------------------------------ what stands at a line
 
-every-without : {P : ℕ → Line → Type 0} (k : ℕ) {ns : Nodes} → EveryOf P ns → EveryOf P (drop_lines k ns)
+every_without : {P : ℕ → Line → Type 0} (k : ℕ) {ns : Nodes} → EveryOf P ns → EveryOf P (drop_lines k ns)
 unfolding drop_lines
-every-without zero h = h
-every-without (suc k) no_more = no_more
-every-without (suc k) (and_more (every h ps) ns) = every-without k (spells-before ps ns)
+every_without zero h = h
+every_without (suc k) no_more = no_more
+every_without (suc k) (and_more (every h ps) ns) = every_without k (spells_before ps ns)
 
 read_each : {P : ℕ → Line → Type 0} (r : Load) → ((xs : List Line) → r ≡ lines xs → Each P 0 xs) → Each P 0 (read_lines r)
 unfolding read_lines
@@ -131,9 +131,9 @@ read_each (refused n i) h = no_line
 pub every_at : {P : ℕ → Line → Type 0} {s S : List ℕ} {i : ℕ} (t : Stands s S i) → ((xs : List Line) → scan_all s ≡ lines xs → Each P 0 xs)
     → Every P (node i t.line t.parts)
 unfolding trees_from lines_in
-every_at {s = s} {i = i} t h = rw t.here at (every_first (rw t.next at (every-without i (built (read_each (scan_all s) h))))).0
+every_at {s = s} {i = i} t h = rw t.here at (every_first (rw t.next at (every_without i (built (read_each (scan_all s) h))))).0
 
 pub literal-plain : (s S : List ℕ) (i : ℕ) → Loaded s S → i < line_count S → kind_at S i ≡ kinds.int → all (plain false) (name_at s S i) ≡ true
 literal-plain s S i d h e =
     let t = stands d i h in
-    rw t.spells.name ((every-line (every_at t (λ xs. lines_named (lines_of s) 1 0 0 _ xs))).0.literal (sym t.says.kind ∙ e))
+    rw t.spells.name ((every_line (every_at t (λ xs. lines_named (lines_of s) 1 0 0 _ xs))).0.literal (sym t.says.kind ∙ e))

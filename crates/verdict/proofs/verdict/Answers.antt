@@ -1,30 +1,30 @@
 use borrow.Author.Rules.{rules}
-use Rattle.verdict.proofs.Outcomes.{cells-within, cells-length, cells_fit, table-within, table-length, exact, place-fits, outcome-lines, outcome-refused}
+use Rattle.verdict.proofs.Outcomes.{cells_within, cells_length, cells_fit, table_within, table_length, exact, place_fits, outcome_lines, outcome-refused}
 use Rattle.verdict.proofs.verdict.Goals as goal
 
 pub overflow_mul-n : goal.overflow_mul-n
 overflow_mul-n c = search (rules, cells_fit)
 
 pub slice_bounds-judge_lines-end : goal.slice_bounds-judge_lines-end
-slice_bounds-judge_lines-end c = search (rules, cells-within)
+slice_bounds-judge_lines-end c = search (rules, cells_within)
 
 pub slice_bounds-judge_lines-end-in-Lines : goal.slice_bounds-judge_lines-end-in-Lines
-slice_bounds-judge_lines-end-in-Lines c = search (rules, cells-length)
+slice_bounds-judge_lines-end-in-Lines c = search (rules, cells_length)
 
 pub slice_bounds-judge_lines-end-in-Lines-2 : goal.slice_bounds-judge_lines-end-in-Lines-2
-slice_bounds-judge_lines-end-in-Lines-2 c = search (rules, table-within)
+slice_bounds-judge_lines-end-in-Lines-2 c = search (rules, table_within)
 
 pub slice_bounds-judge_lines-end-in-Lines-3 : goal.slice_bounds-judge_lines-end-in-Lines-3
-slice_bounds-judge_lines-end-in-Lines-3 c = search (rules, table-length)
+slice_bounds-judge_lines-end-in-Lines-3 c = search (rules, table_length)
 
 pub judge_lines-requires : goal.judge_lines-requires
 judge_lines-requires c = search (rules, exact)
 
 pub overflow_cast-result : goal.overflow_cast-result
-overflow_cast-result c = search (rules, place-fits)
+overflow_cast-result c = search (rules, place_fits)
 
 pub returns-in-Lines : goal.returns-in-Lines
-returns-in-Lines c = record { message_after = search (rules, outcome-lines); length_le_longest = search (rules, outcome-lines) }
+returns-in-Lines c = record { equals_outcome = search (rules, outcome_lines); message_fits = search (rules, outcome_lines) }
 
 pub returns-in-Refused : goal.returns-in-Refused
-returns-in-Refused c = record { message_after = search (rules, outcome-refused); length_le_longest = search (rules, outcome-refused) }
+returns-in-Refused c = record { equals_outcome = search (rules, outcome-refused); message_fits = search (rules, outcome-refused) }

@@ -12,7 +12,7 @@ pub loop-left-init : goal.loop-left-init
 loop-left-init c = search (turns, sums_start)
 
 pub check_sum-judged-requires : goal.check_sum-judged-requires
-check_sum-judged-requires c = record { entry_at = search turns; record_at = search turns }
+check_sum-judged-requires c = record { entry_at = search turns; stmt_at = search turns }
 
 pub enum_known-judged : goal.enum_known-judged
 enum_known-judged c = search turns

@@ -1,5 +1,5 @@
 use Rattle.lookups.proofs.Rows.{seeks}
-use Rattle.arithmetic.proofs.Rows.{limits-start}
+use Rattle.arithmetic.proofs.Rows.{limits_start}
 use Rattle.arithmetic.proofs.limits.limits_bound.Goals as goal
 
 pub clauses_line-at-requires : goal.clauses_line-at-requires
@@ -9,7 +9,7 @@ pub clause_count-left-requires : goal.clause_count-left-requires
 clause_count-left-requires c = search seeks
 
 pub loop-left-init : goal.loop-left-init
-loop-left-init c = search (seeks, limits-start)
+loop-left-init c = search (seeks, limits_start)
 
 pub limits_cap-requires : goal.limits_cap-requires
 limits_cap-requires c = search seeks

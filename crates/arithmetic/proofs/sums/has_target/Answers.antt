@@ -11,7 +11,7 @@ pub loop-at-preserved-then-is_op : goal.loop-at-preserved-then-is_op
 loop-at-preserved-then-is_op c = search (rules, target_into)
 
 pub same_target-requires : goal.same_target-requires
-same_target-requires c = record { expr_at = search (rules, walk_here); expr_at_2 = search (rules, walk_here) }
+same_target-requires c = record { left_at = search (rules, walk_here); right_at = search (rules, walk_here) }
 
 pub returns-then-same_target : goal.returns-then-same_target
 returns-then-same_target c = search (rules, target_found)

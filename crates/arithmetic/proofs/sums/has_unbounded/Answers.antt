@@ -11,7 +11,7 @@ pub loop-at-preserved-then-is_op : goal.loop-at-preserved-then-is_op
 loop-at-preserved-then-is_op c = search (rules, unbounded_into)
 
 pub same_target-requires : goal.same_target-requires
-same_target-requires c = record { expr_at = search (rules, walk_here); expr_at_2 = search (rules, walk_here) }
+same_target-requires c = record { left_at = search (rules, walk_here); right_at = search (rules, walk_here) }
 
 pub loop-at-smaller-then-due-same_target : goal.loop-at-smaller-then-due-same_target
 loop-at-smaller-then-due-same_target c = search (rules, walk_less)

@@ -1,5 +1,5 @@
 use borrow.Author.Rules.{rules}
-use Rattle.assets.proofs.Consuming.{condition_here, condition_walked, after-sum, after_exprs, after_both, bare-walked}
+use Rattle.assets.proofs.Consuming.{condition_here, condition_walked, after-sum, after_exprs, after_both, bare_walked}
 use Rattle.assets.proofs.consumed.clause_assets.Goals as goal
 
 pub no_asset_call-requires : goal.no_asset_call-requires
@@ -18,4 +18,4 @@ pub returns-then-k-eq-AFTER : goal.returns-then-k-eq-AFTER
 returns-then-k-eq-AFTER c = search (rules, after_both)
 
 pub returns : goal.returns
-returns c = search (rules, bare-walked)
+returns c = search (rules, bare_walked)

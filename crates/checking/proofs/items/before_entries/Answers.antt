@@ -1,6 +1,6 @@
 use borrow.Author.Rules.{rules}
-use Rattle.typing.proofs.Calls.{does-length}
-use Rattle.checking.proofs.Passing.{pass_in, sheet_on, before-ok, before_no}
+use Rattle.typing.proofs.Calls.{does_length}
+use Rattle.checking.proofs.Passing.{pass_in, sheet_on, before_ok, before_no}
 use Rattle.checking.proofs.items.before_entries.Goals as goal
 
 pub check_pass-requires : goal.check_pass-requires
@@ -10,13 +10,13 @@ pub after_fields-requires : goal.after_fields-requires
 after_fields-requires c = search (rules, sheet_on)
 
 pub shape_of-table-in-Fine : goal.shape_of-table-in-Fine
-shape_of-table-in-Fine c = search (rules, does-length)
+shape_of-table-in-Fine c = search (rules, does_length)
 
 pub returns-in-Fine : goal.returns-in-Fine
-returns-in-Fine c = search (rules, before-ok)
+returns-in-Fine c = search (rules, before_ok)
 
 pub shape_of-table-in-Refused : goal.shape_of-table-in-Refused
-shape_of-table-in-Refused c = search (rules, does-length)
+shape_of-table-in-Refused c = search (rules, does_length)
 
 pub returns-in-Refused : goal.returns-in-Refused
 returns-in-Refused c = search (rules, before_no)

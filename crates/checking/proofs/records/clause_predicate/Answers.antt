@@ -1,5 +1,5 @@
 use borrow.Author.Rules.{rules}
-use Rattle.typing.proofs.Calls.{does-length}
+use Rattle.typing.proofs.Calls.{does_length}
 use Rattle.checking.proofs.Recording.{clause_other, clause_asks, clause_does}
 use Rattle.checking.proofs.records.clause_predicate.Goals as goal
 
@@ -7,7 +7,7 @@ pub expect_predicate-requires : goal.expect_predicate-requires
 expect_predicate-requires c = search (rules, clause_asks)
 
 pub shape_of-table-then-k : goal.shape_of-table-then-k
-shape_of-table-then-k c = search (rules, does-length)
+shape_of-table-then-k c = search (rules, does_length)
 
 pub returns-then-k : goal.returns-then-k
 returns-then-k c = search (rules, clause_does)

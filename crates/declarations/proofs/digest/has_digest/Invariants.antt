@@ -7,7 +7,6 @@ use Rattle.rules.specs.Declarations.{lower, contains_any, DIGEST_NAME_TOKENS}
 use Rattle.declarations.proofs.Digests.{rest}
 use Rattle.declarations.proofs.digest.has_digest.Given as goal
 
--- The invariants: no word is found yet, and the answer is what the words and places that are left say. Assumes nothing.
 abbrev pub invariant-loop-k : goal.invariant-loop-k
 invariant-loop-k l = (l.found ≡ false) × (l.k ≤ 6) × (l.i < length l.name) × (contains_any (lower l.name) DIGEST_NAME_TOKENS ≡ rest l.name l.i l.k)
 

@@ -7,7 +7,6 @@ use Rattle.declarations.specs.Tests.{size_fits}
 use Rattle.declarations.proofs.Sizes.{left}
 use Rattle.declarations.proofs.guardian.size_fits.Given as goal
 
--- The invariant: the number so far and the digits that are left. Assumes nothing.
 abbrev pub invariant-loop-i : goal.invariant-loop-i
 invariant-loop-i l = (l.n ≤ 256) × (size_fits (parse_u64 l.text) ≡ left l.text l.i l.n)
 

@@ -7,7 +7,7 @@ pub returns-then-kind-ne-TYPE : goal.returns-then-kind-ne-TYPE
 returns-then-kind-ne-TYPE c = search (rules, arg_other)
 
 pub inner_fits-requires : goal.inner_fits-requires
-inner_fits-requires c = record { type_at = search (rules, arg_type); type_at_2 = search (rules, arg_type) }
+inner_fits-requires c = record { ty_at = search (rules, arg_type); inner_at = search (rules, arg_type) }
 
 pub returns : goal.returns
 returns c = search (rules, arg_judged)

@@ -6,7 +6,7 @@ pub loop-k-init : goal.loop-k-init
 loop-k-init c = search (rules, turn_start)
 
 pub storable_arg-judged-requires : goal.storable_arg-judged-requires
-storable_arg-judged-requires c = record { type_at = search (rules, turn_here); here = search (rules, turn_here) }
+storable_arg-judged-requires c = record { ty_at = search (rules, turn_here); arg_here = search (rules, turn_here) }
 
 pub returns-in-Refused : goal.returns-in-Refused
 returns-in-Refused c = search (rules, turn_refused)

@@ -1,21 +1,21 @@
 use borrow.Author.Rules.{rules}
-use Rattle.emits.proofs.Emitted.{field-asks, field_fits, field-type, field_arg, field_no, field-ok}
+use Rattle.emits.proofs.Emitted.{field_asks, field_fits, field_type, field_arg, field_no, field_ok}
 use Rattle.emits.proofs.emit.check_field.Goals as goal
 
 pub ty_of-requires : goal.ty_of-requires
-ty_of-requires c = search (rules, field-asks)
+ty_of-requires c = search (rules, field_asks)
 
 pub overflow_add-param : goal.overflow_add-param
 overflow_add-param c = search (rules, field_fits)
 
 pub ty_of_decl-want-requires : goal.ty_of_decl-want-requires
-ty_of_decl-want-requires c = search (rules, field-type)
+ty_of_decl-want-requires c = search (rules, field_type)
 
 pub judge_field-requires : goal.judge_field-requires
 judge_field-requires c = search (rules, field_arg)
 
 pub returns-in-Is : goal.returns-in-Is
-returns-in-Is c = search (rules, field-ok)
+returns-in-Is c = search (rules, field_ok)
 
 pub returns-in-Refused : goal.returns-in-Refused
 returns-in-Refused c = search (rules, field_no)

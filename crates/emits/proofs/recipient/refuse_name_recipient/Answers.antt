@@ -1,5 +1,5 @@
 use borrow.Author.Rules.{rules}
-use Rattle.emits.proofs.Recipients.{no_call, callee_there, few-asks, few-done, due-asks, due-done}
+use Rattle.emits.proofs.Recipients.{no_call, callee_there, few_asks, few_done, due_asks, due_done}
 use Rattle.emits.proofs.recipient.refuse_name_recipient.Goals as goal
 
 pub returns-then-kind-ne-CALL : goal.returns-then-kind-ne-CALL
@@ -9,13 +9,13 @@ pub recipients-due-requires : goal.recipients-due-requires
 recipients-due-requires c = search (rules, callee_there)
 
 pub check_recipients-requires : goal.check_recipients-requires
-check_recipients-requires c = search (rules, few-asks)
+check_recipients-requires c = search (rules, few_asks)
 
 pub returns-then-args-due : goal.returns-then-args-due
-returns-then-args-due c = search (rules, few-done)
+returns-then-args-due c = search (rules, few_done)
 
 pub check_recipients-requires-2 : goal.check_recipients-requires-2
-check_recipients-requires-2 c = search (rules, due-asks)
+check_recipients-requires-2 c = search (rules, due_asks)
 
 pub returns : goal.returns
-returns c = search (rules, due-done)
+returns c = search (rules, due_done)

@@ -1,6 +1,6 @@
 use borrow.Author.Rules.{rules}
-use Rattle.env.proofs.Lookups.{found-next, found-typed}
-use Rattle.env.proofs.Methods.{op_nowhere, good-op, bad-op, no_op}
+use Rattle.env.proofs.Lookups.{found_next, found_typed}
+use Rattle.env.proofs.Methods.{op_nowhere, good_op, bad_op, no_op}
 use Rattle.grammar.specs.Kinds as kinds
 use Rattle.env.proofs.call.expect_keyed_op.Goals as goal
 
@@ -8,16 +8,16 @@ pub returns-then-kind-ne-DOT : goal.returns-then-kind-ne-DOT
 returns-then-kind-ne-DOT c = search (rules, op_nowhere)
 
 pub overflow_add-field : goal.overflow_add-field
-overflow_add-field c = search (rules, found-next kinds.field)
+overflow_add-field c = search (rules, found_next kinds.field)
 
 pub keyed_op_fits-requires : goal.keyed_op_fits-requires
-keyed_op_fits-requires c = search (rules, found-typed kinds.field)
+keyed_op_fits-requires c = search (rules, found_typed kinds.field)
 
 pub returns-then-keyed_op_fits : goal.returns-then-keyed_op_fits
-returns-then-keyed_op_fits c = search (rules, good-op)
+returns-then-keyed_op_fits c = search (rules, good_op)
 
 pub returns-else-keyed_op_fits : goal.returns-else-keyed_op_fits
-returns-else-keyed_op_fits c = search (rules, bad-op)
+returns-else-keyed_op_fits c = search (rules, bad_op)
 
 pub returns-in-Nothing : goal.returns-in-Nothing
 returns-in-Nothing c = search (rules, no_op)

@@ -1,12 +1,12 @@
 use borrow.Author.Rules.{rules}
-use Rattle.env.proofs.Methods.{registry_op, map-op, amount_op}
+use Rattle.env.proofs.Methods.{registry_op, map_op, amount_op}
 use Rattle.env.proofs.call.keyed_op_fits.Goals as goal
 
 pub returns-then-is_word : goal.returns-then-is_word
 returns-then-is_word c = search (rules, registry_op)
 
 pub returns-then-index_in-lt4 : goal.returns-then-index_in-lt4
-returns-then-index_in-lt4 c = search (rules, map-op)
+returns-then-index_in-lt4 c = search (rules, map_op)
 
 pub returns : goal.returns
 returns c = search (rules, amount_op)

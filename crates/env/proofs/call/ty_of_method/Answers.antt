@@ -1,5 +1,5 @@
 use borrow.Author.Rules.{rules}
-use Rattle.env.proofs.Lookups.{found-next, found-typed}
+use Rattle.env.proofs.Lookups.{found_next, found_typed}
 use Rattle.env.proofs.Methods.{method_most, by_method, by_get, no_get}
 use Rattle.grammar.specs.Kinds as kinds
 use Rattle.env.proofs.call.ty_of_method.Goals as goal
@@ -11,10 +11,10 @@ pub returns-then-place-ne2 : goal.returns-then-place-ne2
 returns-then-place-ne2 c = search (rules, by_method)
 
 pub overflow_add-field : goal.overflow_add-field
-overflow_add-field c = search (rules, found-next kinds.field)
+overflow_add-field c = search (rules, found_next kinds.field)
 
 pub ty_of_get-requires : goal.ty_of_get-requires
-ty_of_get-requires c = search (rules, found-typed kinds.field)
+ty_of_get-requires c = search (rules, found_typed kinds.field)
 
 pub returns-in-At : goal.returns-in-At
 returns-in-At c = search (rules, by_get)

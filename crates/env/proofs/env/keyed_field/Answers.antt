@@ -1,10 +1,10 @@
 use borrow.Author.Rules.{rules}
-use Rattle.env.proofs.Lookups.{found-next, keyed, unkeyed, nothing_keyed}
+use Rattle.env.proofs.Lookups.{found_next, keyed, unkeyed, nothing_keyed}
 use Rattle.grammar.specs.Kinds as kinds
 use Rattle.env.proofs.env.keyed_field.Goals as goal
 
 pub overflow_add-i : goal.overflow_add-i
-overflow_add-i c = search (rules, found-next kinds.field)
+overflow_add-i c = search (rules, found_next kinds.field)
 
 pub returns-then-is_word : goal.returns-then-is_word
 returns-then-is_word c = search (rules, keyed)

@@ -1,6 +1,6 @@
 -- `grammar::kinds::kind_for` meets its contract: each arm looks the word up among those of its sort. Assumes nothing.
 use Rattle.grammar.specs.Grammar.{Contract, Item, Field, Param, Ty, Arg, Clause, Stmt, Expr}
-use Rattle.grammar.proofs.KindLaws.{kind_at, kind_arm, other-sort}
+use Rattle.grammar.proofs.KindLaws.{kind_at_lem, kind_arm, other_sort}
 use Rattle.grammar.proofs.kinds.kind_for.Goals as goal
 
 pub returns-in-0 : goal.returns-in-0
@@ -30,5 +30,5 @@ returns-in-7 c = rw c.in-7.is (kind_arm Stmt _ _ _ c.index_in-in-7.ensures c.wit
 pub returns-in_default : goal.returns-in_default
 returns-in_default c =
     let r = c.in_default.in_default-own.rest in
-    rw (other-sort _ r.0.0.0.0.0.0.0.1 r.0.0.0.0.0.0.1 r.0.0.0.0.0.1 r.0.0.0.0.1 r.0.0.0.1 r.0.0.1 r.0.1 r.1)
-    (kind_at Expr _ _ _ c.index_expr.ensures c.within-in_default.ensures)
+    rw (other_sort _ r.0.0.0.0.0.0.0.1 r.0.0.0.0.0.0.1 r.0.0.0.0.0.1 r.0.0.0.0.1 r.0.0.0.1 r.0.0.1 r.0.1 r.1)
+    (kind_at_lem Expr _ _ _ c.index_expr.ensures c.within-in_default.ensures)

@@ -6,7 +6,7 @@ pub returns-then-not-is_keyed_call : goal.returns-then-not-is_keyed_call
 returns-then-not-is_keyed_call c = search (rules, no_call)
 
 pub is_name_key-named-requires : goal.is_name_key-named-requires
-is_name_key-named-requires c = record { entry_at = search (rules, key_here); expr_at = search (rules, key_here) }
+is_name_key-named-requires c = record { entry_at = search (rules, key_here); key_at = search (rules, key_here) }
 
 pub note-requires : goal.note-requires
 note-requires c = search (rules, mark-within)

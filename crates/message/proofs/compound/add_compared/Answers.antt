@@ -1,5 +1,5 @@
 use Rattle.rules.specs.Text.{render}
-use Rattle.message.proofs.Told.{name-first}
+use Rattle.message.proofs.Told.{name_first}
 use borrow.Author.Rules.{rules}
 use Rattle.message.proofs.compound.add_compared.Goals as goal
 
@@ -17,4 +17,4 @@ shape_of-buffer c = search rules
 
 pub returns : goal.returns
 unfolding render
-returns c = search (rules, name-first)
+returns c = search (rules, name_first)

@@ -5,7 +5,7 @@ use borrow.Author.Rules.{rules}
 use Rattle.rules.specs.Text.{render}
 use Rattle.refusals.specs.Refusal.{refusal_of}
 use Rattle.refusals.proofs.Tags.{past_keys, places, places_from}
-use Rattle.message.proofs.Told.{told, told-field}
+use Rattle.message.proofs.Told.{told, told_field}
 use Rattle.message.proofs.refusal.add_from_30.Goals as goal
 
 pub enum_known-r : goal.enum_known-r
@@ -90,7 +90,7 @@ shape_of-buffer-in-NameNotParam c = search rules
 
 pub returns-in-NameNotParam : goal.returns-in-NameNotParam
 unfolding refusal_of render
-returns-in-NameNotParam c = search (rules, told-field)
+returns-in-NameNotParam c = search (rules, told_field)
 
 pub shape_of-buffer-in-NameWanted : goal.shape_of-buffer-in-NameWanted
 unfolding refusal_of render
@@ -98,7 +98,7 @@ shape_of-buffer-in-NameWanted c = search rules
 
 pub returns-in-NameWanted : goal.returns-in-NameWanted
 unfolding refusal_of render
-returns-in-NameWanted c = search (rules, told-field)
+returns-in-NameWanted c = search (rules, told_field)
 
 pub shape_of-buffer-in-Holds : goal.shape_of-buffer-in-Holds
 unfolding refusal_of render

@@ -4,7 +4,7 @@ use borrow.Author.Rules.{rules}
 use Rattle.rules.specs.Text.{digits, render}
 use Rattle.refusals.specs.Refusal.{refusal_of}
 use Rattle.refusals.proofs.Tags.{from_keys, places_from}
-use Rattle.message.proofs.Told.{told, told-name, told-type, told-param}
+use Rattle.message.proofs.Told.{told, told_name, told_type, told_param}
 use Rattle.message.proofs.refusal.add_message.Goals as goal
 
 pub enum_told-1 : goal.enum_told-1
@@ -109,7 +109,7 @@ shape_of-buffer-in-OnlyTypes c = search rules
 
 pub returns-in-OnlyTypes : goal.returns-in-OnlyTypes
 unfolding refusal_of render digits
-returns-in-OnlyTypes c = search (rules, told-type)
+returns-in-OnlyTypes c = search (rules, told_type)
 
 pub shape_of-buffer-in-InnerType : goal.shape_of-buffer-in-InnerType
 unfolding refusal_of render digits
@@ -133,7 +133,7 @@ shape_of-buffer-in-NoArguments c = search rules
 
 pub returns-in-NoArguments : goal.returns-in-NoArguments
 unfolding refusal_of render digits
-returns-in-NoArguments c = search (rules, told-type)
+returns-in-NoArguments c = search (rules, told_type)
 
 pub shape_of-buffer-in-Digest : goal.shape_of-buffer-in-Digest
 unfolding refusal_of render digits
@@ -141,7 +141,7 @@ shape_of-buffer-in-Digest c = search rules
 
 pub returns-in-Digest : goal.returns-in-Digest
 unfolding refusal_of render digits
-returns-in-Digest c = search (rules, told-param)
+returns-in-Digest c = search (rules, told_param)
 
 pub shape_of-buffer-in-Default : goal.shape_of-buffer-in-Default
 unfolding refusal_of render digits
@@ -149,7 +149,7 @@ shape_of-buffer-in-Default c = search rules
 
 pub returns-in-Default : goal.returns-in-Default
 unfolding refusal_of render digits
-returns-in-Default c = search (rules, told-name)
+returns-in-Default c = search (rules, told_name)
 
 pub shape_of-buffer-in-Guardian : goal.shape_of-buffer-in-Guardian
 unfolding refusal_of render digits

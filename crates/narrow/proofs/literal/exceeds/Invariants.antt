@@ -7,7 +7,6 @@ use Rattle.narrow.specs.Wide.{Held, value_of}
 use Rattle.narrow.proofs.Digits.{left}
 use Rattle.narrow.proofs.literal.exceeds.Given as goal
 
--- The invariant: the number so far and the digits that are left. Assumes nothing.
 abbrev pub invariant-loop-i : goal.invariant-loop-i
 invariant-loop-i l = Held l.n × (exceeds_of l.text l.most ≡ left l.most l.text l.i (value_of l.n))
 

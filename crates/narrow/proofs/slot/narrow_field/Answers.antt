@@ -1,14 +1,14 @@
 use borrow.Author.Rules.{rules}
-use Rattle.lookups.proofs.Behind.{found-next}
-use Rattle.narrow.proofs.Slots.{field_none, field-most}
+use Rattle.lookups.proofs.Behind.{found_next}
+use Rattle.narrow.proofs.Slots.{field_none, field_most}
 use Rattle.grammar.specs.Kinds as kinds
 use Rattle.narrow.proofs.slot.narrow_field.Goals as goal
 
 pub overflow_add-f : goal.overflow_add-f
-overflow_add-f c = search (rules, found-next kinds.field)
+overflow_add-f c = search (rules, found_next kinds.field)
 
 pub returns-in-At : goal.returns-in-At
-returns-in-At c = search (rules, field-most)
+returns-in-At c = search (rules, field_most)
 
 pub returns-in-Nothing : goal.returns-in-Nothing
 returns-in-Nothing c = search (rules, field_none)

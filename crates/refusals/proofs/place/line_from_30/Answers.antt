@@ -2,7 +2,7 @@ use borrow.Enum.Refused.{opened}
 use mathlib.Core.Path.{refl}
 use borrow.Author.Rules.{rules}
 use Rattle.refusals.specs.Places.{line_of}
-use Rattle.refusals.proofs.Tags.{line-told, not_from, places}
+use Rattle.refusals.proofs.Tags.{line_told, not_from, places}
 use Rattle.refusals.proofs.place.line_from_30.Goals as goal
 
 pub enum_known-r : goal.enum_known-r
@@ -75,71 +75,71 @@ enum_known-r-in-KeyKinds-1 c = search rules
 
 pub returns-in-Receiver : goal.returns-in-Receiver
 unfolding line_of
-returns-in-Receiver c = search (rules, line-told)
+returns-in-Receiver c = search (rules, line_told)
 
 pub returns-in-KeyedOp : goal.returns-in-KeyedOp
 unfolding line_of
-returns-in-KeyedOp c = search (rules, line-told)
+returns-in-KeyedOp c = search (rules, line_told)
 
 pub returns-in-Amount : goal.returns-in-Amount
 unfolding line_of
-returns-in-Amount c = search (rules, line-told)
+returns-in-Amount c = search (rules, line_told)
 
 pub returns-in-NameNotParam : goal.returns-in-NameNotParam
 unfolding line_of
-returns-in-NameNotParam c = search (rules, line-told)
+returns-in-NameNotParam c = search (rules, line_told)
 
 pub returns-in-NameWanted : goal.returns-in-NameWanted
 unfolding line_of
-returns-in-NameWanted c = search (rules, line-told)
+returns-in-NameWanted c = search (rules, line_told)
 
 pub returns-in-Holds : goal.returns-in-Holds
 unfolding line_of
-returns-in-Holds c = search (rules, line-told)
+returns-in-Holds c = search (rules, line_told)
 
 pub returns-in-Not : goal.returns-in-Not
 unfolding line_of
-returns-in-Not c = search (rules, line-told)
+returns-in-Not c = search (rules, line_told)
 
 pub returns-in-Neg : goal.returns-in-Neg
 unfolding line_of
-returns-in-Neg c = search (rules, line-told)
+returns-in-Neg c = search (rules, line_told)
 
 pub returns-in-Logical : goal.returns-in-Logical
 unfolding line_of
-returns-in-Logical c = search (rules, line-told)
+returns-in-Logical c = search (rules, line_told)
 
 pub returns-in-Arithmetic : goal.returns-in-Arithmetic
 unfolding line_of
-returns-in-Arithmetic c = search (rules, line-told)
+returns-in-Arithmetic c = search (rules, line_told)
 
 pub returns-in-Ordering : goal.returns-in-Ordering
 unfolding line_of
-returns-in-Ordering c = search (rules, line-told)
+returns-in-Ordering c = search (rules, line_told)
 
 pub returns-in-NamesCompared : goal.returns-in-NamesCompared
 unfolding line_of
-returns-in-NamesCompared c = search (rules, line-told)
+returns-in-NamesCompared c = search (rules, line_told)
 
 pub returns-in-Compared : goal.returns-in-Compared
 unfolding line_of
-returns-in-Compared c = search (rules, line-told)
+returns-in-Compared c = search (rules, line_told)
 
 pub returns-in-EmitField : goal.returns-in-EmitField
 unfolding line_of
-returns-in-EmitField c = search (rules, line-told)
+returns-in-EmitField c = search (rules, line_told)
 
 pub returns-in-Dropped : goal.returns-in-Dropped
 unfolding line_of
-returns-in-Dropped c = search (rules, line-told)
+returns-in-Dropped c = search (rules, line_told)
 
 pub returns-in-Overflow : goal.returns-in-Overflow
 unfolding line_of
-returns-in-Overflow c = search (rules, line-told)
+returns-in-Overflow c = search (rules, line_told)
 
 pub returns-in-KeyKinds : goal.returns-in-KeyKinds
 unfolding line_of
-returns-in-KeyKinds c = search (rules, line-told)
+returns-in-KeyKinds c = search (rules, line_told)
 
 pub returns-in_default : goal.returns-in_default
 unfolding line_of

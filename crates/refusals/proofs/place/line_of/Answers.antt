@@ -1,7 +1,7 @@
 use mathlib.Core.Path.{refl}
 use borrow.Author.Rules.{rules}
 use Rattle.refusals.specs.Places.{line_of}
-use Rattle.refusals.proofs.Tags.{line-told, from_keys, places_from}
+use Rattle.refusals.proofs.Tags.{line_told, from_keys, places_from}
 use Rattle.refusals.proofs.place.line_of.Goals as goal
 
 pub enum_known-r : goal.enum_known-r
@@ -90,83 +90,83 @@ line_from_30-requires c = from_keys _ 30 (places_from 20) c.in_default.in_defaul
 
 pub returns-in-NameStored : goal.returns-in-NameStored
 unfolding line_of
-returns-in-NameStored c = search (rules, line-told)
+returns-in-NameStored c = search (rules, line_told)
 
 pub returns-in-Arity : goal.returns-in-Arity
 unfolding line_of
-returns-in-Arity c = search (rules, line-told)
+returns-in-Arity c = search (rules, line_told)
 
 pub returns-in-OnlyTypes : goal.returns-in-OnlyTypes
 unfolding line_of
-returns-in-OnlyTypes c = search (rules, line-told)
+returns-in-OnlyTypes c = search (rules, line_told)
 
 pub returns-in-InnerType : goal.returns-in-InnerType
 unfolding line_of
-returns-in-InnerType c = search (rules, line-told)
+returns-in-InnerType c = search (rules, line_told)
 
 pub returns-in-UnknownType : goal.returns-in-UnknownType
 unfolding line_of
-returns-in-UnknownType c = search (rules, line-told)
+returns-in-UnknownType c = search (rules, line_told)
 
 pub returns-in-NoArguments : goal.returns-in-NoArguments
 unfolding line_of
-returns-in-NoArguments c = search (rules, line-told)
+returns-in-NoArguments c = search (rules, line_told)
 
 pub returns-in-Digest : goal.returns-in-Digest
 unfolding line_of
-returns-in-Digest c = search (rules, line-told)
+returns-in-Digest c = search (rules, line_told)
 
 pub returns-in-Default : goal.returns-in-Default
 unfolding line_of
-returns-in-Default c = search (rules, line-told)
+returns-in-Default c = search (rules, line_told)
 
 pub returns-in-Guardian : goal.returns-in-Guardian
 unfolding line_of
-returns-in-Guardian c = search (rules, line-told)
+returns-in-Guardian c = search (rules, line_told)
 
 pub returns-in-Predicate : goal.returns-in-Predicate
 unfolding line_of
-returns-in-Predicate c = search (rules, line-told)
+returns-in-Predicate c = search (rules, line_told)
 
 pub returns-in-ReachesField : goal.returns-in-ReachesField
 unfolding line_of
-returns-in-ReachesField c = search (rules, line-told)
+returns-in-ReachesField c = search (rules, line_told)
 
 pub returns-in-ReachesValues : goal.returns-in-ReachesValues
 unfolding line_of
-returns-in-ReachesValues c = search (rules, line-told)
+returns-in-ReachesValues c = search (rules, line_told)
 
 pub returns-in-ReachesEvent : goal.returns-in-ReachesEvent
 unfolding line_of
-returns-in-ReachesEvent c = search (rules, line-told)
+returns-in-ReachesEvent c = search (rules, line_told)
 
 pub returns-in-CollectionLocal : goal.returns-in-CollectionLocal
 unfolding line_of
-returns-in-CollectionLocal c = search (rules, line-told)
+returns-in-CollectionLocal c = search (rules, line_told)
 
 pub returns-in-AssetSlot : goal.returns-in-AssetSlot
 unfolding line_of
-returns-in-AssetSlot c = search (rules, line-told)
+returns-in-AssetSlot c = search (rules, line_told)
 
 pub returns-in-NameIntoAddress : goal.returns-in-NameIntoAddress
 unfolding line_of
-returns-in-NameIntoAddress c = search (rules, line-told)
+returns-in-NameIntoAddress c = search (rules, line_told)
 
 pub returns-in-WrappingIntoNarrow : goal.returns-in-WrappingIntoNarrow
 unfolding line_of
-returns-in-WrappingIntoNarrow c = search (rules, line-told)
+returns-in-WrappingIntoNarrow c = search (rules, line_told)
 
 pub returns-in-LiteralIntoNarrow : goal.returns-in-LiteralIntoNarrow
 unfolding line_of
-returns-in-LiteralIntoNarrow c = search (rules, line-told)
+returns-in-LiteralIntoNarrow c = search (rules, line_told)
 
 pub returns-in-SlotMismatch : goal.returns-in-SlotMismatch
 unfolding line_of
-returns-in-SlotMismatch c = search (rules, line-told)
+returns-in-SlotMismatch c = search (rules, line_told)
 
 pub returns-in-Recipient : goal.returns-in-Recipient
 unfolding line_of
-returns-in-Recipient c = search (rules, line-told)
+returns-in-Recipient c = search (rules, line_told)
 
 pub returns-in_default : goal.returns-in_default
 unfolding line_of

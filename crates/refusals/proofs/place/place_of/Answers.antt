@@ -1,6 +1,6 @@
 use borrow.Enum.Refused.{opened}
 use borrow.Author.Rules.{rules}
-use Rattle.refusals.proofs.Tags.{place-plain, place_digest, place_receiver, place-keyed}
+use Rattle.refusals.proofs.Tags.{place_plain, place_digest, place_receiver, place_keyed}
 use Rattle.refusals.proofs.place.place_of.Goals as goal
 
 pub returns-in-Digest : goal.returns-in-Digest
@@ -10,7 +10,7 @@ pub returns-in-Receiver : goal.returns-in-Receiver
 returns-in-Receiver c = search (rules, place_receiver)
 
 pub returns-in-KeyedOp : goal.returns-in-KeyedOp
-returns-in-KeyedOp c = search (rules, place-keyed)
+returns-in-KeyedOp c = search (rules, place_keyed)
 
 pub returns-in_default : goal.returns-in_default
-returns-in_default c = place-plain _ _ _ _ (opened c.in_default.in_default-own.keys4) c.line_of.ensures c.place_at.ensures
+returns-in_default c = place_plain _ _ _ _ (opened c.in_default.in_default-own.keys4) c.line_of.ensures c.place_at.ensures

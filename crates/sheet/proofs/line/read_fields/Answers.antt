@@ -7,13 +7,13 @@ use Rattle.sheet.specs.Step.{Fields}
 use Rattle.sheet.specs.declared.cursor.Cursor.{Cursor}
 use Rattle.sheet.specs.declared.line.Line.{Line}
 use Rattle.grammar.specs.Table.{most_fields, numbers_of, rule_column}
-use Rattle.grammar.proofs.TableLaws.{rule_at, numbers-count, few-fields}
+use Rattle.grammar.proofs.TableLaws.{rule_at, numbers_count, few_fields}
 use Rattle.sheet.proofs.Turns.{turn_over, turn_ends, turn_wrong, turn_taken}
 use Rattle.sheet.proofs.line.read_fields.Goals as goal
 
 -- there are n rules, not too many for the table
 many : {l : Line} {n : ℕ} {y : List ℕ} {c : Cursor} → Fields l n y c → (n ≡ length (numbers_of l.kind)) × (n ≤ most_fields)
-many {l} p = (p.all ∙ sym (numbers-count l.kind), rw p.all (few-fields l.kind p.known))
+many {l} p = (p.all ∙ sym (numbers_count l.kind), rw p.all (few_fields l.kind p.known))
 
 -- a rule is left
 more : {l : Line} {n j : ℕ} {y : List ℕ} {c : Cursor} → Fields l n y c → j < n → j < length (numbers_of l.kind)

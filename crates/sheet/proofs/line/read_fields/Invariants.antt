@@ -9,7 +9,6 @@ use Rattle.grammar.specs.Table.{numbers_of}
 use Rattle.sheet.proofs.Turns.{Turn}
 use Rattle.sheet.proofs.line.read_fields.Given as goal
 
--- Assumes nothing.
 abbrev pub invariant-loop-j : goal.invariant-loop-j
 invariant-loop-j l = (l.j ≤ l.n) × Turn (numbers_of l.kind) l.y (or_ten (step_all (numbers_of l.kind) (l.initial.l.at + l.initial.c.at) (ended (either 44 10) [] (drop l.initial.c.at l.y)) l.initial.l)) l.initial.l.at l.l l.c l.j
 

@@ -2,9 +2,9 @@
 use mathlib.Core.Path.{sym}
 use native.Mathlib.Omega.{arith}
 use lib.Seq.{length-take-le}
-use Rattle.grammar.proofs.KindLaws.{kind-known}
-use Rattle.grammar.proofs.TableLaws.{fields_at, few-fields}
-use Rattle.sheet.proofs.Told.{line_empty, line-unknown, line-fields, line-left, line_read}
+use Rattle.grammar.proofs.KindLaws.{kind_known}
+use Rattle.grammar.proofs.TableLaws.{fields_at, few_fields}
+use Rattle.sheet.proofs.Told.{line_empty, line-unknown, line-fields, line_left, line_read}
 use Rattle.sheet.proofs.line.read_line.Goals as goal
 
 pub returns-then-y-end : goal.returns-then-y-end
@@ -17,12 +17,12 @@ pub returns-then-kind-eq-NONE : goal.returns-then-kind-eq-NONE
 returns-then-kind-eq-NONE c = line-unknown _ _ _ c.find-end.ensures c.if-y-end.false _ c.kind_for-kind.ensures _ c.if-kind-eq-NONE.true
 
 pub fields-n-requires : goal.fields-n-requires
-fields-n-requires c = kind-known _ _ _ c.kind_for-kind.ensures c.if-kind-eq-NONE.false
+fields-n-requires c = kind_known _ _ _ c.kind_for-kind.ensures c.if-kind-eq-NONE.false
 
 pub overflow_add-n : goal.overflow_add-n
 overflow_add-n c =
-    let known = kind-known _ _ _ c.kind_for-kind.ensures c.if-kind-eq-NONE.false in
-    omega (arith, fields_at _ _ known c.fields-n.ensures, few-fields _ known)
+    let known = kind_known _ _ _ c.kind_for-kind.ensures c.if-kind-eq-NONE.false in
+    omega (arith, fields_at _ _ known c.fields-n.ensures, few_fields _ known)
 
 pub returns-then-count-n : goal.returns-then-count-n
 returns-then-count-n c =
@@ -30,15 +30,15 @@ returns-then-count-n c =
     c.if-kind-eq-NONE.false _ _ c.count.ensures c.fields-n.ensures _ c.if-count-n.true
 
 pub always-requires : goal.always-requires
-always-requires c = kind-known _ _ _ c.kind_for-kind.ensures c.if-kind-eq-NONE.false
+always-requires c = kind_known _ _ _ c.kind_for-kind.ensures c.if-kind-eq-NONE.false
 
 pub read_fields-requires : goal.read_fields-requires
 read_fields-requires c =
-    let known = kind-known _ _ _ c.kind_for-kind.ensures c.if-kind-eq-NONE.false in
+    let known = kind_known _ _ _ c.kind_for-kind.ensures c.if-kind-eq-NONE.false in
     record {
       known = known;
       all = fields_at _ _ known c.fields-n.ensures;
-      left = line-left _ _ _ c.find-end.ensures c.if-y-end.false _ c.kind_for-kind.ensures
+      left = line_left _ _ _ c.find-end.ensures c.if-y-end.false _ c.kind_for-kind.ensures
           c.if-kind-eq-NONE.false _ _ c.count.ensures c.fields-n.ensures c.if-count-n.false;
       within = c.requires;
     }

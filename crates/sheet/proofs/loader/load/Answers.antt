@@ -4,7 +4,7 @@ use Prim.Native.Nat.{◌*◌, ◌≤◌}
 use lib.ListN.{length}
 use Rattle.sheet.specs.Scratch.{cells_per_line}
 use lib.Seq.{length-take-le}
-use Rattle.sheet.proofs.Loading.{early_shape, early-room, refuses, late_room, late_passed, late_answer, late_left}
+use Rattle.sheet.proofs.Loading.{early_shape, early_room, refuses, late_room, late_passed, late_answer, late_left}
 use Rattle.sheet.proofs.loader.load.Goals as goal
 
 pub returns-then-shape-ne0 : goal.returns-then-shape-ne0
@@ -13,7 +13,7 @@ returns-then-shape-ne0 c =
 
 pub returns-then-number-ne0 : goal.returns-then-number-ne0
 returns-then-number-ne0 c =
-    let both = refuses _ _ _ _ (early-room _ _ _ _ c.misshapen-shape.ensures _ _ c.if-shape-ne0.false c.count-n.ensures c.too_many-number.ensures) c.if-number-ne0.true in record { value = both.0; scratch_after = both.1 }
+    let both = refuses _ _ _ _ (early_room _ _ _ _ c.misshapen-shape.ensures _ _ c.if-shape-ne0.false c.count-n.ensures c.too_many-number.ensures) c.if-number-ne0.true in record { value = both.0; scratch_after = both.1 }
 
 pub overflow_mul-all : goal.overflow_mul-all
 overflow_mul-all c = let h : cells_per_line * c.count-n.result ≤ length c.args.scratch.now = search late_room in omega arith

@@ -1,5 +1,5 @@
 use native.Mathlib.Omega.{arith}
-use Rattle.sheet.proofs.Counts.{next-first, next-second, next-third, kind_below}
+use Rattle.sheet.proofs.Counts.{next_first, next_second, next_third, kind_below}
 use Rattle.sheet.proofs.open.next_sort.Goals as goal
 
 pub overflow_add-k : goal.overflow_add-k
@@ -17,7 +17,7 @@ part_sort-requires c =
 
 pub returns-then-k-first : goal.returns-then-k-first
 returns-then-k-first c =
-    next-first _ _ _ _ _ _ _ _ c.cell-kind.ensures.value c.cell-first.ensures.value c.cell-second.ensures.value c.cell.ensures.value c.if-k-first.true c.part_sort.ensures
+    next_first _ _ _ _ _ _ _ _ c.cell-kind.ensures.value c.cell-first.ensures.value c.cell-second.ensures.value c.cell.ensures.value c.if-k-first.true c.part_sort.ensures
 
 pub overflow_add-first : goal.overflow_add-first
 overflow_add-first c = omega (arith, c.requires.small)
@@ -28,7 +28,7 @@ part_sort-requires-then-k-first-2 c =
 
 pub returns-then-k-first-2 : goal.returns-then-k-first-2
 returns-then-k-first-2 c =
-    next-second _ _ _ _ _ _ _ _ c.cell-kind.ensures.value c.cell-first.ensures.value c.cell-second.ensures.value c.cell.ensures.value c.if-k-first.false c.if-k-first-2.true c.part_sort-then-k-first-2.ensures
+    next_second _ _ _ _ _ _ _ _ c.cell-kind.ensures.value c.cell-first.ensures.value c.cell-second.ensures.value c.cell.ensures.value c.if-k-first.false c.if-k-first-2.true c.part_sort-then-k-first-2.ensures
 
 pub part_sort-requires-2 : goal.part_sort-requires-2
 part_sort-requires-2 c =
@@ -36,4 +36,4 @@ part_sort-requires-2 c =
 
 pub returns : goal.returns
 returns c =
-    next-third _ _ _ _ _ _ _ _ c.cell-kind.ensures.value c.cell-first.ensures.value c.cell-second.ensures.value c.cell.ensures.value c.if-k-first.false c.if-k-first-2.false c.part_sort-2.ensures
+    next_third _ _ _ _ _ _ _ _ c.cell-kind.ensures.value c.cell-first.ensures.value c.cell-second.ensures.value c.cell.ensures.value c.if-k-first.false c.if-k-first-2.false c.part_sort-2.ensures

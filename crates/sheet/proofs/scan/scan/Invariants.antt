@@ -5,7 +5,6 @@ use lib.ListN.{length}
 use Rattle.sheet.specs.Scan.{Going}
 use Rattle.sheet.proofs.scan.scan.Given as goal
 
--- Each need is a law of ScanNeeds.antt. Assumes nothing.
 abbrev pub invariant-loop-at : goal.invariant-loop-at
 invariant-loop-at l = Going l.sheet l.initial.lines l.lines l.due l.owner l.depth l.at l.i
 

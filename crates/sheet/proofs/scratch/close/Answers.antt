@@ -1,6 +1,6 @@
 use mathlib.Core.Path.{refl, sym, ◌∙◌}
 use native.Mathlib.Omega.{arith}
-use Rattle.sheet.proofs.Cells.{closed-more, closed_none}
+use Rattle.sheet.proofs.Cells.{closed_more, closed_none}
 use Rattle.sheet.proofs.scratch.close.Goals as goal
 
 pub loop-i-init : goal.loop-i-init
@@ -13,7 +13,7 @@ loop-i-preserved c =
       omega (arith, l.1),
       l.2,
       l.3
-          ∙ closed-more _ _ _ _ _ _ _ c.loop-i-test.true c.cell.ensures.value c.cell-in-loop-i.ensures.value c.cell-in-loop-i-2.ensures.value
+          ∙ closed_more _ _ _ _ _ _ _ c.loop-i-test.true c.cell.ensures.value c.cell-in-loop-i.ensures.value c.cell-in-loop-i-2.ensures.value
           c.skip-end.ensures.value c.put.ensures,
     )
 

@@ -7,7 +7,6 @@ use Rattle.sheet.specs.Scratch.{closed, line_count, cells_per_line}
 use Rattle.sheet.specs.Line.{most_lines}
 use Rattle.sheet.proofs.scratch.close.Given as goal
 
--- Assumes nothing.
 abbrev pub invariant-loop-i : goal.invariant-loop-i
 invariant-loop-i l = (length l.lines ≡ length l.initial.lines) × (l.i ≤ line_count l.initial.lines) × (length l.initial.lines ≤ cells_per_line * most_lines) × (closed (line_count l.initial.lines) l.initial.lines ≡ closed l.i l.lines)
 

@@ -5,7 +5,6 @@ use Prim.Native.Nat.{◌<◌}
 use Rattle.sheet.specs.Scratch.{skip}
 use Rattle.sheet.proofs.scratch.skip.Given as goal
 
--- all does. Assumes nothing.
 abbrev pub invariant-loop-left : goal.invariant-loop-left
 invariant-loop-left l = (l.at < 65536) × (skip l.lines l.k l.j ≡ skip l.lines l.left l.at)
 

@@ -1,5 +1,5 @@
 use borrow.Author.Rules.{rules}
-use Rattle.statements.proofs.Tests.{address_no_name, address-other, address_named}
+use Rattle.statements.proofs.Tests.{address_no_name, address_other, address_named}
 use Rattle.statements.proofs.assign.becomes_address.Goals as goal
 
 pub returns-then-not-bare : goal.returns-then-not-bare
@@ -9,4 +9,4 @@ pub returns-then-is_set-given : goal.returns-then-is_set-given
 returns-then-is_set-given c = search (rules, address_named)
 
 pub returns : goal.returns
-returns c = search (rules, address-other)
+returns c = search (rules, address_other)

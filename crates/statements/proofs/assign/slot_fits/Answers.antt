@@ -1,15 +1,15 @@
 use borrow.Author.Rules.{rules}
-use Rattle.statements.proofs.Tests.{fits-numbers, fits-compatible, fits-params, fits_not}
+use Rattle.statements.proofs.Tests.{fits_numbers, fits_compatible, fits_params, fits_not}
 use Rattle.statements.proofs.assign.slot_fits.Goals as goal
 
 pub returns-then-not-is_set : goal.returns-then-not-is_set
-returns-then-not-is_set c = search (rules, fits-numbers)
+returns-then-not-is_set c = search (rules, fits_numbers)
 
 pub returns-then-compatible : goal.returns-then-compatible
-returns-then-compatible c = search (rules, fits-compatible)
+returns-then-compatible c = search (rules, fits_compatible)
 
 pub returns-then-slot-given : goal.returns-then-slot-given
-returns-then-slot-given c = search (rules, fits-params)
+returns-then-slot-given c = search (rules, fits_params)
 
 pub returns : goal.returns
 returns c = search (rules, fits_not)

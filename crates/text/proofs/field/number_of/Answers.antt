@@ -4,7 +4,7 @@ use borrow.Author.Tests.{le-leb, lt-leb}
 use native.Mathlib.Omega.{arith}
 use lib.ListN.{get_or}
 use Rattle.text.specs.Field.{is_decimal, number_of}
-use Rattle.text.proofs.Fields.{digit_range, number-stop, number_more, number-high, number_over}
+use Rattle.text.proofs.Fields.{digit_range, number_stop, number_more, number_high, number_over}
 use Rattle.text.proofs.field.number_of.Goals as goal
 
 pub returns-then-part-lt1 : goal.returns-then-part-lt1
@@ -21,7 +21,7 @@ loop-i-init c = (omega arith, rw (le-leb _ _ c.if-part-lt1.false, c.if-part.fals
 
 pub returns-then-not-is_digit : goal.returns-then-not-is_digit
 returns-then-not-is_digit c =
-    number-stop _ _ _ _ _ c.loop-i.invariant.1 (sym c.is_digit.ensures ∙ c.if-not-is_digit.true) c.loop-i-test.true
+    number_stop _ _ _ _ _ c.loop-i.invariant.1 (sym c.is_digit.ensures ∙ c.if-not-is_digit.true) c.loop-i-test.true
 
 pub overflow_sub-v : goal.overflow_sub-v
 overflow_sub-v c = (digit_range _ (sym c.is_digit.ensures ∙ c.if-not-is_digit.false)).0
@@ -34,7 +34,7 @@ overflow_add-v c = omega (arith, digit_range (get_or c.args.part.now c.loop-i.i 
 
 pub returns-then-top-v : goal.returns-then-top-v
 returns-then-top-v c =
-    number-high c.args.part.now (c.loop-i.i + 1) _ _ _ (number_more _ _ _ _ _ c.loop-i.invariant.1 (sym c.is_digit.ensures ∙ c.if-not-is_digit.false) c.loop-i-test.true) c.if-top-v.true
+    number_high c.args.part.now (c.loop-i.i + 1) _ _ _ (number_more _ _ _ _ _ c.loop-i.invariant.1 (sym c.is_digit.ensures ∙ c.if-not-is_digit.false) c.loop-i-test.true) c.if-top-v.true
 
 pub loop-i-preserved : goal.loop-i-preserved
 loop-i-preserved c =

@@ -1,7 +1,7 @@
 use mathlib.Core.Path.{sym}
 use native.Mathlib.Nat.{zero-add, lt_of_lt_of_le}
 use native.Mathlib.Omega.{arith}
-use Rattle.text.proofs.Pieces.{one_most, count_step, count-stop}
+use Rattle.text.proofs.Pieces.{one_most, count_step, count_stop}
 use Rattle.text.proofs.piece.count_part.Goals as goal
 
 pub loop-i-init : goal.loop-i-init
@@ -20,4 +20,4 @@ loop-i-preserved c = (
 pub returns : goal.returns
 returns c =
     let l = c.loop-i in
-    count-stop _ _ _ _ _ _ l.invariant.2 l.invariant.0 c.loop-i-test.false l.invariant.1
+    count_stop _ _ _ _ _ _ l.invariant.2 l.invariant.0 c.loop-i-test.false l.invariant.1

@@ -6,7 +6,6 @@ use lib.ListN.{length, drop}
 use Rattle.text.specs.Word.{split, index_in}
 use Rattle.text.proofs.word.index_in.Given as goal
 
--- Assumes nothing.
 abbrev pub invariant-loop-start : goal.invariant-loop-start
 invariant-loop-start l = (l.k ≤ l.start) × (l.start ≤ length l.table) × (index_in l.part (split l.table) ≡ l.k + index_in l.part (split (drop l.start l.table)))
 

@@ -6,7 +6,6 @@ use lib.ListN.{length, drop}
 use Rattle.text.specs.Text.{same}
 use Rattle.text.proofs.word.is_word.Given as goal
 
--- Assumes nothing.
 abbrev pub invariant-loop-i : goal.invariant-loop-i
 invariant-loop-i l = (l.i ≤ length l.part) × (length l.part ≡ length l.word) × (same l.part l.word ≡ same (drop l.i l.part) (drop l.i l.word))
 

@@ -1,6 +1,6 @@
 use borrow.Author.Rules.{rules}
-use Rattle.typing.proofs.Calls.{each_falls, each_rest, laws_each, args-keyed, laws_args, laws_call, laws_keyed}
-use Rattle.typing.proofs.Keys.{amount_falls, amount_asks, laws_amount, keys_below, keys_asked, laws_keyed-call, keys_next, keys_some, keys_falls, keys_rest, laws_keys}
+use Rattle.typing.proofs.Calls.{each_falls, each_rest, laws_each, args_keyed, laws_args, laws_call, laws_keyed}
+use Rattle.typing.proofs.Keys.{amount_falls, amount_asks, laws_amount, keys_below, keys_asked, laws_keyed_call, keys_next, keys_some, keys_falls, keys_rest, laws_keys}
 use Rattle.typing.proofs.Asking.{laws_again, laws_of, laws_kind}
 use Rattle.typing.proofs.Operators.{laws_bin, laws_un}
 use Rattle.typing.proofs.typing.+expression_types.Goals as goal
@@ -69,37 +69,37 @@ pub check_amount-returns-in-Refused : goal.check_amount-returns-in-Refused
 check_amount-returns-in-Refused t c = search laws_amount
 
 pub check_keyed_call-check_amount-requires : goal.check_keyed_call-check_amount-requires
-check_keyed_call-check_amount-requires t c = search laws_keyed-call
+check_keyed_call-check_amount-requires t c = search laws_keyed_call
 
 pub check_keyed_call-overflow_add-i : goal.check_keyed_call-overflow_add-i
-check_keyed_call-overflow_add-i t c = search laws_keyed-call
+check_keyed_call-overflow_add-i t c = search laws_keyed_call
 
 pub check_keyed_call-name-method-requires : goal.check_keyed_call-name-method-requires
-check_keyed_call-name-method-requires t c = search laws_keyed-call
+check_keyed_call-name-method-requires t c = search laws_keyed_call
 
 pub check_keyed_call-overflow_add-i-in-Fine : goal.check_keyed_call-overflow_add-i-in-Fine
-check_keyed_call-overflow_add-i-in-Fine t c = search laws_keyed-call
+check_keyed_call-overflow_add-i-in-Fine t c = search laws_keyed_call
 
 pub check_keyed_call-end-at-requires : goal.check_keyed_call-end-at-requires
-check_keyed_call-end-at-requires t c = search laws_keyed-call
+check_keyed_call-end-at-requires t c = search laws_keyed_call
 
 pub check_keyed_call-wants-requires : goal.check_keyed_call-wants-requires
-check_keyed_call-wants-requires t c = search laws_keyed-call
+check_keyed_call-wants-requires t c = search laws_keyed_call
 
 pub check_keyed_call-call_arg_count-requires : goal.check_keyed_call-call_arg_count-requires
-check_keyed_call-call_arg_count-requires t c = search laws_keyed-call
+check_keyed_call-call_arg_count-requires t c = search laws_keyed_call
 
 pub check_keyed_call-check_keys-requires : goal.check_keyed_call-check_keys-requires
 check_keyed_call-check_keys-requires t c = (keys_below _ _ _ _ _ _ c.requires _ c.in-At.is _ _ c.check_amount.ensures c.in-Fine.is _ _ _ _ c.name-method.ensures c.wants.ensures c.end-at.ensures c.call_arg_count.ensures _ c.decreases, keys_asked _ _ _ _ _ _ c.requires _ c.in-At.is _ _ c.check_amount.ensures c.in-Fine.is _ _ _ _ c.name-method.ensures c.wants.ensures c.end-at.ensures c.call_arg_count.ensures)
 
 pub check_keyed_call-returns-in-Fine : goal.check_keyed_call-returns-in-Fine
-check_keyed_call-returns-in-Fine t c = search laws_keyed-call
+check_keyed_call-returns-in-Fine t c = search laws_keyed_call
 
 pub check_keyed_call-returns-in-Refused : goal.check_keyed_call-returns-in-Refused
-check_keyed_call-returns-in-Refused t c = search laws_keyed-call
+check_keyed_call-returns-in-Refused t c = search laws_keyed_call
 
 pub check_keyed_call-returns-in-Nothing : goal.check_keyed_call-returns-in-Nothing
-check_keyed_call-returns-in-Nothing t c = search laws_keyed-call
+check_keyed_call-returns-in-Nothing t c = search laws_keyed_call
 
 pub check_keys-returns-then-wants-index : goal.check_keys-returns-then-wants-index
 check_keys-returns-then-wants-index t c = search laws_keys
@@ -246,7 +246,7 @@ pub type_args-ask_each-requires : goal.type_args-ask_each-requires
 type_args-ask_each-requires t c = search laws_args
 
 pub type_args-type_keyed-requires : goal.type_args-type_keyed-requires
-type_args-type_keyed-requires t c = (search rules, args-keyed _ _ _ _ _ _ c.requires _ c.end.ensures _ c.call_arg_count.ensures _ _ c.ask_each.ensures c.in-Fine.is)
+type_args-type_keyed-requires t c = (search rules, args_keyed _ _ _ _ _ _ c.requires _ c.end.ensures _ c.call_arg_count.ensures _ _ c.ask_each.ensures c.in-Fine.is)
 
 pub type_args-returns-in-Fine : goal.type_args-returns-in-Fine
 type_args-returns-in-Fine t c = search laws_args

@@ -12,7 +12,7 @@ use Rattle.rules.specs.Typing.{typing, ty_of_leaf, ty_of_ident}
 use Rattle.rules.specs.Standing.{expr_at}
 use Rattle.rules.proofs.Exprs.{leaf_at, leaf_at_lem}
 use Rattle.rules.proofs.Parts.{stop, ◌also◌, pick}
-use Rattle.lookups.proofs.Codes.{code_is, from-code}
+use Rattle.lookups.proofs.Codes.{code_is, from_code}
 use Rattle.env.specs.Answers.{typed_of}
 use Rattle.env.specs.Force.{env_of, Ready}
 use Rattle.env.specs.declared.env.Env.{Env}
@@ -37,7 +37,7 @@ module _ (s S : List ℕ) (env : Env) (T : Table) (i : ℕ) (h : AsksLeaf s S en
         record {
           types =
               record {
-                gives = rw (leaf_at_lem h.asks.ready.force.loaded h.asks.here k low (omega (arith, e, h.kind)) (sym e), from-code c _ q) refl;
+                gives = rw (leaf_at_lem h.asks.ready.force.loaded h.asks.here k low (omega (arith, e, h.kind)) (sym e), from_code c _ q) refl;
                 valid = rw q (code_is _);
               };
         }

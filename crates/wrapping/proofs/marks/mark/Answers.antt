@@ -1,9 +1,9 @@
 use borrow.Author.Rules.{rules}
-use Rattle.wrapping.proofs.Wrapped.{mark-other, let_value, mark-wraps, mark-plain}
+use Rattle.wrapping.proofs.Wrapped.{mark_other, let_value, mark-wraps, mark-plain}
 use Rattle.wrapping.proofs.marks.mark.Goals as goal
 
 pub returns-then-kind-ne-LET : goal.returns-then-kind-ne-LET
-returns-then-kind-ne-LET c = search (rules, mark-other)
+returns-then-kind-ne-LET c = search (rules, mark_other)
 
 pub wraps-requires : goal.wraps-requires
 wraps-requires c = search (rules, let_value)

@@ -1,5 +1,5 @@
 use borrow.Author.Rules.{rules}
-use Rattle.wrapping.proofs.Reaching.{set_other, set_value, set-fine, set-refused}
+use Rattle.wrapping.proofs.Reaching.{set_other, set_value, set_fine, set-refused}
 use Rattle.wrapping.proofs.reach.narrow_set.Goals as goal
 
 pub returns-then-not-sets : goal.returns-then-not-sets
@@ -12,4 +12,4 @@ pub returns-then-reaches : goal.returns-then-reaches
 returns-then-reaches c = search (rules, set-refused)
 
 pub returns : goal.returns
-returns c = search (rules, set-fine)
+returns c = search (rules, set_fine)

@@ -1,10 +1,10 @@
 use borrow.Author.Rules.{rules}
 use Rattle.writing.proofs.Adding.{adds_same}
-use Rattle.writing.proofs.Literals.{digits-start, digits-skip, digits_add, digits_over}
+use Rattle.writing.proofs.Literals.{digits_start, digits-skip, digits_add, digits_over}
 use Rattle.writing.proofs.literal.add_digits.Goals as goal
 
 pub loop-i-init : goal.loop-i-init
-loop-i-init c = search (rules, digits-start)
+loop-i-init c = search (rules, digits_start)
 
 pub loop-i-preserved-then-text-i-eq95 : goal.loop-i-preserved-then-text-i-eq95
 loop-i-preserved-then-text-i-eq95 c = search (rules, digits-skip)

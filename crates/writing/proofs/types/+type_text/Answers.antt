@@ -1,5 +1,5 @@
 use borrow.Author.Rules.{rules}
-use Rattle.writing.proofs.Arguments.{type_none, type_falls, type-args, type_all, arg_type, arg_num, arg_mofn, args_none, args_falls, args_all}
+use Rattle.writing.proofs.Arguments.{type_none, type_falls, type_args_lem, type_all, arg_type, arg_num, arg_mofn, args_none, args_falls, args_all}
 use Rattle.writing.proofs.types.+type_text.Goals as goal
 
 pub add_arg-returns-then-k-le-TYPE : goal.add_arg-returns-then-k-le-TYPE
@@ -24,7 +24,7 @@ pub add_type-returns-then-line_count-i : goal.add_type-returns-then-line_count-i
 add_type-returns-then-line_count-i t c = search (rules, type_none)
 
 pub add_type-add_args-requires : goal.add_type-add_args-requires
-add_type-add_args-requires t c = search (rules, type_falls, type-args)
+add_type-add_args-requires t c = search (rules, type_falls, type_args_lem)
 
 pub add_type-returns : goal.add_type-returns
 add_type-returns t c = search (rules, type_all)

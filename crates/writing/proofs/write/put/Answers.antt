@@ -1,5 +1,5 @@
 use borrow.Author.Rules.{rules}
-use Rattle.writing.proofs.Adding.{put_none, put-more, put_full, put_over, put_same}
+use Rattle.writing.proofs.Adding.{put_none, put_more, put_full, put_over, put_same}
 use Rattle.writing.proofs.write.put.Goals as goal
 
 pub loop-i-init : goal.loop-i-init
@@ -12,7 +12,7 @@ pub returns-then-rest-i : goal.returns-then-rest-i
 returns-then-rest-i c = search (rules, put_full)
 
 pub loop-i-preserved : goal.loop-i-preserved
-loop-i-preserved c = search (rules, put-more)
+loop-i-preserved c = search (rules, put_more)
 
 pub shape_of-rest : goal.shape_of-rest
 shape_of-rest c = search (rules, put_same)

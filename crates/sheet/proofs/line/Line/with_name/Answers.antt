@@ -1,10 +1,10 @@
 use native.Mathlib.Omega.{arith}
-use Rattle.sheet.proofs.Steps.{name-taken, name-start, name_wrong}
+use Rattle.sheet.proofs.Steps.{name-taken, name_start, name_wrong}
 use Rattle.sheet.proofs.line.Line.with_name.Goals as goal
 
 pub overflow_add-l : goal.overflow_add-l
 overflow_add-l c =
-    omega (arith, name-start _ _ _ _ _ _ _ _ c.name_or_text.ensures c.in-Name.is)
+    omega (arith, name_start _ _ _ _ _ _ _ _ c.name_or_text.ensures c.in-Name.is)
 
 pub returns-in-Name : goal.returns-in-Name
 returns-in-Name c =
