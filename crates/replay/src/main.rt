@@ -10,7 +10,7 @@
 mod noise;
 
 ghost use Rattle.std.specs.Prelude.{◌≡◌, ◌≤◌, min, length, IfOk, OnOk};
-ghost use Rattle.std.specs.Io.KnownBytes.{Appends, IsAtEnd};
+ghost use Rattle.std.specs.Io.KnownBytes.{Appends, IsAtEnd, Keeps};
 ghost use Rattle.std.specs.Bool.{OnFalse, OnTrue};
 ghost use Rattle.frames.specs.Frame.{TakesSheet};
 ghost use Rattle.replay.specs.Written.{AnswersFrame, four_of, held_of, line_for, line_of, types_of};
@@ -114,6 +114,7 @@ fn one<R: Read, W: Write>(
     ensures taken { IfOk result (TakesSheet (R.remaining input.old) (R.remaining input.new) sheet.new) }
     ensures written { IfOk result (λ full. OnTrue full (Appends (W.contents out.old) (W.contents out.new)
         (line_for sheet.new (length scratch.old) (length types.old) (length message.old)))) }
+    ensures kept { IfOk result (λ full. OnFalse full (Keeps (W.contents out.old) (W.contents out.new))) }
 {
     if !frames::filled(input, sheet)? {
         return Ok(false);
@@ -142,6 +143,7 @@ fn turn<R: Read, W: Write>(
         (W.contents out.old) (W.contents out.new)
         (length sheet.old) (length scratch.old) (length types.old) (length message.old))) }
     ensures ended { IfOk result (λ there. OnFalse there (IsAtEnd (R.remaining input.new))) }
+    ensures kept { IfOk result (λ there. OnFalse there (Keeps (W.contents out.old) (W.contents out.new))) }
 {
     let Frame::Lent(lent) = frames::header(input)? else {
         return Ok(false);
@@ -160,6 +162,9 @@ fn turn<R: Read, W: Write>(
     )
 }
 
+// How many sheets are answered at most.
+const MOST_SHEETS: u32 = 1000000;
+
 fn main(rt: HostRuntime) -> io::Result<()> {
     let mut input = rt.stdin();
     let mut out = rt.stdout();
@@ -167,7 +172,7 @@ fn main(rt: HostRuntime) -> io::Result<()> {
     let mut scratch = [0u16; 32768];
     let mut types = [0u8; 32768];
     let mut message = [0u8; 32768];
-    for _ in 0..1000000 {
+    for _ in 0..MOST_SHEETS {
         if !turn(
             &mut input,
             &mut out,

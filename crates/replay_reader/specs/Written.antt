@@ -1,8 +1,9 @@
 -- What is written of a sheet that was read.
-use Rattle.std.specs.Prelude.{ℕ, List, Option, ◌≡◌, ◌≤◌, ◌+◌, ◌++◌, length, take, cond, ltb, count_by, codes, decimal}
+use Rattle.std.specs.Prelude.{ℕ, List, Option, ◌⊎◌, ◌≡◌, ◌≤◌, ◌<◌, ◌+◌, ◌++◌, length, take, cond, ltb, count_by, codes, decimal}
 use Rattle.std.specs.List.{join_by, range_with_len}
-use Rattle.std.specs.Io.KnownBytes.{Appends}
-use Rattle.frames.specs.Frame.{TakesFrame}
+use Rattle.std.specs.Io.KnownBytes.{Appends, IsAtEnd}
+use Rattle.frames.specs.Frame.{TakesFrame, TakesHeader}
+use Rattle.frames.specs.declared.Frame.TheVariants.{Lent}
 use Rattle.frames.specs.declared.Lengths.{Lengths}
 use Rattle.sheet.specs.Load.{load}
 use Rattle.sheet.specs.Promise.{answer, scratch_after}
@@ -41,3 +42,9 @@ abbrev pub AnswersFrame : (input input' out out' : Option (List ℕ)) (S : List 
 AnswersFrame input input' out out' S =
     (lengths : Lengths) × (s : List ℕ) × (length s ≡ lengths.sheet) × (lengths.scratch ≤ length S) × TakesFrame input input' lengths s
     × Appends out out' (text_for s (take lengths.scratch S) lengths.types)
+
+-- none is left in the input, or the header that was taken asks for more bytes or cells than there are
+abbrev pub EndsFrames : (input input' : Option (List ℕ)) (bytes cells : ℕ) → Type 0
+EndsFrames input input' bytes cells =
+    IsAtEnd input'
+    ⊎ ((lengths : Lengths) × TakesHeader input input' (Lent lengths) × ((bytes < lengths.sheet) ⊎ (cells < lengths.scratch)))

@@ -2,11 +2,11 @@
 // number and place, or the number of lines and each line's word, depth and end.
 #![tactic(auto)]
 
-ghost use Rattle.std.specs.Prelude.{◌≡◌, IfOk, OnOk};
-ghost use Rattle.std.specs.Bool.{OnTrue};
-ghost use Rattle.std.specs.Io.KnownBytes.{Appends};
+ghost use Rattle.std.specs.Prelude.{◌≡◌, length, IfOk, OnOk};
+ghost use Rattle.std.specs.Bool.{OnFalse, OnTrue};
+ghost use Rattle.std.specs.Io.KnownBytes.{Appends, Keeps};
 ghost use Rattle.frames.specs.Frame.{TakesSheet};
-ghost use Rattle.replay_reader.specs.Written.{answer_of, AnswersFrame, depth_of, from_one_of, line_of, lines_of, text_for};
+ghost use Rattle.replay_reader.specs.Written.{answer_of, AnswersFrame, EndsFrames, depth_of, from_one_of, line_of, lines_of, text_for};
 
 use frames::Frame;
 use sheet::Answer;
@@ -88,6 +88,7 @@ fn one<R: Read, W: Write>(
     ensures taken { IfOk result (TakesSheet (R.remaining input.old) (R.remaining input.new) text.new) }
     ensures written { IfOk result (λ full. OnTrue full (Appends (W.contents out.old) (W.contents out.new)
         (text_for text.new scratch.old types))) }
+    ensures kept { IfOk result (λ full. OnFalse full (Keeps (W.contents out.old) (W.contents out.new))) }
 {
     if !frames::filled(input, text)? {
         return Ok(false);
@@ -103,8 +104,11 @@ fn turn<R: Read, W: Write>(
     text: &mut [u8],
     scratch: &mut [u16],
 ) -> io::Result<bool>
-    ensures { IfOk result (λ there. OnTrue there (AnswersFrame (R.remaining input.old) (R.remaining input.new)
+    ensures answered { IfOk result (λ there. OnTrue there (AnswersFrame (R.remaining input.old) (R.remaining input.new)
         (W.contents out.old) (W.contents out.new) scratch.old)) }
+    ensures ended { IfOk result (λ there. OnFalse there (EndsFrames (R.remaining input.old) (R.remaining input.new)
+        (length text.old) (length scratch.old))) }
+    ensures kept { IfOk result (λ there. OnFalse there (Keeps (W.contents out.old) (W.contents out.new))) }
 {
     let Frame::Lent(lent) = frames::header(input)? else {
         return Ok(false);
@@ -126,12 +130,15 @@ fn turn<R: Read, W: Write>(
     )
 }
 
+// How many sheets are answered at most.
+const MOST_SHEETS: u32 = 100000;
+
 fn main(rt: HostRuntime) -> io::Result<()> {
     let mut input = rt.stdin();
     let mut out = rt.stdout();
     let mut text = [0u8; 32768];
     let mut scratch = [0u16; 32768];
-    for _ in 0..100000 {
+    for _ in 0..MOST_SHEETS {
         if !turn(&mut input, &mut out, &mut text, &mut scratch)? {
             break;
         }

@@ -60,6 +60,7 @@ fn misshapen(sheet: &[u8]) -> u32
 }
 
 // The first of refusals 3 to 5 that holds for n lines, or 0; types and scratch are the lengths of what is lent.
+#[tactic(auto, using(std::proofs::lemmas::Bool::Decides::nat_tests), unfolding(crate::specs::Load::first_true))]
 fn too_many(n: usize, types: usize, scratch: usize) -> u32
     ensures { result ≡ first_true 3 (ltb most_lines n ∷ ltb types n ∷ ltb scratch (cells_per_line * n) ∷ []) }
 {

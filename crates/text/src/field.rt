@@ -37,6 +37,7 @@ fn all_plain(letters: bool, part: &[u8]) -> bool
     true
 }
 
+#[tactic(auto, using(std::proofs::lemmas::Bool::Decides::nat_tests))]
 fn is_plain(letters: bool, part: &[u8]) -> bool
     ensures { result ≡ is_plain letters part.now }
 {
