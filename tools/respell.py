@@ -155,8 +155,12 @@ def respelled(line, turned, comment):
         at = m.end()
     out.append(TOKEN.sub(turn, code[at:]))
     spoken = {a: b for a, b in turned.items() if re.search(r"[a-z][A-Z]", a)}
-    tail = TOKEN.sub(lambda t: spoken.get(t.group(0), t.group(0)), tail)
-    tail = re.sub(r"`([^`]*)`", lambda q: "`" + TOKEN.sub(lambda t: turned.get(t.group(0), t.group(0)), q.group(1)) + "`", tail)
+
+    def said(q):
+        names = turned if q.group(0).startswith("`") else spoken
+        return TOKEN.sub(lambda t: names.get(t.group(0), t.group(0)), q.group(0))
+
+    tail = re.sub(r"`[^`]*`|[^`]+", said, tail)
     return "".join(out) + mark + tail
 
 
