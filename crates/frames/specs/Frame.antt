@@ -1,5 +1,5 @@
 -- What a header says, and what reading it and its sheet does to the bytes of an input where those are known.
-use Rattle.std.specs.Prelude.{ℕ, Bool, true, false, List, length, slice_index, cond, ltb, ◌&&◌, ◌≡◌, ◌++◌, ◌+◌, ◌-◌, ◌*◌, ◌<◌, Option}
+use Rattle.std.specs.Prelude.{ℕ, Bool, true, false, List, length, take, slice_index, cond, ltb, ◌&&◌, ◌≡◌, ◌++◌, ◌+◌, ◌-◌, ◌*◌, ◌<◌, Option}
 use Rattle.std.specs.Io.KnownBytes.{Consumes, IsAtEnd}
 use Rattle.frames.specs.declared.Frame.{Frame}
 use Rattle.frames.specs.declared.Frame.TheVariants.{Lent, Over}
@@ -18,6 +18,7 @@ number_of head at =
     + digit_of (slice_index head (at + 3)) * 10
     + digit_of (slice_index head (at + 4))
 
+-- what the 24 bytes of a header say
 unfoldable pub lengths_of : List ℕ → Lengths
 lengths_of head = record {
   sheet = number_of head 0;
@@ -31,10 +32,10 @@ abbrev pub TakesHeader : (old new : Option (List ℕ)) → Frame → Type 0
 TakesHeader old new (Lent lengths) = (head : List ℕ) × (length head ≡ 24) × (lengths ≡ lengths_of head) × Consumes old new head
 TakesHeader old new Over = (part : List ℕ) × (length part < 24) × Consumes old new part × IsAtEnd new
 
--- the sheet was taken from the bytes, or there were fewer and none is left
+-- the sheet was taken from the bytes, or there were fewer, which it starts with, and none is left
 abbrev pub TakesSheet : (old new : Option (List ℕ)) → List ℕ → Bool → Type 0
 TakesSheet old new sheet true = Consumes old new sheet
-TakesSheet old new sheet false = (part : List ℕ) × (length part < length sheet) × Consumes old new part × IsAtEnd new
+TakesSheet old new sheet false = (n : ℕ) × (n < length sheet) × Consumes old new (take n sheet) × IsAtEnd new
 
 -- a header and the sheet behind it were taken from the bytes
 abbrev pub TakesFrame : (old new : Option (List ℕ)) → Lengths → List ℕ → Type 0

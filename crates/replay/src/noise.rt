@@ -18,6 +18,7 @@ pub fn before_noise(bytes: &[u8]) -> usize
     n
 }
 
+// The same of cells.
 pub fn before_noise_u16(cells: &[u16]) -> usize
     ensures upper_bound { result ≤ length cells.now }
     ensures value { result + suffix_len (λ c. c == CELL) cells.now ≡ length cells.now }

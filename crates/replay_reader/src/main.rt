@@ -50,7 +50,7 @@ fn write_lines<W: Write>(out: &mut W, text: &[u8], lines: &[u16], n: usize) -> i
     Ok(())
 }
 
-// The lines are those of a sheet that was read.
+// Where a sheet was read, the lines are its lines.
 fn write_loaded<W: Write>(out: &mut W, text: &[u8], lines: &[u16], answer: Answer) -> io::Result<()>
     ensures { OnOk result (Appends (W.contents out.old) (W.contents out.new) (answer_of text.now lines.now answer)) }
 {
@@ -97,7 +97,7 @@ fn one<R: Read, W: Write>(
     Ok(true)
 }
 
-// One sheet with its header; whether there was one.
+// One sheet with its header; whether it was answered.
 fn turn<R: Read, W: Write>(
     input: &mut R,
     out: &mut W,

@@ -1,5 +1,5 @@
 -- The line that is written for a sheet.
-use Rattle.std.specs.Prelude.{ℕ, List, Option, [], ◌∷◌, ◌++◌, ◌+◌, ◌*◌, ◌≤◌, length, take, cond, ltb, replicate, codes, decimal}
+use Rattle.std.specs.Prelude.{ℕ, List, Option, [], ◌++◌, ◌+◌, ◌*◌, ◌≤◌, length, take, cond, ltb, replicate, codes, decimal}
 use Rattle.std.specs.Io.KnownBytes.{Appends, Consumes, IsAtEnd}
 use Rattle.sheet.specs.Line.{most_bytes, most_lines}
 use Rattle.sheet.specs.Scratch.{cells_per_line}
@@ -9,12 +9,13 @@ use Rattle.verdict.specs.declared.Answer.{Answer}
 
 -- the n bytes of a message, behind a comma
 abbrev pub message_part : List ℕ → ℕ → List ℕ
-message_part m n = 44 ∷ take n m
+message_part m n = codes "," ++ take n m
 
 -- what comes behind number and place
 abbrev pub rest_of : Answer → List ℕ → List ℕ
 rest_of a m = cond (ltb 11 a.number) (message_part m a.length) []
 
+-- the line for an answer and the message in its buffer
 abbrev pub line_of : Answer → List ℕ → List ℕ
 line_of a m =
     cond (ltb 0 a.number)

@@ -7,8 +7,8 @@ use borrow.Rule.Slice.PartMut.{put_mid, post_of}
 use Rattle.frames.proofs.read_full.Goals as goal
 
 -- after a read of n bytes into what lies behind the first a
-take-filled : (a k n : ℕ) (xs ys : List ℕ) → a ≤ length xs → n ≤ length ys → take (a + n) (put_mid a k xs ys) ≡ take a xs ++ take n ys
-take-filled a k n xs ys within fits =
+take_filled : (a k n : ℕ) (xs ys : List ℕ) → a ≤ length xs → n ≤ length ys → take (a + n) (put_mid a k xs ys) ≡ take a xs ++ take n ys
+take_filled a k n xs ys within fits =
     let after = post_of a k xs in
     take-add a n (put_mid a k xs ys)
     ∙ ap (λ l. l ++ take n (drop a (put_mid a k xs ys))) (take-put_mid_below a k xs ys a (le_refl a) within)
@@ -19,6 +19,6 @@ pub loop-count-preserved : goal.loop-count-preserved
 loop-count-preserved g c = record {
   bound = search rules;
   consumed = subst (Consumes _ _)
-      (sym (take-filled _ _ _ _ _ c.loop-count.invariant.bound c.in_ok-n.ensures.bound.0))
+      (sym (take_filled _ _ _ _ _ c.loop-count.invariant.bound c.in_ok-n.ensures.bound.0))
       (Consumes-trans _ _ _ _ _ c.loop-count.invariant.consumed c.in_ok-n.ensures.bytes.0);
 }
