@@ -5,35 +5,27 @@ usage: python3 tools/respell.py [--look]     at the top of the repository; --loo
 
 A definition in camel case, as `valueFrom`, is `value_from`. In the name of a lemma a dash stays where names of two definitions
 meet, as in `length-copies`; elsewhere, and in members of records and data, it is `_`. A lemma that would have the name of a
-definition ends in `_lem`. Types, modules and constructors keep their names, as do all names of Rattle source: functions,
-constants, fields and variants, what is exported to C, texts and inputs. Names of the library and those that the prover
-makes are not touched.
+definition ends in `_lem`. Types and modules keep their names, as do constructors in camel case, which are variants of the
+Rust, and all names of Rattle source: functions, constants, fields and variants, what is exported to C, texts and inputs.
+Names of the library and those that the prover makes are not touched.
 """
 
 import os
 import re
 import sys
 
-HEAD = re.compile(r"^(\s*)((?:(?:abbrev|unfoldable|pub|mutual) )*)([^\s:(){}\[\].,;\"@|]+) :(?!=)(?: |$)")
+HEAD = re.compile(r"^(\s*)((?:(?:abbrev|unfoldable|pub) )*)([^\s:(){}\[\].,;\"@|]+) :(?!=)(?: |$)")
 NAMED = re.compile(r"^\s*(?:(?:abbrev|unfoldable|pub) )*(?:data|record|ruleset)(?: pub)? ([^\s:(){}\[\].,;\"@|]+)")
 TOKEN = re.compile(r"[^\s(){}\[\].,;:\"@|`⌜⌝]+")
 STRING = re.compile(r'"(?:[^"\\]|\\.)*"')
 # words of the library that lemmas' names are made of
 WORDS = set("length append take drop map cond replicate sum reverse set get_or".split())
 # definitions whose names are everyday words, which a lemma's name has as such
-PLAIN = set("all any none at one".split())
-# definitions that proofs/ makes for itself, which were in camel case
-OWN = set(
-    """
-    all_exprs all_pairs arg_of_kind arity_by asset_of bind_res body_pairs bound_r bytes_upto calls_in caps_any cells_of dot_types
-    ends_behind entries_of entry_in event_in event_name exprs_in field_in fourteen_more in_body in_clauses in_fields in_first in_items
-    item_exprs item_pairs items_of last_put leaf_at left_uses literal_rule map_told method_types name_of name_rule of_literal of_slot
-    one_key out_at out_of outs_at param_ty parts_of places_from plain_tags setting_of starts_any target_in terms_any terms_of
-    type_most unbounded_in values_in with_env words_in wrap_rule
-    """.split()
-)
+PLAIN = set("all any at one".split())
+# definitions that proofs/ makes for itself, of which a lemma has the name but for a dash
+OWN = set("arity_by bind_res leaf_at parts_of".split())
 # names that the prover reads in a function's folder, and names of operators
-KEPT = re.compile(r"^[^A-Za-z]|^(?:returns|loop|invariant|decreases)(?:-|$)|◌|^[A-Z]")
+KEPT = re.compile(r"^[^A-Za-z]|^(?:returns|loop|invariant|decreases)(?:-|$)|^[A-Z]")
 
 
 def snake(name):
@@ -54,8 +46,8 @@ def pages(root):
             yield os.path.join(root, "docs", n)
 
 
-def own_room(path, root):
-    """Whether a file declares names that others cite: specs/, and the files of proofs/ itself."""
+def shared_file(path, root):
+    """Whether other files cite what the file declares: those of specs/, and those of proofs/ itself."""
     parts = os.path.relpath(path, root).split(os.sep)
     return path.endswith(".antt") and len(parts) >= 4 and (parts[2] == "specs" or (parts[2] == "proofs" and len(parts) == 4))
 
@@ -64,7 +56,7 @@ def declared(root):
     """The definitions of specs/, the names that proofs/ declares, and the members of records and data."""
     specs, proofs, members = set(), set(), set()
     for path in files(root):
-        if not own_room(path, root):
+        if not shared_file(path, root):
             continue
         into = specs if os.sep + "specs" + os.sep in path else proofs
         inside = None
@@ -78,17 +70,16 @@ def declared(root):
             m = NAMED.match(line)
             if m:
                 into.add(m.group(1))
-                if not re.match(r"\s*(?:(?:abbrev|unfoldable|pub) )*ruleset", line):
-                    inside = indent
+                inside = indent
                 continue
             m = HEAD.match(line)
-            if m and m.group(3) not in ("where", "in", "→"):
+            if m:
                 (into if inside is None else members).add(m.group(3))
     return specs, proofs, members
 
 
-def spoken(root):
-    """Names in camel case that no line declares: fields, variables, and names after `as`."""
+def camel_case(root):
+    """All names in camel case, also those that no line declares: variables, and names after `as`."""
     found = set()
     for path in files(root):
         if path.endswith((".antt", ".rt")):
@@ -134,10 +125,8 @@ def table(root):
     return turned
 
 
-def respelled(line, turned, comment):
-    """The line with its names turned; text in quotes stays. After the comment sign only camel case and names in back quotes are turned."""
-    out, at = [], 0
-    code, mark, tail = line, "", ""
+def respelled(line, turned, camel):
+    """The line of a proof file with its names turned; text in quotes stays. In a comment names in camel case and in back quotes are turned."""
 
     def turn(t):
         new = turned.get(t.group(0), t.group(0))
@@ -146,28 +135,29 @@ def respelled(line, turned, comment):
             return t.group(0)
         return new
 
-    i = line.find(comment)
-    if i >= 0 and line[:i].count('"') % 2 == 0:
-        code, mark, tail = line[:i], comment, line[i + len(comment):]
-    for m in STRING.finditer(code):
-        out.append(TOKEN.sub(turn, code[at:m.start()]))
-        out.append(m.group(0))
+    i = line.find("--")
+    if i < 0 or line[:i].count('"') % 2:
+        i = len(line)
+    out, at = [], 0
+    for m in STRING.finditer(line[:i]):
+        out += [TOKEN.sub(turn, line[at:m.start()]), m.group(0)]
         at = m.end()
-    out.append(TOKEN.sub(turn, code[at:]))
-    spoken = {a: b for a, b in turned.items() if re.search(r"[a-z][A-Z]", a)}
+    return "".join([*out, TOKEN.sub(turn, line[at:i]), said(line[i:], turned, camel)])
 
-    def said(q):
-        names = turned if q.group(0).startswith("`") else spoken
+
+def said(text, turned, camel):
+    """A comment or a line of a page, where names in camel case and in back quotes are turned."""
+
+    def turn(q):
+        names = turned if q.group(0).startswith("`") else camel
         return TOKEN.sub(lambda t: names.get(t.group(0), t.group(0)), q.group(0))
 
-    tail = re.sub(r"`[^`]*`|[^`]+", said, tail)
-    return "".join(out) + mark + tail
+    return re.sub(r"`[^`]*`|[^`]+", turn, text)
 
 
-def clause_only(line, turned):
-    """Of Rattle source: only names in camel case, which no code has, and lemmas of a tactic's list."""
-    spoken = {a: b for a, b in turned.items() if re.search(r"[a-z][A-Z]", a)}
-    return TOKEN.sub(lambda t: spoken.get(t.group(0), t.group(0)), line)
+def of_source(line, turned, camel):
+    """A line of Rattle source: only names in camel case, which no code has."""
+    return TOKEN.sub(lambda t: camel.get(t.group(0), t.group(0)), line)
 
 
 # Lemmas that have the name of a definition which their files do not see: the file, and the name as port.py leaves it
@@ -203,46 +193,39 @@ def alone(root):
                     f.write(new)
 
 
+def way(path, text):
+    """How a file's lines are turned."""
+    if path.endswith(".md"):
+        return said
+    source = path.endswith(".rt") or (path.endswith(".edit") and ".rt" in text.split("\n", 1)[0])
+    return of_source if source else respelled
+
+
 def main(argv):
     root = os.getcwd()
+    look = "--look" in argv
     turned = table(root)
-    for n in spoken(root):
+    for n in camel_case(root):
         turned.setdefault(n, snake(n))
-    both = {}
+    camel = {a: b for a, b in turned.items() if re.search(r"[a-z][A-Z]", a)}
     changed = 0
     for path in [*files(root), *pages(root)]:
         if not path.endswith((".antt", ".rt", ".edit", ".md")):
             continue
         text = open(path, encoding="utf-8").read()
-        kind = path.rsplit(".", 1)[1]
-        where = text.split("\n", 1)[0] if kind == "edit" else ""
-        code = kind == "rt" or ".rt" in where
-        if kind == "md":
-            lines = [respelled("--" + l, turned, "--")[2:] for l in text.split("\n")]
-        else:
-            lines = [clause_only(l, turned) if code else respelled(l, turned, "--") for l in text.split("\n")]
-        new = "\n".join(lines)
-        if kind == "antt":
-            seen = {}
-            for t in set(TOKEN.findall(text)):
-                seen.setdefault(turned.get(t, t), set()).add(t)
-            for n, olds in seen.items():
-                if len(olds) > 1:
-                    both.setdefault(n, {}).setdefault(tuple(sorted(olds)), []).append(os.path.relpath(path, root))
+        turn = way(path, text)
+        new = "\n".join(turn(line, turned, camel) for line in text.split("\n"))
         if new != text:
             changed += 1
-            if "--look" not in argv:
+            if not look:
                 with open(path, "w", encoding="utf-8") as f:
                     f.write(new)
-    if "--look" not in argv:
+    if not look:
         alone(root)
-    for n in sorted(both):
-        for olds, where in both[n].items():
-            print("together:", n, olds, " ".join(where[:4]))
     print(f"{len(turned)} names, {changed} files")
-    if "--look" in argv:
+    if look:
         for a in sorted(turned):
-            print("turn:", a, turned[a])
+            print(a, turned[a])
     return 0
 
 
