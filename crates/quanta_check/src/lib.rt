@@ -1,4 +1,4 @@
-// The calls for C and Rust: a slice is a pointer and a length there, and an answer comes back by value.
+// The calls for other languages; `quanta_check_c` exports them.
 #![tactic(auto)]
 
 mod load;
@@ -11,8 +11,7 @@ pub use load::{Load, quanta_load};
 use verdict::Answer;
 
 // The verdict call.
-#[unsafe(no_mangle)]
-pub extern "C" fn quanta_check(
+pub fn quanta_check(
     sheet: &[u8],
     scratch: &mut [u16],
     types: &mut [u8],

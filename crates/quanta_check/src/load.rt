@@ -16,8 +16,7 @@ pub struct Load {
 }
 
 #[tactic(auto, unfolding(crate::specs::Export::load_of))]
-#[unsafe(no_mangle)]
-pub extern "C" fn quanta_load(sheet: &[u8], scratch: &mut [u16], types: usize) -> Load
+pub fn quanta_load(sheet: &[u8], scratch: &mut [u16], types: usize) -> Load
     ensures value { result ≡ load_of (answer (load sheet.now types (length scratch.old))) }
     ensures scratch_after { scratch.new ≡ scratch_after sheet.now types scratch.old }
 {
