@@ -1,9 +1,9 @@
-//! Links libquanta_check.a, which `rt lib` writes in crates/quanta_check.
+//! Links libquanta_check.a, which `scripts/library` writes.
 
 use std::env;
 use std::path::PathBuf;
 
-const DEFAULT_FOLDER: &str = "../crates/quanta_check/out";
+const DEFAULT_FOLDER: &str = "../target/staticlib";
 
 fn main() {
     println!("cargo:rerun-if-env-changed=QUANTA_CHECK_LIB");
@@ -13,7 +13,7 @@ fn main() {
     let library = folder.join("libquanta_check.a");
     assert!(
         library.is_file(),
-        "{} isn't there.\nWrite it by `rt lib` in crates/quanta_check, or set QUANTA_CHECK_LIB to its folder.",
+        "{} isn't there.\nWrite it by `scripts/library`, or set QUANTA_CHECK_LIB to its folder.",
         library.display(),
     );
     println!("cargo:rerun-if-changed={}", library.display());
