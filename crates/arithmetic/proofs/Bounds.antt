@@ -4,7 +4,7 @@ use mathlib.Core.Path.{◌≡◌, refl, sym, ap, ◌∙◌}
 use mathlib.Core.List.{List, map}
 use mathlib.Core.Bool.{Bool, true, false, not, ◌&&◌, ◌||◌}
 use mathlib.Core.Option
-use mathlib.Core.Option.{Option, none, some}
+use mathlib.Core.Option.{Option as Maybe, none, some}
 use Prim.Native.Nat.{ℕ, suc, ◌+◌, ◌<◌}
 use native.Mathlib.Numerals.{add-one}
 use native.Mathlib.Omega.{arith}
@@ -12,6 +12,7 @@ use mir.Syntax.{w64}
 use mir.Val.{Fits}
 use lib.ListN.{length}
 use borrow.Author.Tests.{eq-eqb, ne_eqb, not-true, not-false}
+use Rattle.std.specs.Prelude.{Option, Some, None, is_some as found}
 use Rattle.text.specs.Text.{bytes, same}
 use Rattle.grammar.specs.Grammar as grammar
 use Rattle.sheet.specs.Scratch.{kind_at, name_at, param_count}
@@ -29,8 +30,6 @@ use Rattle.rules.proofs.Standing.{row_first}
 use Rattle.rules.proofs.Records.{param_at_lem}
 use Rattle.lookups.specs.Found.{found_node, Stretch, Last, of_kind}
 use Rattle.lookups.specs.Lines.{TypeAt, EntryAt, ExprAt, RecordAt}
-use Rattle.lookups.specs.declared.model.Found.{Found}
-use Rattle.lookups.specs.declared.model.Found.TheVariants.{At, Nothing}
 use Rattle.lookups.proofs.Fields.{last_map, all_kind, param-name}
 use Rattle.lookups.proofs.Finding.{among_last}
 use Rattle.lookups.proofs.Types.{named_word}
@@ -49,7 +48,7 @@ both_yes false b e = refl
 
 -- ------------------------------------------------------------ is_param
 
-some_map : {A B : Type 0} (f : A → B) (o : Option A) → is_some (Option.map f o) ≡ is_some o
+some_map : {A B : Type 0} (f : A → B) (o : Maybe A) → is_some (Option.map f o) ≡ is_some o
 unfolding is_some
 some_map f none = refl
 some_map f (some a) = refl
@@ -61,8 +60,8 @@ typed_names x ps =
     rw (get, last_map {B = Name × Ty} (λ p. (p.name, ty_of_decl p.ty)) (λ e. e.0) (λ p. p.name) x (λ p. refl) ps)
     (by_cases (last_named (λ p. p.name) x ps) ∙ sym (among_last (λ p. p.name) x ps))
   where
-    by_cases : (o : Option Param)
-        → is_some {A = Ty} (elim (Option.map {B = Name × Ty} (λ p. (p.name, ty_of_decl p.ty)) o) as (λ _. Option Ty) [ none ↦ none | some e ↦ some e.1 ]) ≡ is_some o
+    by_cases : (o : Maybe Param)
+        → is_some {A = Ty} (elim (Option.map {B = Name × Ty} (λ p. (p.name, ty_of_decl p.ty)) o) as (λ _. Maybe Ty) [ none ↦ none | some e ↦ some e.1 ]) ≡ is_some o
     by_cases none = refl
     by_cases (some p) = refl
 
@@ -71,7 +70,7 @@ module _ (s S : List ℕ) (i m : ℕ) (h : EntryAt s S i) (c : m ≡ param_count
   pub params_stretch : Stretch s S m (i + 1)
   params_stretch = rw (c, add-one i) (record { loaded = h.loaded; sort = grammar.Param; row = (parts_of_lem s S i h).params })
 
-  module _ (x : Name) (r : Found) (l : Last s S kinds.param x m (i + 1) r) where
+  module _ (x : Name) (r : Option ℕ) (l : Last s S kinds.param x m (i + 1) r) where
     by_search : among x (names (entry_at s i).params) ≡ is_some (found_node s r)
     unfolding params_at
     by_search =
@@ -84,13 +83,13 @@ module _ (s S : List ℕ) (i m : ℕ) (h : EntryAt s S i) (c : m ≡ param_count
         ∙ some_map param_of (last_named node_name x ns)
         ∙ rw (l.found, c, add-one i, all) refl)
 
-    pub a_param : (j : ℕ) → r ≡ At j → true ≡ among x (names (entry_at s i).params)
+    pub a_param : (b : Bool) → b ≡ found r → b ≡ among x (names (entry_at s i).params)
     unfolding is_some found_node
-    a_param j e = sym (by_search ∙ rw e refl)
-
-    pub no_param : r ≡ Nothing → false ≡ among x (names (entry_at s i).params)
-    unfolding is_some found_node
-    no_param e = sym (by_search ∙ rw e refl)
+    a_param b e = sym (by_search ∙ by_cases r ∙ sym e)
+      where
+        by_cases : (r : Option ℕ) → is_some (found_node s r) ≡ found r
+        by_cases (Some j) = refl
+        by_cases None = refl
 
 -- ------------------------------------------------------------ is_asset
 

@@ -11,6 +11,7 @@ use mir.Syntax.{w64}
 use mir.Val.{Fits}
 use lib.ListN.{length, get_or}
 use borrow.Author.Tests.{eq-eqb, ne_eqb, not-true, not-false}
+use Rattle.std.specs.Prelude.{Result, Ok, Err}
 use Rattle.grammar.specs.Grammar as grammar
 use Rattle.sheet.specs.Scratch.{kind_at, op_at, name_at, end_at, skip, clause_count, param_count, body_count}
 use Rattle.rules.specs.Text.{Name, among, get}
@@ -26,10 +27,9 @@ use Rattle.rules.proofs.Standing.{row_first, row_rest}
 use Rattle.rules.proofs.Records.{named, guard_at, let_at, emit_at, assign_at, do_at}
 use Rattle.refusals.specs.Answers.{Answers}
 use Rattle.lookups.specs.Lines.{EntryAt, ExprAt, RecordAt}
+use Rattle.sheet.specs.declared.records.Records.{Records}
 use Rattle.refusals.specs.Refusal.{refusal_of, done_of}
 use Rattle.refusals.specs.declared.refusal.Refusal.TheVariants.{Overflow}
-use Rattle.refusals.specs.declared.refusal.Done.{Done}
-use Rattle.refusals.specs.declared.refusal.Done.TheVariants.{Fine, Refused}
 use Rattle.lookups.proofs.Rows.{Turn}
 use Rattle.refusals.proofs.Answers.{gives, fits, misfits}
 use Rattle.arithmetic.specs.Tests.{names, added, adds_unbounded}
@@ -37,6 +37,7 @@ use Rattle.arithmetic.proofs.Ops.{fits_next}
 use Rattle.arithmetic.proofs.Rows.{parts_of_lem}
 use Rattle.arithmetic.proofs.Bounds.{typed_names}
 use Rattle.grammar.specs.Kinds as kinds
+use Rattle.refusals.specs.declared.refusal.Refusal.{Refusal}
 
 -- ------------------------------------------------------------ an assignment
 
@@ -96,13 +97,13 @@ module _ (s S : List ℕ) (i k : ℕ) (h : RecordAt grammar.Stmt s S i) (e : k �
 
 -- What `check_sum` meets: such a statement.
 module _ (s S : List ℕ) (E : Entry) (i k : ℕ) (h : RecordAt grammar.Stmt s S i) (e : k ≡ kind_at S i) where
-  abbrev Judged : Done → Type 0
+  abbrev Judged : Result Unit Refusal → Type 0
   Judged r = Answers (check_sum E (param_types E.params) (stmt_at s i)) (done_of s r)
 
-  pub other_stmt : k ≢ kinds.assign → Answers (check_sum E (param_types E.params) (stmt_at s i)) (done_of s Fine)
+  pub other_stmt : k ≢ kinds.assign → Answers (check_sum E (param_types E.params) (stmt_at s i)) (done_of s (Ok tt))
   unfolding check_sum done_of
   other_stmt n =
-      pick {P = λ k. k ≢ kinds.assign → kind_at S i ≡ k → Judged Fine} {i = kinds.guard} {n = 5} (kind_at S i)
+      pick {P = λ k. k ≢ kinds.assign → kind_at S i ≡ k → Judged (Ok tt)} {i = kinds.guard} {n = 5} (kind_at S i)
       ((λ _ q. rw (guard_at h.loaded h.here q).0 (gives tt))
       also (λ _ q. rw (let_at h.loaded h.here q).0 (gives tt))
       also (λ _ q. rw (emit_at h.loaded h.here q).0 (gives tt))
@@ -130,7 +131,7 @@ module _ (s S : List ℕ) (E : Entry) (i k : ℕ) (h : RecordAt grammar.Stmt s S
         rw ((assign_at h.loaded h.here (sym e ∙ q)).0, ← add-one i) (by_judge E (param_types E.params) (place_at s i) op T W r (rw f a))
 
     module _ (l : ℕ) (t : l ≡ kind_at S (i + 1)) where
-      pub no_bare : l ≢ kinds.id → Answers (check_sum E (param_types E.params) (stmt_at s i)) (done_of s Fine)
+      pub no_bare : l ≢ kinds.id → Answers (check_sum E (param_types E.params) (stmt_at s i)) (done_of s (Ok tt))
       unfolding done_of
       no_bare n =
           the_sum none (ok tt) (ident_at target.loaded target.here ∙ rw (← t, ne_eqb l kinds.id n) refl)
@@ -143,30 +144,30 @@ module _ (s S : List ℕ) (E : Entry) (i k : ℕ) (h : RecordAt grammar.Stmt s S
         adds : added E (terms_of op T W) ≡ b
         adds = sym (a ∙ rw (f, g) (is-added E op T W))
 
-        fine : ((is_some (get (name_at s S (i + 1)) (param_types E.params)) || not b) || limits_bound E (name_at s S (i + 1))) ≡ true → Judged Fine
+        fine : ((is_some (get (name_at s S (i + 1)) (param_types E.params)) || not b) || limits_bound E (name_at s S (i + 1))) ≡ true → Judged (Ok tt)
         unfolding done_of
         fine m =
             the_sum (some (name_at s S (i + 1))) (ok tt) the_name
             (judge_fine E (param_types E.params) (place_at s i) (name_at s S (i + 1)) (terms_of op T W) (rw adds m))
 
-        pub adds_fine : not b ≡ true → Answers (check_sum E (param_types E.params) (stmt_at s i)) (done_of s Fine)
+        pub adds_fine : not b ≡ true → Answers (check_sum E (param_types E.params) (stmt_at s i)) (done_of s (Ok tt))
         adds_fine n = fine (rw (not-true b n, or_true) refl)
 
         module _ (n : not b ≡ false) (x : Name) (u : x ≡ name_at s S (i + 1)) (p : Bool) (v : p ≡ among x (names E.params)) where
           is-param : is_some (get (name_at s S (i + 1)) (param_types E.params)) ≡ p
           is-param = typed_names (name_at s S (i + 1)) E.params ∙ rw (← u) (sym v)
 
-          pub param_fine : p ≡ true → Answers (check_sum E (param_types E.params) (stmt_at s i)) (done_of s Fine)
+          pub param_fine : p ≡ true → Answers (check_sum E (param_types E.params) (stmt_at s i)) (done_of s (Ok tt))
           param_fine c = fine (rw (is-param, c) refl)
 
           module _ (c : p ≡ false) (m : Bool) (z : m ≡ limits_bound E x) where
             is_bound : limits_bound E (name_at s S (i + 1)) ≡ m
             is_bound = rw (← u) (sym z)
 
-            pub limits_fine : m ≡ true → Answers (check_sum E (param_types E.params) (stmt_at s i)) (done_of s Fine)
+            pub limits_fine : m ≡ true → Answers (check_sum E (param_types E.params) (stmt_at s i)) (done_of s (Ok tt))
             limits_fine d = fine (rw (is_bound, d) (or_true (is_some (get (name_at s S (i + 1)) (param_types E.params)) || not b)))
 
-            pub overflow : m ≡ false → Answers (check_sum E (param_types E.params) (stmt_at s i)) (done_of s (Refused (Overflow i)))
+            pub overflow : m ≡ false → Answers (check_sum E (param_types E.params) (stmt_at s i)) (done_of s (Err (Overflow i)))
             unfolding done_of refusal_of
             overflow d =
                 rw (← add-one i, named target.loaded target.here.within)
@@ -175,10 +176,17 @@ module _ (s S : List ℕ) (E : Entry) (i k : ℕ) (h : RecordAt grammar.Stmt s S
 
 -- ------------------------------------------------------------ check_arithmetic
 
-pub sums_start : (s S : List ℕ) (i left at : ℕ) → EntryAt s S i → at ≡ skip S (clause_count S i) (skip S (param_count S i) (suc i)) → left ≡ body_count S i
-    → Turn grammar.Stmt stmts_at (check_sum (entry_at s i) (param_types (entry_at s i).params)) (check_arithmetic (entry_at s i) (param_types (entry_at s i).params)) s S left at
+pub sums_start : (s S : List ℕ) (i : ℕ) (r : Records) → EntryAt s S i → r.lines.now ≡ S → r.at ≡ skip S (clause_count S i) (skip S (param_count S i) (suc i)) → r.left ≡ body_count S i
+    → Turn grammar.Stmt stmts_at (check_sum (entry_at s i) (param_types (entry_at s i).params)) (check_arithmetic (entry_at s i) (param_types (entry_at s i).params)) s S r
 unfolding check_arithmetic
-sums_start s S i left at h e l =
+sums_start s S i r h l e m =
     let q = parts_of_lem s S i h in
-    let b : (entry_at s i).body ≡ stmts_at s left at = rw (q.is, e, l) refl in
-    record { loaded = h.loaded; row = rw (e, l) q.body; known = λ r a. subst (λ ss. Answers (for_each ss (check_sum (entry_at s i) (param_types (entry_at s i).params))) (done_of s r)) (sym b) a }
+    let b : (entry_at s i).body ≡ stmts_at s r.left r.at = rw (q.is, e, m) refl in
+    record {
+      lines = l;
+      walk = record {
+        loaded = h.loaded;
+        row = rw (e, m) q.body;
+        known = λ d a. subst (λ ss. Answers (for_each ss (check_sum (entry_at s i) (param_types (entry_at s i).params))) (done_of s d)) (sym b) a;
+      };
+    }

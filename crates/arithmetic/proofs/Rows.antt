@@ -3,7 +3,7 @@ use mathlib.Core.Logic.{◌≢◌}
 use mathlib.Core.Path.{◌≡◌, refl, sym, ◌∙◌}
 use mathlib.Core.List.{List}
 use mathlib.Core.Bool.{Bool, true, false, ◌&&◌}
-use Prim.Native.Nat.{ℕ, suc, ◌+◌, ◌-◌, ◌<◌}
+use Prim.Native.Nat.{ℕ, suc, ◌+◌, ◌<◌}
 use native.Mathlib.Numerals.{add-one}
 use mir.Syntax.{w64}
 use mir.Val.{Fits}
@@ -12,14 +12,16 @@ use lib.ListN.{length}
 use borrow.Author.Tests.{eq-eqb, ne_eqb}
 use Rattle.text.specs.Text.{same}
 use Rattle.grammar.specs.Grammar as grammar
-use Rattle.sheet.specs.Scratch.{kind_at, end_at, skip, param_count, clause_count, body_count}
+use Rattle.sheet.specs.Scratch.{kind_at, skip, param_count, clause_count, body_count}
+use Rattle.sheet.specs.Records.{Steps}
+use Rattle.sheet.specs.declared.records.Records.{Records}
 use Rattle.rules.specs.Text.{Name, among}
 use Rattle.rules.specs.Ast.{Param, Clause}
 use Rattle.rules.specs.Model.{is_asset_param}
 use Rattle.rules.specs.Arithmetic.{any, limits_cap, limits_bound, is_mints, asset_params}
 use Rattle.rules.specs.Standing.{clause_at, clauses_at, params_at, entry_at, Loaded, Here}
 use Rattle.rules.proofs.Parts.{stop, ◌also◌, pick}
-use Rattle.rules.proofs.Rows.{clauses, row_here, Seeking, seek_found, seek_next, among_any}
+use Rattle.rules.proofs.Rows.{clauses, iter_here, Seeking, seek_found, seek_next, among_any}
 use Rattle.rules.proofs.Records.{EntryParts, entry_at_lem, limits_at, denies_at, mints_at, after_at}
 use Rattle.lookups.specs.Lines.{EntryAt}
 use Rattle.arithmetic.proofs.Ops.{fits_next}
@@ -34,23 +36,23 @@ entry_next s S i h l = fits_next S i h.within l
 
 -- ------------------------------------------------------------ clauses
 
-abbrev pub Clauses : (s S : List ℕ) → (Clause → Bool) → Bool → ℕ → ℕ → Type 0
-Clauses s S p whole left at = Seeking grammar.Clause clauses_at p whole s S left at
+abbrev pub Clauses : (s S : List ℕ) → (Clause → Bool) → Bool → Records → Type 0
+Clauses s S p whole r = Seeking grammar.Clause clauses_at p whole s S r
 
 -- those of an entry
-clauses_from : (s S : List ℕ) (i : ℕ) (p : Clause → Bool) (left at : ℕ) → EntryAt s S i → at ≡ skip S (param_count S i) (suc i) → left ≡ clause_count S i
-    → Clauses s S p (any p (entry_at s i).clauses) left at
-clauses_from s S i p left at h e f =
-    let q = parts_of_lem s S i h in rw (e, f) (record { loaded = h.loaded; row = q.clauses; known = rw q.is refl })
+clauses_from : (s S : List ℕ) (i : ℕ) (p : Clause → Bool) (r : Records) → EntryAt s S i → r.lines.now ≡ S → r.at ≡ skip S (param_count S i) (suc i) → r.left ≡ clause_count S i
+    → Clauses s S p (any p (entry_at s i).clauses) r
+clauses_from s S i p r h l e f =
+    let q = parts_of_lem s S i h in record { lines = l; walk = rw (e, f) (record { loaded = h.loaded; row = q.clauses; known = rw q.is refl }) }
 
-pub limits_start : (s S : List ℕ) (i left at : ℕ) (x : Name) → EntryAt s S i → at ≡ skip S (param_count S i) (suc i) → left ≡ clause_count S i
-    → Clauses s S (limits_cap x) (limits_bound (entry_at s i) x) left at
+pub limits_start : (s S : List ℕ) (i : ℕ) (x : Name) (r : Records) → EntryAt s S i → r.lines.now ≡ S → r.at ≡ skip S (param_count S i) (suc i) → r.left ≡ clause_count S i
+    → Clauses s S (limits_cap x) (limits_bound (entry_at s i) x) r
 unfolding limits_bound
-limits_start s S i left at x h e f = clauses_from s S i (limits_cap x) left at h e f
+limits_start s S i x r h l e f = clauses_from s S i (limits_cap x) r h l e f
 
-pub mints_start : (s S : List ℕ) (i left at : ℕ) → EntryAt s S i → at ≡ skip S (param_count S i) (suc i) → left ≡ clause_count S i
-    → Clauses s S is_mints (any is_mints (entry_at s i).clauses) left at
-mints_start s S i left at h e f = clauses_from s S i is_mints left at h e f
+pub mints_start : (s S : List ℕ) (i : ℕ) (r : Records) → EntryAt s S i → r.lines.now ≡ S → r.at ≡ skip S (param_count S i) (suc i) → r.left ≡ clause_count S i
+    → Clauses s S is_mints (any is_mints (entry_at s i).clauses) r
+mints_start s S i r h l e f = clauses_from s S i is_mints r h l e f
 
 -- a clause by its kind
 module _ {s S : List ℕ} (d : Loaded s S) {i : ℕ} (h : Here S grammar.Clause i) where
@@ -68,15 +70,15 @@ module _ {s S : List ℕ} (d : Loaded s S) {i : ℕ} (h : Here S grammar.Clause 
       ((λ y e. absurd (y refl)) also (λ y e. rw (denies_at d h e).0 refl) also (λ y e. rw (mints_at d h e).0 refl) also (λ y e. rw (after_at d h e).0 refl) also stop)
       h.kind.0 h.kind.1 n refl
 
-module _ (s S : List ℕ) (whole : Bool) (left at : ℕ) (g : Clauses s S is_mints whole left at) (h : 0 < left) (k : ℕ) (e : k ≡ kind_at S at) where
-  by_clause : (b : Bool) → eqb k kinds.mints ≡ b → b ≡ is_mints (clause_at s at)
-  by_clause b q = sym (is_mints_lem g.loaded (row_here g h) ∙ rw (← e) q)
+module _ (s S : List ℕ) (whole : Bool) (r t : Records) (i : ℕ) (g : Clauses s S is_mints whole r) (h : Steps r i t) (k : ℕ) (e : k ≡ kind_at S i) where
+  by_clause : (b : Bool) → eqb k kinds.mints ≡ b → b ≡ is_mints (clause_at s i)
+  by_clause b q = sym (is_mints_lem g.walk.loaded (iter_here h g) ∙ rw (← e) q)
 
   pub mints_found : k ≡ kinds.mints → true ≡ whole
-  mints_found q = seek_found grammar.Clause clauses_at s S is_mints whole left at g clause_at clauses h true (by_clause true (eq-eqb k kinds.mints q)) refl
+  mints_found q = seek_found grammar.Clause clauses_at s S is_mints whole r g clause_at clauses i t h true (by_clause true (eq-eqb k kinds.mints q)) refl
 
-  pub mints_next : (at' : ℕ) → k ≢ kinds.mints → at' ≡ end_at S at → Clauses s S is_mints whole (left - 1) at'
-  mints_next at' q f = seek_next grammar.Clause clauses_at s S is_mints whole left at g clause_at clauses h false (by_clause false (ne_eqb k kinds.mints q)) at' refl f
+  pub mints_next : k ≢ kinds.mints → Clauses s S is_mints whole t
+  mints_next q = seek_next grammar.Clause clauses_at s S is_mints whole r g clause_at clauses i t h false (by_clause false (ne_eqb k kinds.mints q)) refl
 
 -- ------------------------------------------------------------ parameters
 
@@ -84,17 +86,20 @@ module _ (s S : List ℕ) (whole : Bool) (left at : ℕ) (g : Clauses s S is_min
 abbrev pub asset_of : Name → Param → Bool
 asset_of x p = is_asset_param p && same x p.name
 
-abbrev pub Params : (s S : List ℕ) → Name → Bool → ℕ → ℕ → Type 0
-Params s S x whole left at = Seeking grammar.Param params_at (asset_of x) whole s S left at
+abbrev pub Params : (s S : List ℕ) → Name → Bool → Records → Type 0
+Params s S x whole r = Seeking grammar.Param params_at (asset_of x) whole s S r
 
-pub assets_start : (s S : List ℕ) (i left at : ℕ) (x : Name) → EntryAt s S i → left ≡ param_count S i → at ≡ i + 1
-    → Params s S x (among x (asset_params (entry_at s i).params)) left at
+pub assets_start : (s S : List ℕ) (i : ℕ) (x : Name) (r : Records) → EntryAt s S i → r.lines.now ≡ S → r.at ≡ i + 1 → r.left ≡ param_count S i
+    → Params s S x (among x (asset_params (entry_at s i).params)) r
 unfolding asset_params
-assets_start s S i left at x h e f =
+assets_start s S i x r h l e f =
     let q = parts_of_lem s S i h in
-    rw (e, f, add-one i)
-    (record {
-      loaded = h.loaded;
-      row = q.params;
-      known = rw q.is (among_any is_asset_param (λ p. p.name) asset_params refl (λ p ps. refl) x (params_at s (param_count S i) (suc i)));
-    })
+    record {
+      lines = l;
+      walk = rw (e, f, add-one i)
+          (record {
+            loaded = h.loaded;
+            row = q.params;
+            known = rw q.is (among_any is_asset_param (λ p. p.name) asset_params refl (λ p ps. refl) x (params_at s (param_count S i) (suc i)));
+          });
+    }

@@ -13,32 +13,33 @@ ghost use Rattle.grammar.specs.Kinds as kinds;
 use crate::lines::{acknowledged, is_op};
 use grammar::{kinds, ops};
 use lookups::clauses_line;
-use sheet::{clause_count, end, kind, name, op};
+use sheet::{LoadedSheet, clause_count};
 use text::is_word;
 
 // Whether line i is the bare name x.
-fn is_named(sheet: &[u8], lines: &[u16], i: usize, x: &[u8]) -> bool
-    ensures { result ≡ (eqb (kind_at lines.now i) kinds.id && same (name_at sheet.now lines.now i) x.now) }
+fn is_named(sheet: &LoadedSheet<'_>, i: usize, x: &[u8]) -> bool
+    ensures { result ≡ (eqb (kind_at sheet.now.lines.now i) kinds.id && same (name_at sheet.now.bytes.now sheet.now.lines.now i) x.now) }
 {
-    if kind(lines, i) != kinds::ID {
+    if sheet.kind(i) != kinds::ID {
         return false;
     }
-    is_word(name(sheet, lines, i), x)
+    is_word(sheet.name(i), x)
 }
 
 // Whether the name x stands in the expression at line i, outside of `checked` and `wrapping`.
-fn mentions(sheet: &[u8], lines: &[u16], i: usize, x: &[u8]) -> bool
-    requires { ExprAt sheet.now lines.now i }
-    ensures { result ≡ mentions_of (expr_at sheet.now i) x.now }
+fn mentions(sheet: &LoadedSheet<'_>, i: usize, x: &[u8]) -> bool
+    requires { ExprAt sheet.now.bytes.now sheet.now.lines.now i }
+    ensures { result ≡ mentions_of (expr_at sheet.now.bytes.now i) x.now }
 {
-    let stop = end(lines, i);
+    let stop = sheet.end(i);
     let mut at = i;
+    // The body chooses how far a turn goes, which no iterator of the library lets it.
     while at < stop {
-        if acknowledged(sheet, lines, at) {
-            at = end(lines, at);
+        if acknowledged(sheet, at) {
+            at = sheet.end(at);
             continue;
         }
-        if is_named(sheet, lines, at, x) {
+        if is_named(sheet, at, x) {
             return true;
         }
         at += 1;
@@ -47,91 +48,89 @@ fn mentions(sheet: &[u8], lines: &[u16], i: usize, x: &[u8]) -> bool
 }
 
 // Whether line i takes away what mentions x from what doesn't.
-fn subtracts(sheet: &[u8], lines: &[u16], i: usize, x: &[u8]) -> bool
-    requires { ExprAt sheet.now lines.now i }
-    ensures { result ≡ subtracts_of (expr_at sheet.now i) x.now }
+fn subtracts(sheet: &LoadedSheet<'_>, i: usize, x: &[u8]) -> bool
+    requires { ExprAt sheet.now.bytes.now sheet.now.lines.now i }
+    ensures { result ≡ subtracts_of (expr_at sheet.now.bytes.now i) x.now }
 {
-    if !is_op(lines, i, ops::BIN_SUB) {
+    if !is_op(sheet.lines, i, ops::BIN_SUB) {
         return false;
     }
-    if !mentions(sheet, lines, end(lines, i + 1), x) {
+    if !mentions(sheet, sheet.end(i + 1), x) {
         return false;
     }
-    !mentions(sheet, lines, i + 1, x)
+    !mentions(sheet, i + 1, x)
 }
 
-fn upper_bounds(sheet: &[u8], lines: &[u16], small: usize, large: usize, x: &[u8]) -> bool
-    requires small_at { ExprAt sheet.now lines.now small }
-    requires large_at { ExprAt sheet.now lines.now large }
-    ensures { result ≡ upper_bounds (expr_at sheet.now small) (expr_at sheet.now large) x.now }
+fn upper_bounds(sheet: &LoadedSheet<'_>, small: usize, large: usize, x: &[u8]) -> bool
+    requires small_at { ExprAt sheet.now.bytes.now sheet.now.lines.now small }
+    requires large_at { ExprAt sheet.now.bytes.now sheet.now.lines.now large }
+    ensures { result ≡ upper_bounds (expr_at sheet.now.bytes.now small) (expr_at sheet.now.bytes.now large) x.now }
 {
-    if mentions(sheet, lines, small, x) {
-        return !mentions(sheet, lines, large, x);
+    if mentions(sheet, small, x) {
+        return !mentions(sheet, large, x);
     }
-    subtracts(sheet, lines, large, x)
+    subtracts(sheet, large, x)
 }
 
 // Whether line i is a comparison that caps x.
-fn compares(sheet: &[u8], lines: &[u16], i: usize, x: &[u8]) -> bool
-    requires { ExprAt sheet.now lines.now i }
-    ensures { result ≡ compares_of (expr_at sheet.now i) x.now }
+fn compares(sheet: &LoadedSheet<'_>, i: usize, x: &[u8]) -> bool
+    requires { ExprAt sheet.now.bytes.now sheet.now.lines.now i }
+    ensures { result ≡ compares_of (expr_at sheet.now.bytes.now i) x.now }
 {
-    if kind(lines, i) != kinds::BIN {
+    if sheet.kind(i) != kinds::BIN {
         return false;
     }
-    let o = op(lines, i);
-    let right = end(lines, i + 1);
+    let o = sheet.op(i);
+    let right = sheet.end(i + 1);
     if (o == ops::BIN_LE) | (o == ops::BIN_LT) {
-        return upper_bounds(sheet, lines, i + 1, right, x);
+        return upper_bounds(sheet, i + 1, right, x);
     }
     if (o == ops::BIN_GE) | (o == ops::BIN_GT) {
-        return upper_bounds(sheet, lines, right, i + 1, x);
+        return upper_bounds(sheet, right, i + 1, x);
     }
     false
 }
 
-fn caps_from_above(sheet: &[u8], lines: &[u16], i: usize, x: &[u8]) -> bool
-    requires { ExprAt sheet.now lines.now i }
-    ensures { result ≡ caps_from_above (expr_at sheet.now i) x.now }
+fn caps_from_above(sheet: &LoadedSheet<'_>, i: usize, x: &[u8]) -> bool
+    requires { ExprAt sheet.now.bytes.now sheet.now.lines.now i }
+    ensures { result ≡ caps_from_above (expr_at sheet.now.bytes.now i) x.now }
 {
-    let stop = end(lines, i);
+    let stop = sheet.end(i);
     let mut at = i;
+    // The body chooses how far a turn goes, which no iterator of the library lets it.
     while at < stop {
-        if is_op(lines, at, ops::BIN_AND) {
+        if is_op(sheet.lines, at, ops::BIN_AND) {
             at += 1;
             continue;
         }
-        if compares(sheet, lines, at, x) {
+        if compares(sheet, at, x) {
             return true;
         }
-        at = end(lines, at);
+        at = sheet.end(at);
     }
     false
 }
 
 // Whether the clause at line i is a `limits` that caps x.
-fn limits_cap(sheet: &[u8], lines: &[u16], i: usize, x: &[u8]) -> bool
-    requires { RecordAt Clause sheet.now lines.now i }
-    ensures { result ≡ limits_cap x.now (clause_at sheet.now i) }
+fn limits_cap(sheet: &LoadedSheet<'_>, i: usize, x: &[u8]) -> bool
+    requires { RecordAt Clause sheet.now.bytes.now sheet.now.lines.now i }
+    ensures { result ≡ limits_cap x.now (clause_at sheet.now.bytes.now i) }
 {
-    if kind(lines, i) != kinds::LIMITS {
+    if sheet.kind(i) != kinds::LIMITS {
         return false;
     }
-    caps_from_above(sheet, lines, i + 1, x)
+    caps_from_above(sheet, i + 1, x)
 }
 
-pub fn limits_bound(sheet: &[u8], lines: &[u16], entry: usize, x: &[u8]) -> bool
-    requires { EntryAt sheet.now lines.now entry }
-    ensures { result ≡ limits_bound (entry_at sheet.now entry) x.now }
+pub fn limits_bound(sheet: &LoadedSheet<'_>, entry: usize, x: &[u8]) -> bool
+    requires { EntryAt sheet.now.bytes.now sheet.now.lines.now entry }
+    ensures { result ≡ limits_bound (entry_at sheet.now.bytes.now entry) x.now }
 {
-    let mut at = clauses_line(lines, entry);
-    let mut left = clause_count(lines, entry);
-    while 0 < left {
-        if limits_cap(sheet, lines, at, x) {
+    let first = clauses_line(sheet.lines, entry);
+    for at in sheet.records(first, clause_count(sheet.lines, entry)) {
+        if limits_cap(sheet, at, x) {
             return true;
         }
-        at = end(lines, at);
-        left -= 1;
     }
     false
 }

@@ -7,7 +7,7 @@ ghost use Rattle.lookups.specs.Lines.{ExprAt};
 ghost use Rattle.grammar.specs.Kinds as kinds;
 
 use grammar::kinds;
-use sheet::{kind, op};
+use sheet::{LoadedSheet, kind, op};
 
 // Whether line i is a `bin` with the operator of number o.
 pub fn is_op(lines: &[u16], i: usize, o: usize) -> bool
@@ -17,10 +17,10 @@ pub fn is_op(lines: &[u16], i: usize, o: usize) -> bool
 }
 
 // `acknowledged`: the expression at line i is a `checked` or a `wrapping`.
-pub fn acknowledged(sheet: &[u8], lines: &[u16], i: usize) -> bool
-    requires { ExprAt sheet.now lines.now i }
-    ensures { result ≡ acknowledged_of (expr_at sheet.now i) }
+pub fn acknowledged(sheet: &LoadedSheet<'_>, i: usize) -> bool
+    requires { ExprAt sheet.now.bytes.now sheet.now.lines.now i }
+    ensures { result ≡ acknowledged_of (expr_at sheet.now.bytes.now i) }
 {
-    let k = kind(lines, i);
+    let k = sheet.kind(i);
     (k == kinds::CHECKED) | (k == kinds::WRAPPING)
 }

@@ -14,205 +14,195 @@ ghost use Rattle.arithmetic.specs.Tests.{adds_unbounded, amount_bounded, names, 
 
 use crate::lines::{acknowledged, is_op};
 use grammar::{kinds, ops};
-use lookups::{Found, clauses_line, last_named};
-use sheet::{clause_count, end, kind, name, param_count};
+use lookups::{clauses_line, last_named};
+use sheet::{LoadedSheet, clause_count, param_count};
 use text::is_word;
 
 // Whether an entry has a parameter of the name x.
-pub fn is_param(sheet: &[u8], lines: &[u16], entry: usize, x: &[u8]) -> bool
-    requires { EntryAt sheet.now lines.now entry }
-    ensures { result ≡ among x.now (names (entry_at sheet.now entry).params) }
+pub fn is_param(sheet: &LoadedSheet<'_>, entry: usize, x: &[u8]) -> bool
+    requires { EntryAt sheet.now.bytes.now sheet.now.lines.now entry }
+    ensures { result ≡ among x.now (names (entry_at sheet.now.bytes.now entry).params) }
 {
-    match last_named(
+    last_named(
         sheet,
-        lines,
         kinds::PARAM,
         x,
         entry + 1,
-        param_count(lines, entry),
-    ) {
-        Found::At(_) => true,
-        Found::Nothing => false,
-    }
+        param_count(sheet.lines, entry),
+    )
+    .is_some()
 }
 
 // Whether the parameter at line i is a Q_Asset of the name x.
-fn is_asset(sheet: &[u8], lines: &[u16], i: usize, x: &[u8]) -> bool
-    requires { RecordAt Param sheet.now lines.now i }
-    ensures { result ≡ (is_asset_param (param_at sheet.now i) && same x.now (param_at sheet.now i).name) }
+fn is_asset(sheet: &LoadedSheet<'_>, i: usize, x: &[u8]) -> bool
+    requires { RecordAt Param sheet.now.bytes.now sheet.now.lines.now i }
+    ensures { result ≡ (is_asset_param (param_at sheet.now.bytes.now i) && same x.now (param_at sheet.now.bytes.now i).name) }
 {
-    if !is_word(x, name(sheet, lines, i)) {
+    if !is_word(x, sheet.name(i)) {
         return false;
     }
-    is_word(name(sheet, lines, i + 1), b"Q_Asset")
+    is_word(sheet.name(i + 1), b"Q_Asset")
 }
 
 // Whether one of an entry's parameters is such a one.
-fn is_asset_param(sheet: &[u8], lines: &[u16], entry: usize, x: &[u8]) -> bool
-    requires { EntryAt sheet.now lines.now entry }
-    ensures { result ≡ among x.now (asset_params (entry_at sheet.now entry).params) }
+fn is_asset_param(sheet: &LoadedSheet<'_>, entry: usize, x: &[u8]) -> bool
+    requires { EntryAt sheet.now.bytes.now sheet.now.lines.now entry }
+    ensures { result ≡ among x.now (asset_params (entry_at sheet.now.bytes.now entry).params) }
 {
-    let mut at = entry + 1;
-    let mut left = param_count(lines, entry);
-    while 0 < left {
-        if is_asset(sheet, lines, at, x) {
+    for at in sheet.records(entry + 1, param_count(sheet.lines, entry)) {
+        if is_asset(sheet, at, x) {
             return true;
         }
-        at = end(lines, at);
-        left -= 1;
     }
     false
 }
 
 // Whether an entry has a `mints` clause.
-fn has_mints(sheet: &[u8], lines: &[u16], entry: usize) -> bool
-    requires { EntryAt sheet.now lines.now entry }
-    ensures { result ≡ any is_mints (entry_at sheet.now entry).clauses }
+fn has_mints(sheet: &LoadedSheet<'_>, entry: usize) -> bool
+    requires { EntryAt sheet.now.bytes.now sheet.now.lines.now entry }
+    ensures { result ≡ any is_mints (entry_at sheet.now.bytes.now entry).clauses }
 {
-    let mut at = clauses_line(lines, entry);
-    let mut left = clause_count(lines, entry);
-    while 0 < left {
-        if kind(lines, at) == kinds::MINTS {
+    let first = clauses_line(sheet.lines, entry);
+    for at in sheet.records(first, clause_count(sheet.lines, entry)) {
+        if sheet.kind(at) == kinds::MINTS {
             return true;
         }
-        at = end(lines, at);
-        left -= 1;
     }
     false
 }
 
 // Whether `x.amount` is bounded in an entry.
-fn amount_bounded(sheet: &[u8], lines: &[u16], entry: usize, x: &[u8]) -> bool
-    requires { EntryAt sheet.now lines.now entry }
-    ensures { result ≡ amount_bounded (entry_at sheet.now entry) x.now }
+fn amount_bounded(sheet: &LoadedSheet<'_>, entry: usize, x: &[u8]) -> bool
+    requires { EntryAt sheet.now.bytes.now sheet.now.lines.now entry }
+    ensures { result ≡ amount_bounded (entry_at sheet.now.bytes.now entry) x.now }
 {
-    if is_asset_param(sheet, lines, entry, x) {
+    if is_asset_param(sheet, entry, x) {
         return true;
     }
-    if !is_param(sheet, lines, entry, x) {
+    if !is_param(sheet, entry, x) {
         return false;
     }
-    has_mints(sheet, lines, entry)
+    has_mints(sheet, entry)
 }
 
 // Whether the term at line i is bounded in an entry.
-fn bounded(sheet: &[u8], lines: &[u16], entry: usize, i: usize) -> bool
-    requires entry_at { EntryAt sheet.now lines.now entry }
-    requires expr_at { ExprAt sheet.now lines.now i }
-    ensures { result ≡ bounded_of (entry_at sheet.now entry) (expr_at sheet.now i) }
+fn bounded(sheet: &LoadedSheet<'_>, entry: usize, i: usize) -> bool
+    requires entry_at { EntryAt sheet.now.bytes.now sheet.now.lines.now entry }
+    requires expr_at { ExprAt sheet.now.bytes.now sheet.now.lines.now i }
+    ensures { result ≡ bounded_of (entry_at sheet.now.bytes.now entry) (expr_at sheet.now.bytes.now i) }
 {
-    let k = kind(lines, i);
+    let k = sheet.kind(i);
     if k == kinds::INT {
         return true;
     }
     if k != kinds::DOT {
         return false;
     }
-    if !is_word(name(sheet, lines, i), b"amount") {
+    if !is_word(sheet.name(i), b"amount") {
         return false;
     }
-    if kind(lines, i + 1) != kinds::ID {
+    if sheet.kind(i + 1) != kinds::ID {
         return false;
     }
-    amount_bounded(sheet, lines, entry, name(sheet, lines, i + 1))
+    amount_bounded(sheet, entry, sheet.name(i + 1))
 }
 
 // Whether the lines a and b are the same bare name.
-fn same_target(sheet: &[u8], lines: &[u16], a: usize, b: usize) -> bool
-    requires left_at { ExprAt sheet.now lines.now a }
-    requires right_at { ExprAt sheet.now lines.now b }
-    ensures { result ≡ same_target (expr_at sheet.now a) (expr_at sheet.now b) }
+fn same_target(sheet: &LoadedSheet<'_>, a: usize, b: usize) -> bool
+    requires left_at { ExprAt sheet.now.bytes.now sheet.now.lines.now a }
+    requires right_at { ExprAt sheet.now.bytes.now sheet.now.lines.now b }
+    ensures { result ≡ same_target (expr_at sheet.now.bytes.now a) (expr_at sheet.now.bytes.now b) }
 {
-    if kind(lines, a) != kinds::ID {
+    if sheet.kind(a) != kinds::ID {
         return false;
     }
-    if kind(lines, b) != kinds::ID {
+    if sheet.kind(b) != kinds::ID {
         return false;
     }
-    is_word(name(sheet, lines, a), name(sheet, lines, b))
+    is_word(sheet.name(a), sheet.name(b))
 }
 
 // Whether the target is a term of the sum at line value.
-fn has_target(sheet: &[u8], lines: &[u16], target: usize, value: usize) -> bool
-    requires target_at { ExprAt sheet.now lines.now target }
-    requires value_at { ExprAt sheet.now lines.now value }
-    ensures { result ≡ is_some (without (expr_at sheet.now target) (sum_terms (expr_at sheet.now value))) }
+fn has_target(sheet: &LoadedSheet<'_>, target: usize, value: usize) -> bool
+    requires target_at { ExprAt sheet.now.bytes.now sheet.now.lines.now target }
+    requires value_at { ExprAt sheet.now.bytes.now sheet.now.lines.now value }
+    ensures { result ≡ is_some (without (expr_at sheet.now.bytes.now target) (sum_terms (expr_at sheet.now.bytes.now value))) }
 {
-    let stop = end(lines, value);
+    let stop = sheet.end(value);
     let mut at = value;
+    // The body chooses how far a turn goes, which no iterator of the library lets it.
     while at < stop {
-        if is_op(lines, at, ops::BIN_ADD) {
+        if is_op(sheet.lines, at, ops::BIN_ADD) {
             at += 1;
             continue;
         }
-        if same_target(sheet, lines, target, at) {
+        if same_target(sheet, target, at) {
             return true;
         }
-        at = end(lines, at);
+        at = sheet.end(at);
     }
     false
 }
 
 // Whether a term of the sum at line value is unbounded; where own, the first that is the target is left out.
 fn has_unbounded(
-    sheet: &[u8],
-    lines: &[u16],
+    sheet: &LoadedSheet<'_>,
     entry: usize,
     target: usize,
     value: usize,
     own: bool,
 ) -> bool
-    requires entry_at { EntryAt sheet.now lines.now entry }
-    requires target_at { ExprAt sheet.now lines.now target }
-    requires value_at { ExprAt sheet.now lines.now value }
-    ensures { result ≡ any (λ t. not (bounded_of (entry_at sheet.now entry) t)) (others own (expr_at sheet.now target) (sum_terms (expr_at sheet.now value))) }
+    requires entry_at { EntryAt sheet.now.bytes.now sheet.now.lines.now entry }
+    requires target_at { ExprAt sheet.now.bytes.now sheet.now.lines.now target }
+    requires value_at { ExprAt sheet.now.bytes.now sheet.now.lines.now value }
+    ensures { result ≡ any (λ t. not (bounded_of (entry_at sheet.now.bytes.now entry) t)) (others own (expr_at sheet.now.bytes.now target) (sum_terms (expr_at sheet.now.bytes.now value))) }
 {
-    let stop = end(lines, value);
+    let stop = sheet.end(value);
     let mut at = value;
     let mut due = own;
+    // The body chooses how far a turn goes, which no iterator of the library lets it.
     while at < stop {
-        if is_op(lines, at, ops::BIN_ADD) {
+        if is_op(sheet.lines, at, ops::BIN_ADD) {
             at += 1;
             continue;
         }
-        if due & same_target(sheet, lines, target, at) {
+        if due & same_target(sheet, target, at) {
             due = false;
-            at = end(lines, at);
+            at = sheet.end(at);
             continue;
         }
-        if !bounded(sheet, lines, entry, at) {
+        if !bounded(sheet, entry, at) {
             return true;
         }
-        at = end(lines, at);
+        at = sheet.end(at);
     }
     false
 }
 
 // Whether an assignment with the operator of number op adds something unbounded to its target.
 pub fn adds_unbounded(
-    sheet: &[u8],
-    lines: &[u16],
+    sheet: &LoadedSheet<'_>,
     entry: usize,
     op: usize,
     target: usize,
     value: usize,
 ) -> bool
-    requires entry_at { EntryAt sheet.now lines.now entry }
-    requires target_at { ExprAt sheet.now lines.now target }
-    requires value_at { ExprAt sheet.now lines.now value }
-    ensures { result ≡ adds_unbounded (entry_at sheet.now entry) (get_or assign_ops op Set) (expr_at sheet.now target) (expr_at sheet.now value) }
+    requires entry_at { EntryAt sheet.now.bytes.now sheet.now.lines.now entry }
+    requires target_at { ExprAt sheet.now.bytes.now sheet.now.lines.now target }
+    requires value_at { ExprAt sheet.now.bytes.now sheet.now.lines.now value }
+    ensures { result ≡ adds_unbounded (entry_at sheet.now.bytes.now entry) (get_or assign_ops op Set) (expr_at sheet.now.bytes.now target) (expr_at sheet.now.bytes.now value) }
 {
-    if (op == ops::ASSIGN_SUB) | acknowledged(sheet, lines, value) {
+    if (op == ops::ASSIGN_SUB) | acknowledged(sheet, value) {
         return false;
     }
     if op == ops::ASSIGN_ADD {
-        return has_unbounded(sheet, lines, entry, target, value, false);
+        return has_unbounded(sheet, entry, target, value, false);
     }
-    if !is_op(lines, value, ops::BIN_ADD) {
+    if !is_op(sheet.lines, value, ops::BIN_ADD) {
         return false;
     }
-    if !has_target(sheet, lines, target, value) {
+    if !has_target(sheet, target, value) {
         return false;
     }
-    has_unbounded(sheet, lines, entry, target, value, true)
+    has_unbounded(sheet, entry, target, value, true)
 }

@@ -11,6 +11,7 @@ use lib.ListN.{length, get_elem?}
 use mathlib.Core.Bool.{Bool, true, false, ◌||◌}
 use borrow.Author.Tests.{ne_eqb, eqb-true, eqb-false}
 use lib.Dec.{eqb}
+use Rattle.std.specs.Prelude.{Result, Ok, Err}
 use Rattle.text.proofs.Tests.{or_parts}
 use mir.Val.{Fits}
 use mir.Syntax.{w64}
@@ -32,8 +33,6 @@ use Rattle.refusals.specs.Answers.{Answers}
 use Rattle.lookups.specs.Lines.{RecordAt, RecordsAt}
 use Rattle.refusals.specs.Refusal.{refusal_of, done_of}
 use Rattle.refusals.specs.declared.refusal.Refusal.{Refusal}
-use Rattle.refusals.specs.declared.refusal.Done.{Done}
-use Rattle.refusals.specs.declared.refusal.Done.TheVariants.{Fine, Refused}
 use Rattle.rules.proofs.Rows.{exprs}
 use Rattle.refusals.proofs.Answers.{gives, then_fine, then_refused}
 use Rattle.grammar.specs.Kinds as kinds
@@ -68,7 +67,7 @@ does = record { is = λ e r a. a }
 
 -- What meets the expression at line i, of the kind k.
 module _ {rule f : Expr → Rule Unit} (c : Calls rule f) (s S : List ℕ) (i k : ℕ) (h : RecordAt grammar.Expr s S i) (e : k ≡ kind_at S i) where
-  pub other_walked : (r : Done) → k ≢ kinds.call → Answers (no_asset_call (expr_at s i)) (done_of s r) → Answers (rule (expr_at s i)) (done_of s r)
+  pub other_walked : (r : Result Unit Refusal) → k ≢ kinds.call → Answers (no_asset_call (expr_at s i)) (done_of s r) → Answers (rule (expr_at s i)) (done_of s r)
   unfolding if_some_else
   other_walked r q a = c.is (expr_at s i) _ (rw (is-call_at h.loaded h.here, ← e, ne_eqb k kinds.call q) a)
 
@@ -80,12 +79,12 @@ module _ {rule f : Expr → Rule Unit} (c : Calls rule f) (s S : List ℕ) (i k 
     pub call-args : (m j : ℕ) → m ≡ call_arg_count S i → j ≡ end_at S (i + 1) → RecordsAt grammar.Expr s S m j
     call-args m j x y = rw (x, y, add-one) (record { loaded = h.loaded; row = row_rest (call_at_lem h.loaded h.here (sym e ∙ q)).1 })
 
-    module _ (r : Done) (a : Answers (no_asset_call (expr_at s (i + 1))) (done_of s r)) where
-      pub callee_refused : (why : Refusal) → r ≡ Refused why → Answers (rule (expr_at s i)) (done_of s (Refused why))
+    module _ (r : Result Unit Refusal) (a : Answers (no_asset_call (expr_at s (i + 1))) (done_of s r)) where
+      pub callee_refused : (why : Refusal) → r ≡ Err why → Answers (rule (expr_at s i)) (done_of s (Err why))
       unfolding done_of
       callee_refused why z = called _ (then_refused _ _ (refusal_of s why) (rw (z, add-one) at a))
 
-      pub args_walked : (m j : ℕ) (r' : Done) → r ≡ Fine → m ≡ call_arg_count S i → j ≡ end_at S (i + 1) → Answers (for_each (list (exprs_at s m j)) f) (done_of s r') → Answers (rule (expr_at s i)) (done_of s r')
+      pub args_walked : (m j : ℕ) (r' : Result Unit Refusal) → r ≡ Ok tt → m ≡ call_arg_count S i → j ≡ end_at S (i + 1) → Answers (for_each (list (exprs_at s m j)) f) (done_of s r') → Answers (rule (expr_at s i)) (done_of s r')
       unfolding done_of
       args_walked m j r' z x y b = called _ (then_fine _ _ tt _ (rw (z, add-one) at a) (rw (x, y, add-one) at b))
 
@@ -104,7 +103,7 @@ module _ (s S : List ℕ) (i k : ℕ) (h : RecordAt grammar.Stmt s S i) (e : k �
   pub let_value : k ≡ kinds.let' → RecordAt grammar.Expr s S (i + 1)
   let_value q = one_behind s S i h (let_at h.loaded h.here (sym e ∙ q)).1
 
-  pub let_walked : (r : Done) → k ≡ kinds.let' → Answers (consumed_asset_call (expr_at s (i + 1))) (done_of s r) → Answers (asset_calls_consumed (stmt_at s i)) (done_of s r)
+  pub let_walked : (r : Result Unit Refusal) → k ≡ kinds.let' → Answers (consumed_asset_call (expr_at s (i + 1))) (done_of s r) → Answers (asset_calls_consumed (stmt_at s i)) (done_of s r)
   unfolding asset_calls_consumed
   let_walked r q a = rw ((let_at h.loaded h.here (sym e ∙ q)).0, ← add-one i) a
 
@@ -112,14 +111,14 @@ module _ (s S : List ℕ) (i k : ℕ) (h : RecordAt grammar.Stmt s S i) (e : k �
     pub emit-args : RecordsAt grammar.Expr s S m (i + 1)
     emit-args = rw (c, add-one) (record { loaded = h.loaded; row = (emit_at h.loaded h.here (sym e ∙ q)).1 })
 
-    pub emit_walked : (r : Done) → Answers (for_each (list (exprs_at s m (i + 1))) no_asset_call) (done_of s r) → Answers (asset_calls_consumed (stmt_at s i)) (done_of s r)
+    pub emit_walked : (r : Result Unit Refusal) → Answers (for_each (list (exprs_at s m (i + 1))) no_asset_call) (done_of s r) → Answers (asset_calls_consumed (stmt_at s i)) (done_of s r)
     unfolding asset_calls_consumed
     emit_walked r a = rw ((emit_at h.loaded h.here (sym e ∙ q)).0, ← c, ← add-one i) a
 
   pub assign_sides : k ≡ kinds.assign → RecordsAt grammar.Expr s S 2 (i + 1)
   assign_sides q = rw add-one (record { loaded = h.loaded; row = (assign_at h.loaded h.here (sym e ∙ q)).1 })
 
-  pub assign_walked : (r : Done) → k ≡ kinds.assign → Answers (for_each (list (exprs_at s 2 (i + 1))) no_asset_call) (done_of s r) → Answers (asset_calls_consumed (stmt_at s i)) (done_of s r)
+  pub assign_walked : (r : Result Unit Refusal) → k ≡ kinds.assign → Answers (for_each (list (exprs_at s 2 (i + 1))) no_asset_call) (done_of s r) → Answers (asset_calls_consumed (stmt_at s i)) (done_of s r)
   unfolding asset_calls_consumed
   assign_walked r q a =
       let p = assign_at h.loaded h.here (sym e ∙ q) in
@@ -131,7 +130,7 @@ module _ (s S : List ℕ) (i k : ℕ) (h : RecordAt grammar.Stmt s S i) (e : k �
   pub do_value : k ≡ kinds.do' → RecordAt grammar.Expr s S (i + 1)
   do_value q = one_behind s S i h (do_at h.loaded h.here (sym e ∙ q)).1
 
-  pub do_walked : (r : Done) → k ≡ kinds.do' → Answers (asset_calls_consumed (do' (expr_at s (i + 1)))) (done_of s r) → Answers (asset_calls_consumed (stmt_at s i)) (done_of s r)
+  pub do_walked : (r : Result Unit Refusal) → k ≡ kinds.do' → Answers (asset_calls_consumed (do' (expr_at s (i + 1)))) (done_of s r) → Answers (asset_calls_consumed (stmt_at s i)) (done_of s r)
   do_walked r q a = rw ((do_at h.loaded h.here (sym e ∙ q)).0, ← add-one i) a
 
   module _ (a : k ≢ kinds.let') (b : k ≢ kinds.emit) (c : k ≢ kinds.assign) (d : k ≢ kinds.do') where
@@ -141,7 +140,7 @@ module _ (s S : List ℕ) (i k : ℕ) (h : RecordAt grammar.Stmt s S i) (e : k �
     pub guard_value : RecordAt grammar.Expr s S (i + 1)
     guard_value = one_behind s S i h (guard_at h.loaded h.here guards).1
 
-    pub guard_walked : (r : Done) → Answers (no_asset_call (expr_at s (i + 1))) (done_of s r) → Answers (asset_calls_consumed (stmt_at s i)) (done_of s r)
+    pub guard_walked : (r : Result Unit Refusal) → Answers (no_asset_call (expr_at s (i + 1))) (done_of s r) → Answers (asset_calls_consumed (stmt_at s i)) (done_of s r)
     unfolding asset_calls_consumed
     guard_walked r x = rw ((guard_at h.loaded h.here guards).0, ← add-one i) x
 
@@ -181,7 +180,7 @@ module _ (s S : List ℕ) (i k : ℕ) (h : RecordAt grammar.Clause s S i) (e : k
     pub after_exprs : RecordsAt grammar.Expr s S (a + b) (i + 1)
     after_exprs = rw (x, y, add-one) (record { loaded = h.loaded; row = (after_at h.loaded h.here (sym e ∙ q)).1 })
 
-    pub after_both : (r : Done) → Answers (for_each (list (exprs_at s (a + b) (i + 1))) no_asset_call) (done_of s r) → Answers (clause_assets (clause_at s i)) (done_of s r)
+    pub after_both : (r : Result Unit Refusal) → Answers (for_each (list (exprs_at s (a + b) (i + 1))) no_asset_call) (done_of s r) → Answers (clause_assets (clause_at s i)) (done_of s r)
     unfolding clause_assets
     after_both r g =
         let p = after_at h.loaded h.here (sym e ∙ q) in
@@ -209,11 +208,11 @@ module _ (s S : List ℕ) (i k : ℕ) (h : RecordAt grammar.Clause s S i) (e : k
     pub condition_here : RecordAt grammar.Expr s S (i + 1)
     condition_here = one_behind s S i h condition.0
 
-    pub condition_walked : (r : Done) → Answers (no_asset_call (expr_at s (i + 1))) (done_of s r) → Answers (clause_assets (clause_at s i)) (done_of s r)
+    pub condition_walked : (r : Result Unit Refusal) → Answers (no_asset_call (expr_at s (i + 1))) (done_of s r) → Answers (clause_assets (clause_at s i)) (done_of s r)
     condition_walked r x = condition.1 _ (rw add-one at x)
 
   -- a clause with no expression
-  pub bare_walked : (eqb k kinds.limits || eqb k kinds.denies) ≡ false → k ≢ kinds.after → Answers (clause_assets (clause_at s i)) (done_of s Fine)
+  pub bare_walked : (eqb k kinds.limits || eqb k kinds.denies) ≡ false → k ≢ kinds.after → Answers (clause_assets (clause_at s i)) (done_of s (Ok tt))
   unfolding clause_assets done_of
   bare_walked c n = rw (mints_at h.loaded h.here only).0 (gives tt)
     where

@@ -8,6 +8,7 @@ use native.Mathlib.Numerals.{add-one}
 use native.Mathlib.Omega.{arith}
 use lib.Dec.{eqb}
 use borrow.Author.Tests.{ne_eqb, eqb-true}
+use Rattle.std.specs.Prelude.{Ok, Err}
 use Rattle.text.specs.Text.{bytes, same}
 use Rattle.grammar.specs.Grammar as grammar
 use Rattle.sheet.specs.Scratch.{kind_at, end_at, name_at}
@@ -31,7 +32,6 @@ use Rattle.refusals.specs.Answers.{Answers}
 use Rattle.lookups.specs.Lines.{RecordAt}
 use Rattle.refusals.specs.Refusal.{refusal_of, done_of}
 use Rattle.refusals.specs.declared.refusal.Refusal.TheVariants.{Dropped}
-use Rattle.refusals.specs.declared.refusal.Done.TheVariants.{Fine, Refused}
 use Rattle.refusals.proofs.Answers.{misfits, then_refused}
 use Rattle.assets.specs.Made.{is_asset_call}
 use Rattle.grammar.specs.Kinds as kinds
@@ -92,11 +92,11 @@ module _ (s S : List ℕ) (i k : ℕ) (h : RecordAt grammar.Expr s S i) (e : k �
   a_call r q f = f ∙ rw (is_asset_call, is-call_at h.loaded h.here, ← e, q, add-one) refl
 
 -- an asset call is refused, and is a `call` record
-refused_here : (s S : List ℕ) (i : ℕ) → RecordAt grammar.Expr s S i → is_asset_call (expr_at s i) ≡ true → Answers (no_asset_call (expr_at s i)) (done_of s (Refused (Dropped i)))
+refused_here : (s S : List ℕ) (i : ℕ) → RecordAt grammar.Expr s S i → is_asset_call (expr_at s i) ≡ true → Answers (no_asset_call (expr_at s i)) (done_of s (Err (Dropped i)))
 unfolding done_of refusal_of is_asset_call call_of
 refused_here s S i h q = by_cases (eqb (kind_at S i) kinds.call) refl
   where
-    by_cases : (b : Bool) → eqb (kind_at S i) kinds.call ≡ b → Answers (no_asset_call (expr_at s i)) (done_of s (Refused (Dropped i)))
+    by_cases : (b : Bool) → eqb (kind_at S i) kinds.call ≡ b → Answers (no_asset_call (expr_at s i)) (done_of s (Err (Dropped i)))
     by_cases true f =
         let e = eqb-true (kind_at S i) kinds.call f in
         let c = call_at_lem h.loaded h.here e in
@@ -114,7 +114,7 @@ unfolding no_asset_calls ◌>>◌
 walk_start s S i end h e = walk_one h.loaded h.here e (λ T. sym (kept_unit (no_asset_call (expr_at s i)) T))
 
 module _ (s S : List ℕ) (i end at : ℕ) (w : Walking s S i end at) where
-  pub walk_over : end ≤ at → Answers (no_asset_call (expr_at s i)) (done_of s Fine)
+  pub walk_over : end ≤ at → Answers (no_asset_call (expr_at s i)) (done_of s (Ok tt))
   unfolding no_asset_calls done_of kept
   walk_over h = record { answers = walks.walk_over w h }
 
@@ -123,7 +123,7 @@ module _ (s S : List ℕ) (i end at : ℕ) (w : Walking s S i end at) where
     walk_here = record { loaded = w.loaded; here = walk_line w h }
 
     module _ (b : Bool) (e : b ≡ is_asset_call (expr_at s at)) where
-      pub walk_found : b ≡ true → Answers (no_asset_call (expr_at s i)) (done_of s (Refused (Dropped at)))
+      pub walk_found : b ≡ true → Answers (no_asset_call (expr_at s i)) (done_of s (Err (Dropped at)))
       unfolding no_asset_calls done_of
       walk_found q =
           walks.walk_found w h

@@ -11,127 +11,99 @@ ghost use Rattle.refusals.specs.Refusal.{done_of};
 
 use crate::made::{no_asset_call, no_asset_calls};
 use grammar::kinds;
-use refusals::Done;
-use sheet::{call_arg_count, emit_arg_count, end, from_count, kind, target_count};
+use refusals::Refusal;
+use sheet::{LoadedSheet, call_arg_count, emit_arg_count, from_count, target_count};
 
 // The expression at line i is bound or passed: it may itself make an asset.
-fn consumed_asset_call(sheet: &[u8], lines: &[u16], i: usize) -> Done
-    requires { RecordAt Expr sheet.now lines.now i }
-    ensures { Answers (consumed_asset_call (expr_at sheet.now i)) (done_of sheet.now result) }
+fn consumed_asset_call(sheet: &LoadedSheet<'_>, i: usize) -> Result<(), Refusal>
+    requires { RecordAt Expr sheet.now.bytes.now sheet.now.lines.now i }
+    ensures { Answers (consumed_asset_call (expr_at sheet.now.bytes.now i)) (done_of sheet.now.bytes.now result) }
 {
-    if kind(lines, i) != kinds::CALL {
-        return no_asset_call(sheet, lines, i);
+    if sheet.kind(i) != kinds::CALL {
+        return no_asset_call(sheet, i);
     }
-    let callee = no_asset_call(sheet, lines, i + 1);
-    if let Done::Refused(why) = callee {
-        return Done::Refused(why);
-    }
-    no_asset_calls(sheet, lines, end(lines, i + 1), call_arg_count(lines, i))
+    no_asset_call(sheet, i + 1)?;
+    no_asset_calls(sheet, sheet.end(i + 1), call_arg_count(sheet.lines, i))
 }
 
 // Each of count expressions, the first at line from.
-fn consumed_asset_calls(sheet: &[u8], lines: &[u16], from: usize, count: usize) -> Done
-    requires { RecordsAt Expr sheet.now lines.now count from }
-    ensures { Answers (for_each (list (exprs_at sheet.now count from)) consumed_asset_call) (done_of sheet.now result) }
+fn consumed_asset_calls(sheet: &LoadedSheet<'_>, from: usize, count: usize) -> Result<(), Refusal>
+    requires { RecordsAt Expr sheet.now.bytes.now sheet.now.lines.now count from }
+    ensures { Answers (for_each (list (exprs_at sheet.now.bytes.now count from)) consumed_asset_call) (done_of sheet.now.bytes.now result) }
 {
-    let mut at = from;
-    let mut left = count;
-    while 0 < left {
-        let judged = consumed_asset_call(sheet, lines, at);
-        if let Done::Refused(why) = judged {
-            return Done::Refused(why);
-        }
-        at = end(lines, at);
-        left -= 1;
+    for at in sheet.records(from, count) {
+        consumed_asset_call(sheet, at)?;
     }
-    Done::Fine
+    Ok(())
 }
 
 // The expression at line i is a statement.
-fn do_consumed(sheet: &[u8], lines: &[u16], i: usize) -> Done
-    requires { RecordAt Expr sheet.now lines.now i }
-    ensures { Answers (asset_calls_consumed (do' (expr_at sheet.now i))) (done_of sheet.now result) }
+fn do_consumed(sheet: &LoadedSheet<'_>, i: usize) -> Result<(), Refusal>
+    requires { RecordAt Expr sheet.now.bytes.now sheet.now.lines.now i }
+    ensures { Answers (asset_calls_consumed (do' (expr_at sheet.now.bytes.now i))) (done_of sheet.now.bytes.now result) }
 {
-    if kind(lines, i) != kinds::CALL {
-        return no_asset_call(sheet, lines, i);
+    if sheet.kind(i) != kinds::CALL {
+        return no_asset_call(sheet, i);
     }
-    let callee = no_asset_call(sheet, lines, i + 1);
-    if let Done::Refused(why) = callee {
-        return Done::Refused(why);
-    }
-    consumed_asset_calls(sheet, lines, end(lines, i + 1), call_arg_count(lines, i))
+    no_asset_call(sheet, i + 1)?;
+    consumed_asset_calls(sheet, sheet.end(i + 1), call_arg_count(sheet.lines, i))
 }
 
-pub fn asset_calls_consumed(sheet: &[u8], lines: &[u16], i: usize) -> Done
-    requires { RecordAt Stmt sheet.now lines.now i }
-    ensures { Answers (asset_calls_consumed (stmt_at sheet.now i)) (done_of sheet.now result) }
+pub fn asset_calls_consumed(sheet: &LoadedSheet<'_>, i: usize) -> Result<(), Refusal>
+    requires { RecordAt Stmt sheet.now.bytes.now sheet.now.lines.now i }
+    ensures { Answers (asset_calls_consumed (stmt_at sheet.now.bytes.now i)) (done_of sheet.now.bytes.now result) }
 {
-    let k = kind(lines, i);
+    let k = sheet.kind(i);
     if k == kinds::LET {
-        return consumed_asset_call(sheet, lines, i + 1);
+        return consumed_asset_call(sheet, i + 1);
     }
     if k == kinds::EMIT {
-        return no_asset_calls(sheet, lines, i + 1, emit_arg_count(lines, i));
+        return no_asset_calls(sheet, i + 1, emit_arg_count(sheet.lines, i));
     }
     if k == kinds::ASSIGN {
-        return no_asset_calls(sheet, lines, i + 1, 2);
+        return no_asset_calls(sheet, i + 1, 2);
     }
     if k == kinds::DO {
-        return do_consumed(sheet, lines, i + 1);
+        return do_consumed(sheet, i + 1);
     }
-    no_asset_call(sheet, lines, i + 1)
+    no_asset_call(sheet, i + 1)
 }
 
 // An `after` has at most a target and a `from`.
-fn clause_assets(sheet: &[u8], lines: &[u16], i: usize) -> Done
-    requires { RecordAt Clause sheet.now lines.now i }
-    ensures { Answers (clause_assets (clause_at sheet.now i)) (done_of sheet.now result) }
+fn clause_assets(sheet: &LoadedSheet<'_>, i: usize) -> Result<(), Refusal>
+    requires { RecordAt Clause sheet.now.bytes.now sheet.now.lines.now i }
+    ensures { Answers (clause_assets (clause_at sheet.now.bytes.now i)) (done_of sheet.now.bytes.now result) }
 {
-    let k = kind(lines, i);
+    let k = sheet.kind(i);
     if (k == kinds::LIMITS) | (k == kinds::DENIES) {
-        return no_asset_call(sheet, lines, i + 1);
+        return no_asset_call(sheet, i + 1);
     }
     if k == kinds::AFTER {
         return no_asset_calls(
             sheet,
-            lines,
             i + 1,
-            target_count(lines, i) + from_count(lines, i),
+            target_count(sheet.lines, i) + from_count(sheet.lines, i),
         );
     }
-    Done::Fine
+    Ok(())
 }
 
-pub fn clauses_assets(sheet: &[u8], lines: &[u16], from: usize, count: usize) -> Done
-    requires { RecordsAt Clause sheet.now lines.now count from }
-    ensures { Answers (for_each (clauses_at sheet.now count from) clause_assets) (done_of sheet.now result) }
+pub fn clauses_assets(sheet: &LoadedSheet<'_>, from: usize, count: usize) -> Result<(), Refusal>
+    requires { RecordsAt Clause sheet.now.bytes.now sheet.now.lines.now count from }
+    ensures { Answers (for_each (clauses_at sheet.now.bytes.now count from) clause_assets) (done_of sheet.now.bytes.now result) }
 {
-    let mut at = from;
-    let mut left = count;
-    while 0 < left {
-        let judged = clause_assets(sheet, lines, at);
-        if let Done::Refused(why) = judged {
-            return Done::Refused(why);
-        }
-        at = end(lines, at);
-        left -= 1;
+    for at in sheet.records(from, count) {
+        clause_assets(sheet, at)?;
     }
-    Done::Fine
+    Ok(())
 }
 
-pub fn body_assets(sheet: &[u8], lines: &[u16], from: usize, count: usize) -> Done
-    requires { RecordsAt Stmt sheet.now lines.now count from }
-    ensures { Answers (for_each (stmts_at sheet.now count from) asset_calls_consumed) (done_of sheet.now result) }
+pub fn body_assets(sheet: &LoadedSheet<'_>, from: usize, count: usize) -> Result<(), Refusal>
+    requires { RecordsAt Stmt sheet.now.bytes.now sheet.now.lines.now count from }
+    ensures { Answers (for_each (stmts_at sheet.now.bytes.now count from) asset_calls_consumed) (done_of sheet.now.bytes.now result) }
 {
-    let mut at = from;
-    let mut left = count;
-    while 0 < left {
-        let judged = asset_calls_consumed(sheet, lines, at);
-        if let Done::Refused(why) = judged {
-            return Done::Refused(why);
-        }
-        at = end(lines, at);
-        left -= 1;
+    for at in sheet.records(from, count) {
+        asset_calls_consumed(sheet, at)?;
     }
-    Done::Fine
+    Ok(())
 }

@@ -11,60 +11,50 @@ ghost use Rattle.refusals.specs.Refusal.{done_of};
 ghost use Rattle.assets.specs.Made.{is_asset_call};
 
 use grammar::kinds;
-use refusals::{Done, Refusal};
-use sheet::{end, kind, name};
+use refusals::Refusal;
+use sheet::LoadedSheet;
 use text::is_word;
 
 // Whether a call of the callee at line i makes an asset.
-fn makes_asset(sheet: &[u8], lines: &[u16], i: usize) -> bool
-    requires { RecordAt Expr sheet.now lines.now i }
-    ensures { result ≡ makes_asset (expr_at sheet.now i) }
+fn makes_asset(sheet: &LoadedSheet<'_>, i: usize) -> bool
+    requires { RecordAt Expr sheet.now.bytes.now sheet.now.lines.now i }
+    ensures { result ≡ makes_asset (expr_at sheet.now.bytes.now i) }
 {
-    let k = kind(lines, i);
-    let word = name(sheet, lines, i);
+    let k = sheet.kind(i);
+    let word = sheet.name(i);
     ((k == kinds::DOT) & is_word(word, b"split")) | ((k == kinds::ID) & is_word(word, b"mint"))
 }
 
-fn is_asset_call(sheet: &[u8], lines: &[u16], i: usize) -> bool
-    requires { RecordAt Expr sheet.now lines.now i }
-    ensures { result ≡ is_asset_call (expr_at sheet.now i) }
+fn is_asset_call(sheet: &LoadedSheet<'_>, i: usize) -> bool
+    requires { RecordAt Expr sheet.now.bytes.now sheet.now.lines.now i }
+    ensures { result ≡ is_asset_call (expr_at sheet.now.bytes.now i) }
 {
-    if kind(lines, i) != kinds::CALL {
+    if sheet.kind(i) != kinds::CALL {
         return false;
     }
-    makes_asset(sheet, lines, i + 1)
+    makes_asset(sheet, i + 1)
 }
 
 // The lines of an expression stand in the order in which its parts are visited.
-pub fn no_asset_call(sheet: &[u8], lines: &[u16], i: usize) -> Done
-    requires { RecordAt Expr sheet.now lines.now i }
-    ensures { Answers (no_asset_call (expr_at sheet.now i)) (done_of sheet.now result) }
+pub fn no_asset_call(sheet: &LoadedSheet<'_>, i: usize) -> Result<(), Refusal>
+    requires { RecordAt Expr sheet.now.bytes.now sheet.now.lines.now i }
+    ensures { Answers (no_asset_call (expr_at sheet.now.bytes.now i)) (done_of sheet.now.bytes.now result) }
 {
-    let stop = end(lines, i);
-    let mut at = i;
-    while at < stop {
-        if is_asset_call(sheet, lines, at) {
-            return Done::Refused(Refusal::Dropped(at));
+    for at in i..sheet.end(i) {
+        if is_asset_call(sheet, at) {
+            return Err(Refusal::Dropped(at));
         }
-        at += 1;
     }
-    Done::Fine
+    Ok(())
 }
 
 // Each of count expressions, the first at line from.
-pub fn no_asset_calls(sheet: &[u8], lines: &[u16], from: usize, count: usize) -> Done
-    requires { RecordsAt Expr sheet.now lines.now count from }
-    ensures { Answers (for_each (list (exprs_at sheet.now count from)) no_asset_call) (done_of sheet.now result) }
+pub fn no_asset_calls(sheet: &LoadedSheet<'_>, from: usize, count: usize) -> Result<(), Refusal>
+    requires { RecordsAt Expr sheet.now.bytes.now sheet.now.lines.now count from }
+    ensures { Answers (for_each (list (exprs_at sheet.now.bytes.now count from)) no_asset_call) (done_of sheet.now.bytes.now result) }
 {
-    let mut at = from;
-    let mut left = count;
-    while 0 < left {
-        let judged = no_asset_call(sheet, lines, at);
-        if let Done::Refused(why) = judged {
-            return Done::Refused(why);
-        }
-        at = end(lines, at);
-        left -= 1;
+    for at in sheet.records(from, count) {
+        no_asset_call(sheet, at)?;
     }
-    Done::Fine
+    Ok(())
 }

@@ -10,6 +10,7 @@ use lib.Dec.{eqb, leb}
 use lib.ListN.{length, get_or}
 use lib.Seq.{get_or-set_same}
 use borrow.Author.Tests.{eq-eqb, ne_eqb, eqb-true, eqb-false}
+use Rattle.std.specs.Prelude.{Result, Ok, Err}
 use Rattle.grammar.specs.Grammar as grammar
 use Rattle.sheet.specs.Scratch.{kind_at, name_at, end_at, skip, emit_arg_count}
 use Rattle.sheet.specs.Tree.{Node, node}
@@ -33,14 +34,10 @@ use Rattle.lookups.specs.Found.{node_kind, of_kind}
 use Rattle.refusals.specs.Refusal.{refusal_of, done_of}
 use Rattle.refusals.specs.declared.refusal.Refusal.{Refusal}
 use Rattle.refusals.specs.declared.refusal.Refusal.TheVariants.{CollectionLocal}
-use Rattle.refusals.specs.declared.refusal.Done.{Done}
-use Rattle.refusals.specs.declared.refusal.Done.TheVariants.{Fine, Refused}
 use Rattle.env.specs.Answers.{typed_of}
 use Rattle.env.specs.Force.{params_in, env_of, local_of, named_end, lets, ends_in, InForce}
 use Rattle.env.proofs.Mentioned.{not_stale_at}
 use Rattle.env.specs.declared.env.Env.{Env}
-use Rattle.env.specs.declared.judge.Typed.{Typed}
-use Rattle.env.specs.declared.judge.Typed.TheVariants.{Is, Refused as No}
 use Rattle.typing.specs.Asks.{Asks, Types, Does}
 use Rattle.typing.proofs.Asking.{asks_line, of_expr}
 use Rattle.typing.proofs.Calls.{did, stopped, does_length}
@@ -86,11 +83,11 @@ module _ (s S : List ℕ) (env : Env) (T : Table) (i : ℕ) (h : StmtOf kinds.le
   pub let_asks : Asks s S env T (i + 1)
   let_asks = record { ready = h.stmt.ready.ready; here = rw (add-one i) (row_first let_is.1) }
 
-  module _ (a : Typed) (U : Table) (y : Types s (ty_of (env_of s T env) (expr_at s (i + 1))) T a U) where
-    typed : (c : ℕ) → a ≡ Is c → kept (ty_of (env_of s T env) (expr_at s (suc i))) T ≡ record { res = ok (ty_from c); table = U }
+  module _ (a : Result ℕ Refusal) (U : Table) (y : Types s (ty_of (env_of s T env) (expr_at s (i + 1))) T a U) where
+    typed : (c : ℕ) → a ≡ Ok c → kept (ty_of (env_of s T env) (expr_at s (suc i))) T ≡ record { res = ok (ty_from c); table = U }
     typed c e = rw (← add-one i) (gave s _ T a U y c e)
 
-    pub let_bound : (c : ℕ) → a ≡ Is c → c ≢ codes.collection → StmtDoes s S (env_of s T env) i T Fine U
+    pub let_bound : (c : ℕ) → a ≡ Ok c → c ≢ codes.collection → StmtDoes s S (env_of s T env) i T (Ok tt) U
     unfolding stmt_rule check_local eq_ty done_of code
     let_bound c e q =
         let k : c ≡ code (ty_from c) = gave_code s _ T a U y c e in
@@ -102,7 +99,7 @@ module _ (s S : List ℕ) (env : Env) (T : Table) (i : ℕ) (h : StmtOf kinds.le
               record { type = ty_from c; typed = typed c e; fits = f; marked = marked_by s S env T (suc i) (ty_from c) U (rw (add-one i) at let_asks) (omega (arith, h.stmt.next)) (typed c e) };
         }
 
-    pub let_collection : (c : ℕ) → a ≡ Is c → c ≡ codes.collection → StmtDoes s S (env_of s T env) i T (Refused (CollectionLocal (i + 1))) U
+    pub let_collection : (c : ℕ) → a ≡ Ok c → c ≡ codes.collection → StmtDoes s S (env_of s T env) i T (Err (CollectionLocal (i + 1))) U
     unfolding stmt_rule check_local eq_ty done_of refusal_of code
     let_collection c e q =
         let k : c ≡ code (ty_from c) = gave_code s _ T a U y c e in
@@ -113,7 +110,7 @@ module _ (s S : List ℕ) (env : Env) (T : Table) (i : ℕ) (h : StmtOf kinds.le
           binds = λ z w. absurd (let v : ◌≡◌ {A = ℕ} 0 1 = cc in omega arith);
         }
 
-    pub let_refused : (r : Refusal) → a ≡ No r → StmtDoes s S (env_of s T env) i T (Refused r) U
+    pub let_refused : (r : Refusal) → a ≡ Err r → StmtDoes s S (env_of s T env) i T (Err r) U
     unfolding stmt_rule done_of typed_of
     let_refused r e =
         record {
@@ -122,7 +119,7 @@ module _ (s S : List ℕ) (env : Env) (T : Table) (i : ℕ) (h : StmtOf kinds.le
         }
 
 -- a statement that binds nothing
-other : {s S : List ℕ} {Γ : typing.Env} {i : ℕ} {T U : Table} {r : Done} → kind_at S i ≢ kinds.let' → Does s (stmt_rule Γ (stmt_at s i)) T r U → StmtDoes s S Γ i T r U
+other : {s S : List ℕ} {Γ : typing.Env} {i : ℕ} {T U : Table} {r : Result Unit Refusal} → kind_at S i ≢ kinds.let' → Does s (stmt_rule Γ (stmt_at s i)) T r U → StmtDoes s S Γ i T r U
 other n d = record { does = d; binds = λ z w. absurd (n w) }
 
 module _ (s S : List ℕ) (env : Env) (T : Table) (i : ℕ) (h : StmtOf kinds.do' s S env T i) where
@@ -132,19 +129,19 @@ module _ (s S : List ℕ) (env : Env) (T : Table) (i : ℕ) (h : StmtOf kinds.do
   pub do_types : StmtIn s S env T i
   do_types = record { ready = h.stmt.ready.ready; here = h.stmt.here }
 
-  module _ (d : Done) (U : Table) (a : Does s (check_stmt_types (env_of s T env) (stmt_at s i)) T d U) where
-    pub do_no : (x : Refusal) → d ≡ Refused x → StmtDoes s S (env_of s T env) i T (Refused x) U
+  module _ (d : Result Unit Refusal) (U : Table) (a : Does s (check_stmt_types (env_of s T env) (stmt_at s i)) T d U) where
+    pub do_no : (x : Refusal) → d ≡ Err x → StmtDoes s S (env_of s T env) i T (Err x) U
     unfolding stmt_rule
     do_no x e = other (omega (arith, h.kind)) (rw do_is.0 (does_cut s _ _ T d U (rw do_is.0 at a) x e))
 
-    module _ (e : d ≡ Fine) where
+    module _ (e : d ≡ Ok tt) where
       on : OnTyped s S env T U
       on = on_typed s S env T U _ tt h.stmt.ready (did s _ T d U a.gives e)
 
       pub do_asks : Asks s S env U (i + 1)
       do_asks = record { ready = on.on.ready; here = rw (add-one i) (row_first do_is.1) }
 
-      pub do_ok : (r : Done) (W : Table) → Does s (refuse_name_recipient (env_of s U env) (expr_at s (i + 1))) U r W → StmtDoes s S (env_of s T env) i T r W
+      pub do_ok : (r : Result Unit Refusal) (W : Table) → Does s (refuse_name_recipient (env_of s U env) (expr_at s (i + 1))) U r W → StmtDoes s S (env_of s T env) i T r W
       unfolding stmt_rule
       do_ok r W k =
           other (omega (arith, h.kind))
@@ -157,7 +154,7 @@ module _ (s S : List ℕ) (env : Env) (T : Table) (i : ℕ) (h : BodyStmt s S en
   pub guard_asks : k ≡ kinds.guard → Asks s S env T (i + 1)
   guard_asks q = record { ready = h.ready.ready; here = rw (add-one i) (row_first (guard_at bd h.here (sym e ∙ q)).1) }
 
-  pub guard_does : (r : Done) (U : Table) → k ≡ kinds.guard → Does s (expect_predicate (env_of s T env) (expr_at s (i + 1))) T r U → StmtDoes s S (env_of s T env) i T r U
+  pub guard_does : (r : Result Unit Refusal) (U : Table) → k ≡ kinds.guard → Does s (expect_predicate (env_of s T env) (expr_at s (i + 1))) T r U → StmtDoes s S (env_of s T env) i T r U
   unfolding stmt_rule
   guard_does r U q a = other (omega arith) (rw ((guard_at bd h.here (sym e ∙ q)).0, ← add-one i) a)
 
@@ -170,14 +167,14 @@ module _ (s S : List ℕ) (env : Env) (T : Table) (i : ℕ) (h : BodyStmt s S en
   pub emit_in : k ≡ kinds.emit → EmitIn s S env T i
   emit_in q = record { ready = h.ready.ready; within = h.here.within; kind = sym e ∙ q }
 
-  pub emit_does : (r : Done) (U : Table) → k ≡ kinds.emit → Does s (emit_rule (env_of s T env) (name_at s S i) (list (exprs_at s (emit_arg_count S i) (suc i)))) T r U → StmtDoes s S (env_of s T env) i T r U
+  pub emit_does : (r : Result Unit Refusal) (U : Table) → k ≡ kinds.emit → Does s (emit_rule (env_of s T env) (name_at s S i) (list (exprs_at s (emit_arg_count S i) (suc i)))) T r U → StmtDoes s S (env_of s T env) i T r U
   unfolding stmt_rule
   emit_does r U q a = other (omega arith) (rw (emit_at bd h.here (sym e ∙ q)).0 a)
 
   pub assign_in : k ≡ kinds.assign → StmtIn s S env T i
   assign_in q = record { ready = h.ready.ready; here = h.here }
 
-  pub assign_does : (r : Done) (U : Table) → k ≡ kinds.assign → Does s (check_stmt_types (env_of s T env) (stmt_at s i)) T r U → StmtDoes s S (env_of s T env) i T r U
+  pub assign_does : (r : Result Unit Refusal) (U : Table) → k ≡ kinds.assign → Does s (check_stmt_types (env_of s T env) (stmt_at s i)) T r U → StmtDoes s S (env_of s T env) i T r U
   unfolding stmt_rule
   assign_does r U q a =
       let t = (assign_at bd h.here (sym e ∙ q)).0 in
@@ -317,25 +314,25 @@ module _ (s S : List ℕ) (T : Table) (params count body total at left : ℕ) (h
   stmts_are : stmts_at s left at ≡ stmt_at s at ∷ stmts_at s (left - 1) (end_at S at)
   stmts_are = ap (λ k. stmts_at s k at) (let y : left ≡ suc (left - 1) = omega arith in y) ∙ stmts_next d (left - 1) here.within
 
-  module _ (k : ℕ) (Γ : Env) (e : Γ ≡ with_locals params count body k at) (q : k ≡ total - left) (o : Done) (U : Table) (a : StmtDoes s S (env_of s T Γ) at T o U) where
+  module _ (k : ℕ) (Γ : Env) (e : Γ ≡ with_locals params count body k at) (q : k ≡ total - left) (o : Result Unit Refusal) (U : Table) (a : StmtDoes s S (env_of s T Γ) at T o U) where
     does : StmtDoes s S (env_of s T env) at T o U
     does = rw (← (e ∙ ap (λ m. with_locals params count body m at) q)) a
 
     let_is_here : kind_at S at ≡ kinds.let' → stmt_at s at ≡ bind (name_at s S at) (expr_at s (suc at))
     let_is_here w = (let_at d here w).0
 
-    pub body_no : (x : Refusal) → o ≡ Refused x → Does s (check_body (env_of s T env) (stmts_at s left at)) T (Refused x) U
+    pub body_no : (x : Refusal) → o ≡ Err x → Does s (check_body (env_of s T env) (stmts_at s left at)) T (Err x) U
     unfolding check_body stmt_rule ◌>>◌ done_of
     body_no x z = rw stmts_are (by_cases (eqb (kind_at S at) kinds.let') refl)
       where
-        by_cases : (b : Bool) → eqb (kind_at S at) kinds.let' ≡ b → Does s (check_body (env_of s T env) (stmt_at s at ∷ stmts_at s (left - 1) (end_at S at))) T (Refused x) U
+        by_cases : (b : Bool) → eqb (kind_at S at) kinds.let' ≡ b → Does s (check_body (env_of s T env) (stmt_at s at ∷ stmts_at s (left - 1) (end_at S at))) T (Err x) U
         by_cases true w =
             let i = let_is_here (eqb-true (kind_at S at) kinds.let' w) in
             record { gives = rw i (refused_behind (ty_of (env_of s T env) (expr_at s (suc at))) (check_local (expr_at s (suc at))) (λ ty. check_body (bound (env_of s T env) (name_at s S at) ty (line_after (expr_at s (suc at)))) (stmts_at s (left - 1) (end_at S at))) T U (refusal_of s x) (rw i at (stopped s (stmt_rule (env_of s T env) (stmt_at s at)) T o U does.does.gives x z))) }
         by_cases false w =
             record { gives = step_other (env_of s T env) (stmt_at s at) (stmts_at s (left - 1) (end_at S at)) T (is_other d here (eqb-false (kind_at S at) kinds.let' w)) ∙ (does_cut s (stmt_rule (env_of s T env) (stmt_at s at)) (check_body (env_of s T env) (stmts_at s (left - 1) (end_at S at))) T o U does.does x z).gives }
 
-    module _ (f : o ≡ Fine) where
+    module _ (f : o ≡ Ok tt) where
       onw : OnTyped s S env T U
       onw = on_typed s S env T U _ tt h.ready (did s _ T o U does.does.gives f)
 
@@ -343,7 +340,7 @@ module _ (s S : List ℕ) (T : Table) (params count body total at left : ℕ) (h
       record Behind : Type 0 where
         with' : typing.Env
         grows : Grown U with'
-        steps : (r : Done) (W : Table) → Does s (check_body with' (stmts_at s (left - 1) (end_at S at))) U r W → Does s (check_body (env_of s T env) (stmts_at s left at)) T r W
+        steps : (r : Result Unit Refusal) (W : Table) → Does s (check_body with' (stmts_at s (left - 1) (end_at S at))) U r W → Does s (check_body (env_of s T env) (stmts_at s left at)) T r W
 
       behind : Behind
       unfolding check_body ◌>>◌
@@ -378,16 +375,16 @@ module _ (s S : List ℕ) (T : Table) (params count body total at left : ℕ) (h
             ready = rw (z, em) behind.grows.ready;
           }
 
-      pub body_ok : (m : ℕ) (r : Done) (W : Table) → m ≡ end_at S at
+      pub body_ok : (m : ℕ) (r : Result Unit Refusal) (W : Table) → m ≡ end_at S at
           → Does s (check_body (env_of s U (with_locals params count body (total - (left - 1)) m)) (stmts_at s (left - 1) m)) U r W
           → Does s (check_body (env_of s T env) (stmts_at s left at)) T r W
       body_ok m r W em k =
           let z : suc (total - left) ≡ total - (left - 1) = omega (arith, h.few) in
           behind.steps r W (rw (← behind.grows.is, ← em, z) k)
 
-pub body_none : (s S : List ℕ) (T : Table) (Γ : typing.Env) (left at : ℕ) → left ≡ 0 → Does s (check_body Γ (stmts_at s left at)) T Fine T
+pub body_none : (s S : List ℕ) (T : Table) (Γ : typing.Env) (left at : ℕ) → left ≡ 0 → Does s (check_body Γ (stmts_at s left at)) T (Ok tt) T
 unfolding check_body
 body_none s S T Γ left at e = rw (e, no_stmts s at) (does_nothing s T)
 
-pub stmt_length : (s S : List ℕ) (Γ : typing.Env) (i : ℕ) (T : Table) (r : Done) (U : Table) → StmtDoes s S Γ i T r U → length U ≡ length T
+pub stmt_length : (s S : List ℕ) (Γ : typing.Env) (i : ℕ) (T : Table) (r : Result Unit Refusal) (U : Table) → StmtDoes s S Γ i T r U → length U ≡ length T
 stmt_length s S Γ i T r U a = does_length s _ T r U a.does

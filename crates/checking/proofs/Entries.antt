@@ -5,6 +5,7 @@ use mathlib.Core.Bool.{false}
 use Prim.Native.Nat.{ℕ, suc, ◌+◌, ◌-◌, ◌<◌}
 use native.Mathlib.Numerals.{add-one}
 use native.Mathlib.Omega.{arith}
+use Rattle.std.specs.Prelude.{Result, Ok, Err}
 use Rattle.grammar.specs.Grammar as grammar
 use Rattle.sheet.specs.Scratch.{skip, line_count, param_count, clause_count, body_count}
 use Rattle.sheet.specs.Tree.{take_nodes}
@@ -23,8 +24,6 @@ use Rattle.lookups.specs.Found.{of_kind}
 use Rattle.lookups.specs.Lines.{EntryAt, RecordsAt}
 use Rattle.refusals.specs.Refusal.{done_of}
 use Rattle.refusals.specs.declared.refusal.Refusal.{Refusal}
-use Rattle.refusals.specs.declared.refusal.Done.{Done}
-use Rattle.refusals.specs.declared.refusal.Done.TheVariants.{Fine, Refused}
 use Rattle.refusals.proofs.Answers.{answers_then, answers_cut}
 use Rattle.env.specs.Force.{env_of, params_in, lets, ends_in}
 use Rattle.env.specs.declared.env.Env.{Env}
@@ -74,7 +73,7 @@ module _ (s S : List ℕ) (T : Table) (i : ℕ) (h : EntryIn s S T i) where
             row = parts.clauses;
           })
 
-      pub clauses_does : (at b : ℕ) (r : Done) (U : Table) → at ≡ skip S (param_count S i) (suc i) → b ≡ clause_count S i
+      pub clauses_does : (at b : ℕ) (r : Result Unit Refusal) (U : Table) → at ≡ skip S (param_count S i) (suc i) → b ≡ clause_count S i
           → Does s (for_each (nodes_at s b at) (record_rule (sort_number grammar.Clause) (env_of s T env))) T r U
           → Does s (for_each (entry_at s i).clauses (clause_predicate (entry_env (model_in s) (entry_at s i)))) T r U
       unfolding clauses_at entry_at entry_of
@@ -102,7 +101,7 @@ module _ (s S : List ℕ) (T : Table) (i : ℕ) (h : EntryIn s S T i) where
                 });
           }
 
-      pub body_does : (r : Done) (U : Table) → Does s (check_body (env_of s T (with_locals (i + 1) a body (total - total) body)) (stmts_at s total body)) T r U
+      pub body_does : (r : Result Unit Refusal) (U : Table) → Does s (check_body (env_of s T (with_locals (i + 1) a body (total - total) body)) (stmts_at s total body)) T r U
           → Does s (check_body (entry_env (model_in s) (entry_at s i)) (entry_at s i).body) T r U
       unfolding with_locals env_of params_in lets nodes_at take_nodes nodes of_kind ends_in entry_env typing.new params_at
       body_does r U k =
@@ -110,7 +109,7 @@ module _ (s S : List ℕ) (T : Table) (i : ℕ) (h : EntryIn s S T i) where
           let e : env_of s T (with_locals (i + 1) a body (total - total) body) ≡ entry_env (model_in s) (entry_at s i) = rw (none, parts.is, ea, add-one i) refl in
           rw (c, ← e) k
 
-  module _ (o : Done) (U : Table) (a : Does s (for_each (entry_at s i).clauses (clause_predicate (entry_env (model_in s) (entry_at s i)))) T o U) where
+  module _ (o : Result Unit Refusal) (U : Table) (a : Does s (for_each (entry_at s i).clauses (clause_predicate (entry_env (model_in s) (entry_at s i)))) T o U) where
     pub types_on : EntryIn s S U i
     types_on =
         record {
@@ -119,11 +118,11 @@ module _ (s S : List ℕ) (T : Table) (i : ℕ) (h : EntryIn s S T i) where
           kind = h.kind;
         }
 
-    pub types_ok : o ≡ Fine → (r : Done) (W : Table) → Does s (check_body (entry_env (model_in s) (entry_at s i)) (entry_at s i).body) U r W → Does s (types_rule (model_in s) (entry_at s i)) T r W
+    pub types_ok : o ≡ Ok tt → (r : Result Unit Refusal) (W : Table) → Does s (check_body (entry_env (model_in s) (entry_at s i)) (entry_at s i).body) U r W → Does s (types_rule (model_in s) (entry_at s i)) T r W
     unfolding types_rule ◌>>◌
     types_ok e r W k = does_then s _ _ T o U a e r W k
 
-    pub types_no : (x : Refusal) → o ≡ Refused x → Does s (types_rule (model_in s) (entry_at s i)) T (Refused x) U
+    pub types_no : (x : Refusal) → o ≡ Err x → Does s (types_rule (model_in s) (entry_at s i)) T (Err x) U
     unfolding types_rule ◌>>◌
     types_no x e = does_cut s _ _ T o U a x e
 
@@ -134,15 +133,15 @@ module _ (s S : List ℕ) (T : Table) (i : ℕ) (h : EntryIn s S T i) where
   unfolding check_entry types_rule uses_rule entry_env ◌>>◌
   grouped = kept_behind (narrow_wrapping (model_in s) (entry_at s i)) _ _ T (λ _ U. sym (kept_assoc _ _ _ U))
 
-  module _ (o : Done) (a : Answers (narrow_wrapping (model_in s) (entry_at s i)) (done_of s o)) where
-    pub entry_no : (x : Refusal) → o ≡ Refused x → Does s (check_entry (model_in s) (entry_at s i)) T (Refused x) T
+  module _ (o : Result Unit Refusal) (a : Answers (narrow_wrapping (model_in s) (entry_at s i)) (done_of s o)) where
+    pub entry_no : (x : Refusal) → o ≡ Err x → Does s (check_entry (model_in s) (entry_at s i)) T (Err x) T
     entry_no x e = record { gives = grouped ∙ (does_cut s _ _ T o T (asks_none s _ T o a) x e).gives }
 
-    module _ (e : o ≡ Fine) (p : Done) (U : Table) (b : Does s (types_rule (model_in s) (entry_at s i)) T p U) where
-      pub entry_types_no : (x : Refusal) → p ≡ Refused x → Does s (check_entry (model_in s) (entry_at s i)) T (Refused x) U
-      entry_types_no x f = record { gives = grouped ∙ (does_then s _ _ T o T (asks_none s _ T o a) e (Refused x) U (does_cut s _ _ T p U b x f)).gives }
+    module _ (e : o ≡ Ok tt) (p : Result Unit Refusal) (U : Table) (b : Does s (types_rule (model_in s) (entry_at s i)) T p U) where
+      pub entry_types_no : (x : Refusal) → p ≡ Err x → Does s (check_entry (model_in s) (entry_at s i)) T (Err x) U
+      entry_types_no x f = record { gives = grouped ∙ (does_then s _ _ T o T (asks_none s _ T o a) e (Err x) U (does_cut s _ _ T p U b x f)).gives }
 
-      pub entry_ok : p ≡ Fine → (r : Done) → Answers (uses_rule (entry_at s i)) (done_of s r) → Does s (check_entry (model_in s) (entry_at s i)) T r U
+      pub entry_ok : p ≡ Ok tt → (r : Result Unit Refusal) → Answers (uses_rule (entry_at s i)) (done_of s r) → Does s (check_entry (model_in s) (entry_at s i)) T r U
       entry_ok f r k = record { gives = grouped ∙ (does_then s _ _ T o T (asks_none s _ T o a) e r U (does_then s _ _ T p U b f r U (asks_none s _ U r k))).gives }
 
 -- ------------------------------------------------------------ what is checked without types
@@ -161,23 +160,23 @@ module _ (s S : List ℕ) (i : ℕ) (h : EntryAt s S i) where
     pub uses_clauses : RecordsAt grammar.Clause s S b at
     uses_clauses = record { loaded = h.loaded; row = rw (et, eb) its.clauses }
 
-    module _ (o : Done) (a : Answers (for_each (clauses_at s b at) clause_assets) (done_of s o)) where
+    module _ (o : Result Unit Refusal) (a : Answers (for_each (clauses_at s b at) clause_assets) (done_of s o)) where
       first : Answers (for_each (entry_at s i).clauses clause_assets) (done_of s o)
       first = rw (ap (λ (x : Entry). x.clauses) its.is, ← et, ← eb) a
 
-      pub uses_no : (x : Refusal) → o ≡ Refused x → Answers (uses_rule (entry_at s i)) (done_of s (Refused x))
+      pub uses_no : (x : Refusal) → o ≡ Err x → Answers (uses_rule (entry_at s i)) (done_of s (Err x))
       unfolding uses_rule ◌>>◌
       uses_no x e = answers_cut s _ _ o first x e
 
-      module _ (e : o ≡ Fine) (body c : ℕ) (ey : body ≡ skip S (clause_count S i) (skip S (param_count S i) (suc i))) (ec : c ≡ body_count S i) where
-        module _ (p : Done) (k : Answers (for_each (stmts_at s c body) asset_calls_consumed) (done_of s p)) where
+      module _ (e : o ≡ Ok tt) (body c : ℕ) (ey : body ≡ skip S (clause_count S i) (skip S (param_count S i) (suc i))) (ec : c ≡ body_count S i) where
+        module _ (p : Result Unit Refusal) (k : Answers (for_each (stmts_at s c body) asset_calls_consumed) (done_of s p)) where
           second : Answers (for_each (entry_at s i).body asset_calls_consumed) (done_of s p)
           second = rw (ap (λ (x : Entry). x.body) its.is, ← ey, ← ec) k
 
-          pub uses_body_no : (x : Refusal) → p ≡ Refused x → Answers (uses_rule (entry_at s i)) (done_of s (Refused x))
+          pub uses_body_no : (x : Refusal) → p ≡ Err x → Answers (uses_rule (entry_at s i)) (done_of s (Err x))
           unfolding uses_rule ◌>>◌
-          uses_body_no x f = answers_then s _ _ o first e (Refused x) (answers_cut s _ _ p second x f)
+          uses_body_no x f = answers_then s _ _ o first e (Err x) (answers_cut s _ _ p second x f)
 
-          pub uses_ok : p ≡ Fine → (r : Done) → Answers (check_arithmetic (entry_at s i) (param_types (entry_at s i).params)) (done_of s r) → Answers (uses_rule (entry_at s i)) (done_of s r)
+          pub uses_ok : p ≡ Ok tt → (r : Result Unit Refusal) → Answers (check_arithmetic (entry_at s i) (param_types (entry_at s i).params)) (done_of s r) → Answers (uses_rule (entry_at s i)) (done_of s r)
           unfolding uses_rule ◌>>◌
           uses_ok f r m = answers_then s _ _ o first e r (answers_then s _ _ p second f r m)

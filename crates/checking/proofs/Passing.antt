@@ -8,6 +8,7 @@ use native.Mathlib.Numerals.{add-one}
 use native.Mathlib.Omega.{arith}
 use lib.Dec.{eqb}
 use borrow.Author.Tests.{eq-eqb, ne_eqb, eqb-true, eqb-false, not-true, not-false}
+use Rattle.std.specs.Prelude.{Result, Ok, Err}
 use Rattle.grammar.specs.Grammar as grammar
 use Rattle.sheet.specs.Scratch.{kind_at, end_at, skip, item_count, field_count, param_count, genesis_count}
 use Rattle.sheet.specs.Tree.{take_nodes}
@@ -33,8 +34,6 @@ use Rattle.lookups.specs.Found.{of_kind}
 use Rattle.lookups.specs.Lines.{RecordsAt, FewLines}
 use Rattle.refusals.specs.Refusal.{done_of}
 use Rattle.refusals.specs.declared.refusal.Refusal.{Refusal}
-use Rattle.refusals.specs.declared.refusal.Done.{Done}
-use Rattle.refusals.specs.declared.refusal.Done.TheVariants.{Fine, Refused}
 use Rattle.env.specs.Force.{env_of, params_in, lets, ends_in, Ready}
 use Rattle.env.specs.declared.env.Env.{Env}
 use Rattle.typing.specs.Asks.{Asks, Does}
@@ -215,7 +214,7 @@ module _ (s S : List ℕ) (T : Table) (pass i : ℕ) (h : OwnItem s S T pass i) 
   pub item_entry : pass ≡ passes.entries → EntryIn s S T i
   item_entry e = record { sheet = sh; within = here.within; kind = own_kind ∙ rw e refl }
 
-  pub entry_pass : (r : Done) (U : Table) → pass ≡ passes.entries → Does s (check_entry (model_in s) (entry_at s i)) T r U → Does s (pass_rule s pass (item_model (item_of (node_at s i)))) T r U
+  pub entry_pass : (r : Result Unit Refusal) (U : Table) → pass ≡ passes.entries → Does s (check_entry (model_in s) (entry_at s i)) T r U → Does s (pass_rule s pass (item_model (item_of (node_at s i)))) T r U
   unfolding pass_rule
   entry_pass r U e a = record { gives = rw (e, entry_model d here (item_entry e).kind) (one (check_entry (model_in s)) (entry_at s i) T ∙ a.gives) }
 
@@ -227,7 +226,7 @@ module _ (s S : List ℕ) (T : Table) (pass i : ℕ) (h : OwnItem s S T pass i) 
     pub item_invariant : Asks s S env T (i + 1)
     item_invariant = rw f (record { ready = bare_ready s S T false sh; here = rw (add-one i) (row_first inv.1) })
 
-    pub invariant-pass : (r : Done) (U : Table) → Does s (expect_predicate (env_of s T env) (expr_at s (i + 1))) T r U → Does s (pass_rule s pass (item_model (item_of (node_at s i)))) T r U
+    pub invariant-pass : (r : Result Unit Refusal) (U : Table) → Does s (expect_predicate (env_of s T env) (expr_at s (i + 1))) T r U → Does s (pass_rule s pass (item_model (item_of (node_at s i)))) T r U
     unfolding pass_rule
     invariant-pass r U a =
         record { gives = rw (e, inv.0) (one (expect_predicate (typing.new (model_in s) [])) (expr_at s (suc i)) T ∙ rw (← new_env s T, ← f, ← add-one i) a.gives) }
@@ -247,7 +246,7 @@ module _ (s S : List ℕ) (T : Table) (pass i : ℕ) (h : OwnItem s S T pass i) 
         (λ e f. record { loaded = d; row = rw (em, add-one i) (event_at_lem d here.within f).1 })
         (λ e f. record { loaded = d; row = rw (em, add-one i) (entry_at_lem d here.within f).params })
 
-    pub params_pass : (r : Done) → Answers (for_each (params_at s m (i + 1)) (param_rule (eqb k kinds.event))) (done_of s r) → Does s (pass_rule s pass (item_model (item_of (node_at s i)))) T r T
+    pub params_pass : (r : Result Unit Refusal) → Answers (for_each (params_at s m (i + 1)) (param_rule (eqb k kinds.event))) (done_of s r) → Does s (pass_rule s pass (item_model (item_of (node_at s i)))) T r T
     unfolding pass_rule param_rule
     params_pass r a =
         params_of (Does s (pass_rule s pass (item_model (item_of (node_at s i)))) T r T)
@@ -300,7 +299,7 @@ module _ (s S : List ℕ) (T : Table) (pass i : ℕ) (h : OwnItem s S T pass i) 
         (λ e w z. rw (f, es, e) (record { ready = bare_ready s S T g sh; bare = refl; walked = a_field; row = rw (fields_in e, add-one i) (state_model d here w).1 }))
         (λ e w z. rw (f, es, e) (record { ready = bare_ready s S T g sh; bare = refl; walked = a_stmt; row = rw (genesis_in e, add-one i) (genesis_model d here w).1 }))
 
-    pub records_pass : (env : Env) (r : Done) (U : Table) → env ≡ with_params 0 0 (eqb k kinds.genesis) → Does s (for_each (nodes_at s m (i + 1)) (record_rule sort (env_of s T env))) T r U
+    pub records_pass : (env : Env) (r : Result Unit Refusal) (U : Table) → env ≡ with_params 0 0 (eqb k kinds.genesis) → Does s (for_each (nodes_at s m (i + 1)) (record_rule sort (env_of s T env))) T r U
         → Does s (pass_rule s pass (item_model (item_of (node_at s i)))) T r U
     unfolding pass_rule
     records_pass env r U f a =
@@ -324,14 +323,14 @@ module _ (s S : List ℕ) (T : Table) (pass i : ℕ) (h : ItemIn s S T pass i) (
   pub item_number : pass < passes.count
   item_number = h.number
 
-  pub item_other : not b ≡ true → Does s (pass_rule s pass (item_model (item_of (node_at s i)))) T Fine T
+  pub item_other : not b ≡ true → Does s (pass_rule s pass (item_model (item_of (node_at s i)))) T (Ok tt) T
   unfolding done_of kept
   item_other q = record { gives = nothing_for h.sheet.loaded h.here pass T h.number (rw (← ek, ← eb) (not-true b q)) }
 
   pub item_own : not b ≡ false → OwnItem s S T pass i
   item_own q = record { item = h; own = rw (← ek, ← eb) (not-false b q) }
 
-pub items_none : (s S : List ℕ) (T : Table) (pass m i : ℕ) → ItemsIn s S T pass m i → m ≡ 0 → Does s (pass_rule s pass (build (map item_of (nodes_at s m i)))) T Fine T
+pub items_none : (s S : List ℕ) (T : Table) (pass m i : ℕ) → ItemsIn s S T pass m i → m ≡ 0 → Does s (pass_rule s pass (build (map item_of (nodes_at s m i)))) T (Ok tt) T
 unfolding build done_of kept
 items_none s S T pass m i h e = record { gives = rw (e, no_nodes s i) (pass_nothing s pass T h.number) }
 
@@ -348,11 +347,11 @@ module _ (s S : List ℕ) (T : Table) (pass m i : ℕ) (h : ItemsIn s S T pass m
   split =
       rw (list_some records h.sheet.loaded (omega arith) h.row) (pass_joined s pass (item_model (item_of (node_at s i))) (build (map item_of (nodes_at s (m - 1) (end_at S i)))) T h.number)
 
-  module _ (o : Done) (U : Table) (a : Does s (pass_rule s pass (item_model (item_of (node_at s i)))) T o U) where
-    pub items_no : (x : Refusal) → o ≡ Refused x → Does s (pass_rule s pass (build (map item_of (nodes_at s m i)))) T (Refused x) U
+  module _ (o : Result Unit Refusal) (U : Table) (a : Does s (pass_rule s pass (item_model (item_of (node_at s i)))) T o U) where
+    pub items_no : (x : Refusal) → o ≡ Err x → Does s (pass_rule s pass (build (map item_of (nodes_at s m i)))) T (Err x) U
     items_no x e = record { gives = split ∙ (does_cut s _ _ T o U a x e).gives }
 
-    pub items_rest : o ≡ Fine → (j : ℕ) → j ≡ end_at S i → (k : ℕ) → k ≤ m - 1 → ItemsIn s S U pass k j
+    pub items_rest : o ≡ Ok tt → (j : ℕ) → j ≡ end_at S i → (k : ℕ) → k ≤ m - 1 → ItemsIn s S U pass k j
     items_rest e j q k l =
         rw q
         (record {
@@ -361,7 +360,7 @@ module _ (s S : List ℕ) (T : Table) (pass m i : ℕ) (h : ItemsIn s S T pass m
           row = row_take k l (row_rest row);
         })
 
-    pub items_ok : o ≡ Fine → (j : ℕ) → j ≡ end_at S i → (r : Done) (W : Table) → Does s (pass_rule s pass (build (map item_of (nodes_at s (m - 1) j)))) U r W
+    pub items_ok : o ≡ Ok tt → (j : ℕ) → j ≡ end_at S i → (r : Result Unit Refusal) (W : Table) → Does s (pass_rule s pass (build (map item_of (nodes_at s (m - 1) j)))) U r W
         → Does s (pass_rule s pass (build (map item_of (nodes_at s m i)))) T r W
     items_ok e j q r W k = record { gives = split ∙ (does_then s _ _ T o U a e r W (rw (← q) k)).gives }
 
@@ -371,7 +370,7 @@ module _ (s S : List ℕ) (T : Table) (pass : ℕ) (h : PassIn s S T pass) (m : 
   pub pass_items : ItemsIn s S T pass m 1
   pass_items = record { sheet = h.sheet; number = h.number; row = rw e (items_at h.sheet.loaded).1 }
 
-  pub pass_does : (r : Done) (U : Table) → Does s (pass_rule s pass (build (map item_of (nodes_at s m 1)))) T r U → Does s (pass_rule s pass (model_in s)) T r U
+  pub pass_does : (r : Result Unit Refusal) (U : Table) → Does s (pass_rule s pass (build (map item_of (nodes_at s m 1)))) T r U → Does s (pass_rule s pass (model_in s)) T r U
   pass_does r U a = rw ((items_at h.sheet.loaded).0, ← e) a
 
 -- ------------------------------------------------------------ check
@@ -386,7 +385,7 @@ module _ (s S : List ℕ) (T : Table) (h : SheetIn s S T) where
   pub sheet_loaded : Loaded s S
   sheet_loaded = h.loaded
 
-  pub sheet_on : (p : Rule Unit) (o : Done) (U : Table) → Does s p T o U → SheetIn s S U
+  pub sheet_on : (p : Rule Unit) (o : Result Unit Refusal) (U : Table) → Does s p T o U → SheetIn s S U
   sheet_on p o U a = record { loaded = h.loaded; few = h.few; room = let l = does_length s p T o U a in omega (arith, l, h.room) }
 
 -- ------------------------------------------------------------ the order of `check`
@@ -404,56 +403,56 @@ module _ (s : List ℕ) where
       kept_behind (p passes.fields) (λ _. p passes.events >>= λ _. bounds >>= λ _. p passes.params >>= λ _. p passes.invariants) (λ _. after_fields s) T
       (λ _ U. sym (kept_assoc (λ _. bounds >>= λ _. p passes.params) (λ _. p passes.invariants) (p passes.events) U ∙ kept_behind (p passes.events) (λ _. (bounds >>= λ _. p passes.params) >>= λ _. p passes.invariants) (λ _. bounds >>= λ _. p passes.params >>= λ _. p passes.invariants) U (λ _ W. kept_assoc (λ _. p passes.params) (λ _. p passes.invariants) bounds W)))
 
-  module _ (T : Table) (o : Done) (U : Table) where
+  module _ (T : Table) (o : Result Unit Refusal) (U : Table) where
     module _ (a : Does s (p passes.events) T o U) where
-      pub names_no : (x : Refusal) → o ≡ Refused x → Does s (names_rule s) T (Refused x) U
+      pub names_no : (x : Refusal) → o ≡ Err x → Does s (names_rule s) T (Err x) U
       unfolding names_rule ◌>>◌
       names_no x e = does_cut s _ _ T o U a x e
 
-      module _ (e : o ≡ Fine) (q : Done) (g : Answers bounds (done_of s q)) where
-        pub bounds_no : (x : Refusal) → q ≡ Refused x → Does s (names_rule s) T (Refused x) U
+      module _ (e : o ≡ Ok tt) (q : Result Unit Refusal) (g : Answers bounds (done_of s q)) where
+        pub bounds_no : (x : Refusal) → q ≡ Err x → Does s (names_rule s) T (Err x) U
         unfolding names_rule ◌>>◌
-        bounds_no x f = does_then s _ _ T o U a e (Refused x) U (does_cut s _ _ U q U (asks_none s _ U q g) x f)
+        bounds_no x f = does_then s _ _ T o U a e (Err x) U (does_cut s _ _ U q U (asks_none s _ U q g) x f)
 
-        pub names_ok : q ≡ Fine → (r : Done) (W : Table) → Does s (p passes.params) U r W → Does s (names_rule s) T r W
+        pub names_ok : q ≡ Ok tt → (r : Result Unit Refusal) (W : Table) → Does s (p passes.params) U r W → Does s (names_rule s) T r W
         unfolding names_rule ◌>>◌
         names_ok f r W k = does_then s _ _ T o U a e r W (does_then s _ _ U q U (asks_none s _ U q g) f r W k)
 
     module _ (a : Does s (names_rule s) T o U) where
-      pub after_no : (x : Refusal) → o ≡ Refused x → Does s (after_fields s) T (Refused x) U
+      pub after_no : (x : Refusal) → o ≡ Err x → Does s (after_fields s) T (Err x) U
       unfolding after_fields ◌>>◌
       after_no x e = does_cut s _ _ T o U a x e
 
-      pub after_ok : o ≡ Fine → (r : Done) (W : Table) → Does s (p passes.invariants) U r W → Does s (after_fields s) T r W
+      pub after_ok : o ≡ Ok tt → (r : Result Unit Refusal) (W : Table) → Does s (p passes.invariants) U r W → Does s (after_fields s) T r W
       unfolding after_fields ◌>>◌
       after_ok e r W k = does_then s _ _ T o U a e r W k
 
     module _ (a : Does s (p passes.fields) T o U) where
-      pub before_no : (x : Refusal) → o ≡ Refused x → Does s (before_entries (model_in s)) T (Refused x) U
+      pub before_no : (x : Refusal) → o ≡ Err x → Does s (before_entries (model_in s)) T (Err x) U
       before_no x e = record { gives = before_grouped T ∙ (does_cut s _ (after_fields s) T o U a x e).gives }
 
-      pub before_ok : o ≡ Fine → (r : Done) (W : Table) → Does s (after_fields s) U r W → Does s (before_entries (model_in s)) T r W
+      pub before_ok : o ≡ Ok tt → (r : Result Unit Refusal) (W : Table) → Does s (after_fields s) U r W → Does s (before_entries (model_in s)) T r W
       before_ok e r W k = record { gives = before_grouped T ∙ (does_then s _ _ T o U a e r W k).gives }
 
     module _ (a : Does s (p passes.entries) T o U) where
-      pub entries_no : (x : Refusal) → o ≡ Refused x → Does s (from_entries s) T (Refused x) U
+      pub entries_no : (x : Refusal) → o ≡ Err x → Does s (from_entries s) T (Err x) U
       unfolding from_entries ◌>>◌
       entries_no x e = does_cut s _ _ T o U a x e
 
-      module _ (e : o ≡ Fine) (q : Done) (g : Answers (check_key_kinds (model_in s)) (done_of s q)) where
-        pub kinds_no : (x : Refusal) → q ≡ Refused x → Does s (from_entries s) T (Refused x) U
+      module _ (e : o ≡ Ok tt) (q : Result Unit Refusal) (g : Answers (check_key_kinds (model_in s)) (done_of s q)) where
+        pub kinds_no : (x : Refusal) → q ≡ Err x → Does s (from_entries s) T (Err x) U
         unfolding from_entries ◌>>◌
-        kinds_no x f = does_then s _ _ T o U a e (Refused x) U (does_cut s _ _ U q U (asks_none s _ U q g) x f)
+        kinds_no x f = does_then s _ _ T o U a e (Err x) U (does_cut s _ _ U q U (asks_none s _ U q g) x f)
 
-        pub entries_ok : q ≡ Fine → (r : Done) (W : Table) → Does s (p passes.genesis) U r W → Does s (from_entries s) T r W
+        pub entries_ok : q ≡ Ok tt → (r : Result Unit Refusal) (W : Table) → Does s (p passes.genesis) U r W → Does s (from_entries s) T r W
         unfolding from_entries ◌>>◌
         entries_ok f r W k = does_then s _ _ T o U a e r W (does_then s _ _ U q U (asks_none s _ U q g) f r W k)
 
     module _ (a : Does s (before_entries (model_in s)) T o U) where
-      pub check_no : (x : Refusal) → o ≡ Refused x → Does s (check (model_in s)) T (Refused x) U
+      pub check_no : (x : Refusal) → o ≡ Err x → Does s (check (model_in s)) T (Err x) U
       unfolding check from_entries pass_rule ◌>>◌
       check_no x e = does_cut s _ _ T o U a x e
 
-      pub check_ok : o ≡ Fine → (r : Done) (W : Table) → Does s (from_entries s) U r W → Does s (check (model_in s)) T r W
+      pub check_ok : o ≡ Ok tt → (r : Result Unit Refusal) (W : Table) → Does s (from_entries s) U r W → Does s (check (model_in s)) T r W
       unfolding check from_entries pass_rule ◌>>◌
       check_ok e r W k = does_then s _ _ T o U a e r W k

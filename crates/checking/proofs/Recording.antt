@@ -9,6 +9,7 @@ use native.Mathlib.Numerals.{add-one}
 use native.Mathlib.Omega.{arith}
 use lib.Dec.{eqb}
 use borrow.Author.Tests.{ne_eqb, eqb-true, eqb-false}
+use Rattle.std.specs.Prelude.{Result, Ok, Err}
 use Rattle.text.proofs.Tests.{or_parts}
 use Rattle.grammar.specs.Grammar as grammar
 use Rattle.sheet.specs.Tree.{Node}
@@ -32,8 +33,6 @@ use Rattle.refusals.proofs.Answers.{answers_then, answers_cut}
 use Rattle.lookups.specs.Lines.{TypeAt, RecordAt}
 use Rattle.refusals.specs.Refusal.{done_of}
 use Rattle.refusals.specs.declared.refusal.Refusal.{Refusal}
-use Rattle.refusals.specs.declared.refusal.Done.{Done}
-use Rattle.refusals.specs.declared.refusal.Done.TheVariants.{Fine, Refused}
 use Rattle.declarations.specs.Lines.{Named}
 use Rattle.env.specs.Force.{env_of}
 use Rattle.env.specs.declared.env.Env.{Env}
@@ -52,13 +51,13 @@ module _ (s S : List ℕ) (i : ℕ) (h : Named s S i) where
   pub named_type : TypeAt s S (i + 1)
   named_type = record { loaded = h.loaded; here = rw (add-one i) h.type }
 
-  module _ (d : Done) (a : Answers (storable (type_at s (i + 1))) (done_of s d)) where
-    pub declared_ok : d ≡ Fine → (r : Done) → Answers (refuse_word64_as_digest (param_at s i).name (type_at s (suc i))) (done_of s r)
+  module _ (d : Result Unit Refusal) (a : Answers (storable (type_at s (i + 1))) (done_of s d)) where
+    pub declared_ok : d ≡ Ok tt → (r : Result Unit Refusal) → Answers (refuse_word64_as_digest (param_at s i).name (type_at s (suc i))) (done_of s r)
         → Answers (declared_rule (param_at s i).name (type_at s (suc i))) (done_of s r)
     unfolding declared_rule ◌>>◌
     declared_ok e r k = answers_then s _ _ d (rw (← add-one i) a) e r k
 
-    pub declared_no : (x : Refusal) → d ≡ Refused x → Answers (declared_rule (param_at s i).name (type_at s (suc i))) (done_of s (Refused x))
+    pub declared_no : (x : Refusal) → d ≡ Err x → Answers (declared_rule (param_at s i).name (type_at s (suc i))) (done_of s (Err x))
     unfolding declared_rule ◌>>◌
     declared_no x e = answers_cut s _ _ d (rw (← add-one i) a) x e
 
@@ -76,7 +75,7 @@ module _ (s S : List ℕ) (env : Env) (T : Table) (i : ℕ) (h : KindIn kinds.fi
   same_name = rw (stands d i h.within).here refl
 
   module _ (m : ℕ) (e : m ≡ default_count S i) where
-    pub no_default : m ≡ 0 → Does s (if_some (field_at s i).default (check_default (env_of s T env) (field_at s i))) T Fine T
+    pub no_default : m ≡ 0 → Does s (if_some (field_at s i).default (check_default (env_of s T env) (field_at s i))) T (Ok tt) T
     unfolding if_some
     no_default q =
         let f = (field_at_lem d h.within h.kind).0 in
@@ -87,7 +86,7 @@ module _ (s S : List ℕ) (env : Env) (T : Table) (i : ℕ) (h : KindIn kinds.fi
     default_in q =
         record { ready = h.ready; within = h.within; kind = h.kind; some = let z = (field_at_lem d h.within h.kind).3 in omega arith }
 
-    pub a_default : m ≢ 0 → (r : Done) (U : Table) → Does s (check_default (env_of s T env) (field_at s i) (expr_at s (end_at S (suc i)))) T r U
+    pub a_default : m ≢ 0 → (r : Result Unit Refusal) (U : Table) → Does s (check_default (env_of s T env) (field_at s i) (expr_at s (end_at S (suc i)))) T r U
         → Does s (if_some (field_at s i).default (check_default (env_of s T env) (field_at s i))) T r U
     unfolding if_some expr_at field_at field_of
     a_default q r U k =
@@ -98,11 +97,11 @@ module _ (s S : List ℕ) (env : Env) (T : Table) (i : ℕ) (h : KindIn kinds.fi
         ∙ rw (one, nodes_next d 0 (end_at S (suc i)) (row_first (rw one at f.2)).within) refl in
         rw n k
 
-  module _ (o : Done) (a : Answers (declared_rule (param_at s i).name (type_at s (suc i))) (done_of s o)) where
+  module _ (o : Result Unit Refusal) (a : Answers (declared_rule (param_at s i).name (type_at s (suc i))) (done_of s o)) where
     ty_is : (field_at s i).ty ≡ type_at s (suc i)
     ty_is = ap (λ (x : Field). x.ty) (field_at_lem d h.within h.kind).0
 
-    pub field_ok : o ≡ Fine → (r : Done) (U : Table) → Does s (if_some (field_at s i).default (check_default (env_of s T env) (field_at s i))) T r U
+    pub field_ok : o ≡ Ok tt → (r : Result Unit Refusal) (U : Table) → Does s (if_some (field_at s i).default (check_default (env_of s T env) (field_at s i))) T r U
         → Does s (check_field (env_of s T env) (field_at s i)) T r U
     unfolding declared_rule check_field ◌>>◌ field_at field_of
     field_ok e r U k =
@@ -112,7 +111,7 @@ module _ (s S : List ℕ) (env : Env) (T : Table) (i : ℕ) (h : KindIn kinds.fi
               ∙ rw (ty_is, ← same_name) (does_then s _ _ T o T (asks_none s _ T o a) e r U k).gives;
         }
 
-    pub field_no : (x : Refusal) → o ≡ Refused x → Does s (check_field (env_of s T env) (field_at s i)) T (Refused x) T
+    pub field_no : (x : Refusal) → o ≡ Err x → Does s (check_field (env_of s T env) (field_at s i)) T (Err x) T
     unfolding declared_rule check_field ◌>>◌ field_at field_of
     field_no x e =
         record {
@@ -139,7 +138,7 @@ module _ (s S : List ℕ) (event : Bool) (i : ℕ) (h : RecordAt grammar.Param s
   ty_of_lem : (param_at s i).ty ≡ type_at s (suc i)
   ty_of_lem = ap (λ (x : Param). x.ty) is.0
 
-  module _ (d : Done) (a : Answers (cond event (event_field_type (type_at s (i + 1))) (guardian_bound (type_at s (i + 1)))) (done_of s d)) where
+  module _ (d : Result Unit Refusal) (a : Answers (cond event (event_field_type (type_at s (i + 1))) (guardian_bound (type_at s (i + 1)))) (done_of s d)) where
     first : Answers (cond event (event_field_type (type_at s (suc i))) (guardian_bound (type_at s (suc i)))) (done_of s d)
     first = rw (← add-one i) a
 
@@ -150,19 +149,19 @@ module _ (s S : List ℕ) (event : Bool) (i : ℕ) (h : RecordAt grammar.Param s
     regroup true T = rw ty_of_lem refl
     regroup false T = rw ty_of_lem refl
 
-    pub param_ok : d ≡ Fine → (r : Done) → Answers (refuse_word64_as_digest (param_at s i).name (type_at s (suc i))) (done_of s r) → Answers (param_rule event (param_at s i)) (done_of s r)
+    pub param_ok : d ≡ Ok tt → (r : Result Unit Refusal) → Answers (refuse_word64_as_digest (param_at s i).name (type_at s (suc i))) (done_of s r) → Answers (param_rule event (param_at s i)) (done_of s r)
     param_ok e r k = let b = answers_then s _ _ d first e r k in record { answers = λ T. regroup event T ∙ b.answers T }
 
-    pub param_no : (x : Refusal) → d ≡ Refused x → Answers (param_rule event (param_at s i)) (done_of s (Refused x))
+    pub param_no : (x : Refusal) → d ≡ Err x → Answers (param_rule event (param_at s i)) (done_of s (Err x))
     param_no x e =
         let b = answers_cut s _ (refuse_word64_as_digest (param_at s i).name (type_at s (suc i))) d first x e in
         record { answers = λ T. regroup event T ∙ b.answers T }
 
-pub of_event : (s : List ℕ) (event : Bool) (ty : ℕ) (r : Done) → event ≡ true → Answers (event_field_type (type_at s ty)) (done_of s r)
+pub of_event : (s : List ℕ) (event : Bool) (ty : ℕ) (r : Result Unit Refusal) → event ≡ true → Answers (event_field_type (type_at s ty)) (done_of s r)
     → Answers (cond event (event_field_type (type_at s ty)) (guardian_bound (type_at s ty))) (done_of s r)
 of_event s event ty r e a = rw e a
 
-pub of_entry : (s : List ℕ) (event : Bool) (ty : ℕ) (r : Done) → event ≡ false → Answers (guardian_bound (type_at s ty)) (done_of s r)
+pub of_entry : (s : List ℕ) (event : Bool) (ty : ℕ) (r : Result Unit Refusal) → event ≡ false → Answers (guardian_bound (type_at s ty)) (done_of s r)
     → Answers (cond event (event_field_type (type_at s ty)) (guardian_bound (type_at s ty))) (done_of s r)
 of_entry s event ty r e a = rw e a
 
@@ -172,10 +171,10 @@ module _ (s S : List ℕ) (env : Env) (T : Table) (i : ℕ) (h : ClauseIn s S en
   cd : Loaded s S
   cd = h.ready.force.loaded
 
-  pub clause_other : (eqb k kinds.limits || eqb k kinds.denies) ≡ false → Does s (clause_predicate (env_of s T env) (clause_at s i)) T Fine T
+  pub clause_other : (eqb k kinds.limits || eqb k kinds.denies) ≡ false → Does s (clause_predicate (env_of s T env) (clause_at s i)) T (Ok tt) T
   unfolding clause_predicate
   clause_other q =
-      pick {P = λ j. kind_at S i ≡ j → Does s (clause_predicate (env_of s T env) (clause_at s i)) T Fine T} {i = kinds.mints} {n = 2} (kind_at S i)
+      pick {P = λ j. kind_at S i ≡ j → Does s (clause_predicate (env_of s T env) (clause_at s i)) T (Ok tt) T} {i = kinds.mints} {n = 2} (kind_at S i)
       ((λ z. rw (mints_at cd h.here z).0 (does_nothing s T)) also (λ z. rw (after_at cd h.here z).0 (does_nothing s T)) also end')
       (let n = or_parts (eqb k kinds.limits) (eqb k kinds.denies) q in omega (arith, eqb-false k kinds.limits n.0, eqb-false k kinds.denies n.1, h.here.kind.0)) h.here.kind.1 refl
 
@@ -192,7 +191,7 @@ module _ (s S : List ℕ) (env : Env) (T : Table) (i : ℕ) (h : ClauseIn s S en
   pub clause_asks : (eqb k kinds.limits || eqb k kinds.denies) ≡ true → Asks s S env T (i + 1)
   clause_asks q = record { ready = h.ready; here = rw (add-one i) (row_first (condition q).1) }
 
-  pub clause_does : (eqb k kinds.limits || eqb k kinds.denies) ≡ true → (r : Done) (U : Table) → Does s (expect_predicate (env_of s T env) (expr_at s (i + 1))) T r U
+  pub clause_does : (eqb k kinds.limits || eqb k kinds.denies) ≡ true → (r : Result Unit Refusal) (U : Table) → Does s (expect_predicate (env_of s T env) (expr_at s (i + 1))) T r U
       → Does s (clause_predicate (env_of s T env) (clause_at s i)) T r U
   clause_does q r U a = record { gives = (condition q).0 ∙ rw (← add-one i) a.gives }
 
@@ -202,12 +201,12 @@ module _ (s S : List ℕ) (env : Env) (T : Table) (i : ℕ) (h : StmtIn s S env 
   pub genesis_stmt : RecordAt grammar.Stmt s S i
   genesis_stmt = record { loaded = h.ready.force.loaded; here = h.here }
 
-  module _ (d : Done) (U : Table) (a : Does s (check_stmt_types (env_of s T env) (stmt_at s i)) T d U) where
-    pub genesis_ok : d ≡ Fine → (r : Done) → Answers (asset_calls_consumed (stmt_at s i)) (done_of s r) → Does s (check_genesis (env_of s T env) (stmt_at s i)) T r U
+  module _ (d : Result Unit Refusal) (U : Table) (a : Does s (check_stmt_types (env_of s T env) (stmt_at s i)) T d U) where
+    pub genesis_ok : d ≡ Ok tt → (r : Result Unit Refusal) → Answers (asset_calls_consumed (stmt_at s i)) (done_of s r) → Does s (check_genesis (env_of s T env) (stmt_at s i)) T r U
     unfolding check_genesis ◌>>◌
     genesis_ok e r k = does_then s _ _ T d U a e r U (asks_none s _ U r k)
 
-    pub genesis_no : (x : Refusal) → d ≡ Refused x → Does s (check_genesis (env_of s T env) (stmt_at s i)) T (Refused x) U
+    pub genesis_no : (x : Refusal) → d ≡ Err x → Does s (check_genesis (env_of s T env) (stmt_at s i)) T (Err x) U
     unfolding check_genesis ◌>>◌
     genesis_no x e = does_cut s _ _ T d U a x e
 
@@ -231,7 +230,7 @@ module _ (s S : List ℕ) (env : Env) (T : Table) (sort i : ℕ) (h : RecordIn s
   pub a_field_in : sort ≡ sort_number grammar.Field → KindIn kinds.field s S env T i
   a_field_in q = let x = a_field_here q in record { ready = h.ready; within = x.within; kind = omega (arith, x.kind.0, x.kind.1) }
 
-  pub field_does : (r : Done) (U : Table) → sort ≡ sort_number grammar.Field → Does s (check_field (env_of s T env) (field_at s i)) T r U
+  pub field_does : (r : Result Unit Refusal) (U : Table) → sort ≡ sort_number grammar.Field → Does s (check_field (env_of s T env) (field_at s i)) T r U
       → Does s (record_rule sort (env_of s T env) (node_at s i)) T r U
   unfolding field_at record_rule
   field_does r U q a = rw q (record { gives = a.gives })
@@ -239,7 +238,7 @@ module _ (s S : List ℕ) (env : Env) (T : Table) (sort i : ℕ) (h : RecordIn s
   pub a_clause_in : sort ≡ sort_number grammar.Clause → ClauseIn s S env T i
   a_clause_in q = record { ready = h.ready; here = a_clause_here q }
 
-  pub a_clause_does : (r : Done) (U : Table) → sort ≡ sort_number grammar.Clause → Does s (clause_predicate (env_of s T env) (clause_at s i)) T r U
+  pub a_clause_does : (r : Result Unit Refusal) (U : Table) → sort ≡ sort_number grammar.Clause → Does s (clause_predicate (env_of s T env) (clause_at s i)) T r U
       → Does s (record_rule sort (env_of s T env) (node_at s i)) T r U
   unfolding clause_at record_rule
   a_clause_does r U q a = rw q (record { gives = a.gives })
@@ -247,12 +246,12 @@ module _ (s S : List ℕ) (env : Env) (T : Table) (sort i : ℕ) (h : RecordIn s
   pub a_stmt_in : sort ≢ sort_number grammar.Field → sort ≢ sort_number grammar.Clause → StmtIn s S env T i
   a_stmt_in p q = record { ready = h.ready; here = a_stmt_here p q }
 
-  pub stmt_does : (r : Done) (U : Table) → sort ≢ sort_number grammar.Field → sort ≢ sort_number grammar.Clause → Does s (check_genesis (env_of s T env) (stmt_at s i)) T r U
+  pub stmt_does : (r : Result Unit Refusal) (U : Table) → sort ≢ sort_number grammar.Field → sort ≢ sort_number grammar.Clause → Does s (check_genesis (env_of s T env) (stmt_at s i)) T r U
       → Does s (record_rule sort (env_of s T env) (node_at s i)) T r U
   unfolding stmt_at record_rule
   stmt_does r U p q a = record { gives = rw (record_rule, ne_eqb sort (sort_number grammar.Field) p, ne_eqb sort (sort_number grammar.Clause) q) a.gives }
 
-pub records_none : (s S : List ℕ) (env : Env) (T : Table) (sort m i : ℕ) → m ≡ 0 → Does s (for_each (nodes_at s m i) (record_rule sort (env_of s T env))) T Fine T
+pub records_none : (s S : List ℕ) (env : Env) (T : Table) (sort m i : ℕ) → m ≡ 0 → Does s (for_each (nodes_at s m i) (record_rule sort (env_of s T env))) T (Ok tt) T
 unfolding for_each
 records_none s S env T sort m i e = rw (e, no_nodes s i) (does_nothing s T)
 
@@ -266,12 +265,12 @@ module _ (s S : List ℕ) (env : Env) (T : Table) (sort m i : ℕ) (h : RecordsI
   pub records_first : RecordIn s S env T sort i
   records_first = record { ready = h.ready; walked = h.walked; here = row_first rows }
 
-  module _ (d : Done) (U : Table) (a : Does s (record_rule sort (env_of s T env) (node_at s i)) T d U) where
-    pub records_no : (x : Refusal) → d ≡ Refused x → Does s (for_each (nodes_at s m i) (record_rule sort (env_of s T env))) T (Refused x) U
+  module _ (d : Result Unit Refusal) (U : Table) (a : Does s (record_rule sort (env_of s T env) (node_at s i)) T d U) where
+    pub records_no : (x : Refusal) → d ≡ Err x → Does s (for_each (nodes_at s m i) (record_rule sort (env_of s T env))) T (Err x) U
     unfolding for_each
     records_no x e = rw nodes_are (does_cut s _ _ T d U a x e)
 
-    module _ (e : d ≡ Fine) (j : ℕ) (q : j ≡ end_at S i) where
+    module _ (e : d ≡ Ok tt) (j : ℕ) (q : j ≡ end_at S i) where
       on : OnTyped s S env T U
       on = on_typed s S env T U _ tt (none_bound s S env T h.ready h.bare) (did s _ T d U a.gives e)
 
@@ -285,7 +284,7 @@ module _ (s S : List ℕ) (env : Env) (T : Table) (sort m i : ℕ) (h : RecordsI
             row = row_rest rows;
           })
 
-      pub records_ok : (r : Done) (W : Table) → Does s (for_each (nodes_at s (m - 1) j) (record_rule sort (env_of s U env))) U r W
+      pub records_ok : (r : Result Unit Refusal) (W : Table) → Does s (for_each (nodes_at s (m - 1) j) (record_rule sort (env_of s U env))) U r W
           → Does s (for_each (nodes_at s m i) (record_rule sort (env_of s T env))) T r W
       unfolding for_each
       records_ok r W k =

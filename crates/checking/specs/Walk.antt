@@ -1,5 +1,5 @@
 -- The records that `check` walks over: the rule of each, what the code asks, and what it promises.
-use Rattle.std.specs.Prelude.{ℕ, suc, ◌-◌, ◌<◌, ◌≤◌, Bool, true, false, List, [], ◌∷◌, ◌≡◌, eqb, length, get_or}
+use Rattle.std.specs.Prelude.{ℕ, suc, ◌-◌, ◌<◌, ◌≤◌, Bool, true, false, List, [], ◌∷◌, ◌≡◌, eqb, length, get_or, Result, Ok}
 use Rattle.grammar.specs.Grammar as grammar
 use Rattle.sheet.specs.Scratch.{kind_at, skip, line_count}
 use Rattle.sheet.specs.Tree.{Node, node}
@@ -16,8 +16,6 @@ use Rattle.rules.specs.Typing as typing
 use Rattle.rules.specs.Statements.{check_stmt_types, expect_predicate, refuse_name_recipient}
 use Rattle.rules.specs.Check.{clause_predicate, clause_assets, param_types, check_body, check_local, check_field, check_genesis, check_event_param, check_entry_param, check_entry}
 use Rattle.rules.specs.Standing.{expr_at, stmt_at, model_in, Loaded, Here, Row}
-use Rattle.refusals.specs.declared.refusal.Done.{Done}
-use Rattle.refusals.specs.declared.refusal.Done.TheVariants.{Fine}
 use Rattle.env.specs.Force.{lets, Ready}
 use Rattle.env.specs.declared.env.Env.{Env}
 use Rattle.typing.specs.Asks.{Does}
@@ -26,6 +24,7 @@ use Rattle.grammar.specs.Kinds as kinds
 use Rattle.checking.specs.Passes as passes
 use Rattle.grammar.specs.Table.{sort_number, sort_of}
 use Rattle.sheet.specs.Line.{most_lines}
+use Rattle.refusals.specs.declared.refusal.Refusal.{Refusal}
 
 -- ------------------------------------------------------------ what is in force
 
@@ -137,9 +136,9 @@ pub record Binds (s : List ℕ) (Γ : typing.Env) (T : Table) (i : ℕ) (U : Tab
   pub fits : kept (check_local (expr_at s (suc i)) type) U ≡ record { res = ok tt; table = U }
   pub marked : get_or U (suc i) 0 ≡ code type
 
-pub record StmtDoes (s S : List ℕ) (Γ : typing.Env) (i : ℕ) (T : Table) (r : Done) (U : Table) : Type 0 where
+pub record StmtDoes (s S : List ℕ) (Γ : typing.Env) (i : ℕ) (T : Table) (r : Result Unit Refusal) (U : Table) : Type 0 where
   pub does : Does s (stmt_rule Γ (stmt_at s i)) T r U
-  pub binds : r ≡ Fine → kind_at S i ≡ kinds.let' → Binds s Γ T i U
+  pub binds : r ≡ Ok tt → kind_at S i ≡ kinds.let' → Binds s Γ T i U
 
 -- the last `left` of `total` statements, the first of them at line at
 pub record BodyAt (s S : List ℕ) (T : Table) (params count body total at left : ℕ) : Type 0 where

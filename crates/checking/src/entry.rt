@@ -15,12 +15,12 @@ use crate::records::check_records;
 use arithmetic::check_arithmetic;
 use assets::{body_assets, clauses_assets};
 use emits::{check_emit, refuse_name_recipient};
-use env::{Env, Typed};
+use env::Env;
 use grammar::{kinds, sorts};
 use lookups::{body_line, clauses_line};
-use refusals::{Done, Refusal};
+use refusals::Refusal;
 use rules::codes;
-use sheet::{body_count, clause_count, end, kind, param_count};
+use sheet::{LoadedSheet, body_count, clause_count, param_count};
 use statements::{check_stmt_types, expect_predicate};
 use typing::ty_of;
 use wrapping::narrow_wrapping;
@@ -55,57 +55,50 @@ fn with_locals(params: usize, count: usize, body: usize, bound: usize, next: usi
 }
 
 // The `let` at line i, before it is bound.
-fn check_let(sheet: &[u8], lines: &[u16], env: Env, table: &mut [u8], i: usize) -> Done
-    requires { StmtOf kinds.let' sheet.now lines.now env table.old i }
-    ensures { StmtDoes sheet.now lines.now (env_of sheet.now table.old env) i table.old result table.new }
+fn check_let(sheet: &LoadedSheet<'_>, env: Env, table: &mut [u8], i: usize) -> Result<(), Refusal>
+    requires { StmtOf kinds.let' sheet.now.bytes.now sheet.now.lines.now env table.old i }
+    ensures { StmtDoes sheet.now.bytes.now sheet.now.lines.now (env_of sheet.now.bytes.now table.old env) i table.old result table.new }
 {
-    match ty_of(sheet, lines, env, table, i + 1) {
-        Typed::Is(ty) => {
-            if ty == codes::COLLECTION {
-                Done::Refused(Refusal::CollectionLocal(i + 1))
-            } else {
-                Done::Fine
-            }
-        }
-        Typed::Refused(r) => Done::Refused(r),
+    let ty = ty_of(sheet, env, table, i + 1)?;
+    if ty == codes::COLLECTION {
+        Err(Refusal::CollectionLocal(i + 1))
+    } else {
+        Ok(())
     }
 }
 
-fn check_do(sheet: &[u8], lines: &[u16], env: Env, table: &mut [u8], i: usize) -> Done
-    requires { StmtOf kinds.do' sheet.now lines.now env table.old i }
-    ensures { StmtDoes sheet.now lines.now (env_of sheet.now table.old env) i table.old result table.new }
+fn check_do(sheet: &LoadedSheet<'_>, env: Env, table: &mut [u8], i: usize) -> Result<(), Refusal>
+    requires { StmtOf kinds.do' sheet.now.bytes.now sheet.now.lines.now env table.old i }
+    ensures { StmtDoes sheet.now.bytes.now sheet.now.lines.now (env_of sheet.now.bytes.now table.old env) i table.old result table.new }
 {
-    match check_stmt_types(sheet, lines, env, table, i) {
-        Done::Fine => refuse_name_recipient(sheet, lines, env, table, i + 1),
-        Done::Refused(r) => Done::Refused(r),
-    }
+    check_stmt_types(sheet, env, table, i)?;
+    refuse_name_recipient(sheet, env, table, i + 1)
 }
 
 // The statement at line i of an entry.
-fn check_stmt(sheet: &[u8], lines: &[u16], env: Env, table: &mut [u8], i: usize) -> Done
-    requires { BodyStmt sheet.now lines.now env table.old i }
-    ensures { StmtDoes sheet.now lines.now (env_of sheet.now table.old env) i table.old result table.new }
+fn check_stmt(sheet: &LoadedSheet<'_>, env: Env, table: &mut [u8], i: usize) -> Result<(), Refusal>
+    requires { BodyStmt sheet.now.bytes.now sheet.now.lines.now env table.old i }
+    ensures { StmtDoes sheet.now.bytes.now sheet.now.lines.now (env_of sheet.now.bytes.now table.old env) i table.old result table.new }
 {
-    let k = kind(lines, i);
+    let k = sheet.kind(i);
     if k == kinds::GUARD {
-        return expect_predicate(sheet, lines, env, table, i + 1);
+        return expect_predicate(sheet, env, table, i + 1);
     }
     if k == kinds::LET {
-        return check_let(sheet, lines, env, table, i);
+        return check_let(sheet, env, table, i);
     }
     if k == kinds::EMIT {
-        return check_emit(sheet, lines, env, table, i);
+        return check_emit(sheet, env, table, i);
     }
     if k == kinds::ASSIGN {
-        return check_stmt_types(sheet, lines, env, table, i);
+        return check_stmt_types(sheet, env, table, i);
     }
-    check_do(sheet, lines, env, table, i)
+    check_do(sheet, env, table, i)
 }
 
 // The last `left` of `total` statements from line body on, of which the first stands at line at.
 fn check_body(
-    sheet: &[u8],
-    lines: &[u16],
+    sheet: &LoadedSheet<'_>,
     table: &mut [u8],
     params: usize,
     count: usize,
@@ -113,60 +106,55 @@ fn check_body(
     total: usize,
     at: usize,
     left: usize,
-) -> Done
-    requires { BodyAt sheet.now lines.now table.old params count body total at left }
-    ensures { Does sheet.now (check_body (env_of sheet.now table.old (with_locals params count body (total - left) at)) (stmts_at sheet.now left at)) table.old result table.new }
+) -> Result<(), Refusal>
+    requires { BodyAt sheet.now.bytes.now sheet.now.lines.now table.old params count body total at left }
+    ensures { Does sheet.now.bytes.now (check_body (env_of sheet.now.bytes.now table.old (with_locals params count body (total - left) at)) (stmts_at sheet.now.bytes.now left at)) table.old result table.new }
 {
     if left == 0 {
-        return Done::Fine;
+        return Ok(());
     }
     let env = with_locals(params, count, body, total - left, at);
-    match check_stmt(sheet, lines, env, table, at) {
-        Done::Fine => check_body(
-            sheet,
-            lines,
-            table,
-            params,
-            count,
-            body,
-            total,
-            end(lines, at),
-            left - 1,
-        ),
-        Done::Refused(r) => Done::Refused(r),
-    }
+    check_stmt(sheet, env, table, at)?;
+    check_body(
+        sheet,
+        table,
+        params,
+        count,
+        body,
+        total,
+        sheet.end(at),
+        left - 1,
+    )
 }
 
 // The conditions of the entry's clauses.
-fn entry_clauses(sheet: &[u8], lines: &[u16], table: &mut [u8], i: usize) -> Done
-    requires { EntryIn sheet.now lines.now table.old i }
-    ensures { Does sheet.now (for_each (entry_at sheet.now i).clauses (clause_predicate (entry_env (model_in sheet.now) (entry_at sheet.now i)))) table.old result table.new }
+fn entry_clauses(sheet: &LoadedSheet<'_>, table: &mut [u8], i: usize) -> Result<(), Refusal>
+    requires { EntryIn sheet.now.bytes.now sheet.now.lines.now table.old i }
+    ensures { Does sheet.now.bytes.now (for_each (entry_at sheet.now.bytes.now i).clauses (clause_predicate (entry_env (model_in sheet.now.bytes.now) (entry_at sheet.now.bytes.now i)))) table.old result table.new }
 {
-    let env = with_params(i + 1, param_count(lines, i), false);
+    let env = with_params(i + 1, param_count(sheet.lines, i), false);
     check_records(
         sheet,
-        lines,
         env,
         table,
         sorts::CLAUSE,
-        clauses_line(lines, i),
-        clause_count(lines, i),
+        clauses_line(sheet.lines, i),
+        clause_count(sheet.lines, i),
     )
 }
 
 // The entry's statements.
-fn entry_body(sheet: &[u8], lines: &[u16], table: &mut [u8], i: usize) -> Done
-    requires { EntryIn sheet.now lines.now table.old i }
-    ensures { Does sheet.now (check_body (entry_env (model_in sheet.now) (entry_at sheet.now i)) (entry_at sheet.now i).body) table.old result table.new }
+fn entry_body(sheet: &LoadedSheet<'_>, table: &mut [u8], i: usize) -> Result<(), Refusal>
+    requires { EntryIn sheet.now.bytes.now sheet.now.lines.now table.old i }
+    ensures { Does sheet.now.bytes.now (check_body (entry_env (model_in sheet.now.bytes.now) (entry_at sheet.now.bytes.now i)) (entry_at sheet.now.bytes.now i).body) table.old result table.new }
 {
-    let body = body_line(lines, i);
-    let total = body_count(lines, i);
+    let body = body_line(sheet.lines, i);
+    let total = body_count(sheet.lines, i);
     check_body(
         sheet,
-        lines,
         table,
         i + 1,
-        param_count(lines, i),
+        param_count(sheet.lines, i),
         body,
         total,
         body,
@@ -175,40 +163,34 @@ fn entry_body(sheet: &[u8], lines: &[u16], table: &mut [u8], i: usize) -> Done
 }
 
 // What is typed of the entry at line i.
-fn entry_types(sheet: &[u8], lines: &[u16], table: &mut [u8], i: usize) -> Done
-    requires { EntryIn sheet.now lines.now table.old i }
-    ensures { Does sheet.now (types_rule (model_in sheet.now) (entry_at sheet.now i)) table.old result table.new }
+fn entry_types(sheet: &LoadedSheet<'_>, table: &mut [u8], i: usize) -> Result<(), Refusal>
+    requires { EntryIn sheet.now.bytes.now sheet.now.lines.now table.old i }
+    ensures { Does sheet.now.bytes.now (types_rule (model_in sheet.now.bytes.now) (entry_at sheet.now.bytes.now i)) table.old result table.new }
 {
-    match entry_clauses(sheet, lines, table, i) {
-        Done::Fine => entry_body(sheet, lines, table, i),
-        Done::Refused(r) => Done::Refused(r),
-    }
+    entry_clauses(sheet, table, i)?;
+    entry_body(sheet, table, i)
 }
 
 // What is checked of it without types.
-fn entry_uses(sheet: &[u8], lines: &[u16], i: usize) -> Done
-    requires { EntryAt sheet.now lines.now i }
-    ensures { Answers (uses_rule (entry_at sheet.now i)) (done_of sheet.now result) }
+fn entry_uses(sheet: &LoadedSheet<'_>, i: usize) -> Result<(), Refusal>
+    requires { EntryAt sheet.now.bytes.now sheet.now.lines.now i }
+    ensures { Answers (uses_rule (entry_at sheet.now.bytes.now i)) (done_of sheet.now.bytes.now result) }
 {
-    match clauses_assets(sheet, lines, clauses_line(lines, i), clause_count(lines, i)) {
-        Done::Fine => match body_assets(sheet, lines, body_line(lines, i), body_count(lines, i)) {
-            Done::Fine => check_arithmetic(sheet, lines, i),
-            Done::Refused(r) => Done::Refused(r),
-        },
-        Done::Refused(r) => Done::Refused(r),
-    }
+    clauses_assets(
+        sheet,
+        clauses_line(sheet.lines, i),
+        clause_count(sheet.lines, i),
+    )?;
+    body_assets(sheet, body_line(sheet.lines, i), body_count(sheet.lines, i))?;
+    check_arithmetic(sheet, i)
 }
 
 // The entry at line i.
-pub fn check_entry(sheet: &[u8], lines: &[u16], table: &mut [u8], i: usize) -> Done
-    requires { EntryIn sheet.now lines.now table.old i }
-    ensures { Does sheet.now (check_entry (model_in sheet.now) (entry_at sheet.now i)) table.old result table.new }
+pub fn check_entry(sheet: &LoadedSheet<'_>, table: &mut [u8], i: usize) -> Result<(), Refusal>
+    requires { EntryIn sheet.now.bytes.now sheet.now.lines.now table.old i }
+    ensures { Does sheet.now.bytes.now (check_entry (model_in sheet.now.bytes.now) (entry_at sheet.now.bytes.now i)) table.old result table.new }
 {
-    match narrow_wrapping(sheet, lines, i) {
-        Done::Fine => match entry_types(sheet, lines, table, i) {
-            Done::Fine => entry_uses(sheet, lines, i),
-            Done::Refused(r) => Done::Refused(r),
-        },
-        Done::Refused(r) => Done::Refused(r),
-    }
+    narrow_wrapping(sheet, i)?;
+    entry_types(sheet, table, i)?;
+    entry_uses(sheet, i)
 }

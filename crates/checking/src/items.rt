@@ -17,8 +17,8 @@ use crate::records::{check_params, check_records};
 use declarations::guardian_fields;
 use grammar::{kinds, sorts};
 use key_kinds::check_key_kinds;
-use refusals::Done;
-use sheet::{end, field_count, genesis_count, item_count, kind, param_count};
+use refusals::Refusal;
+use sheet::{LoadedSheet, field_count, genesis_count, item_count, param_count};
 use statements::expect_predicate;
 
 // The passes over the items.
@@ -75,134 +75,120 @@ fn record_count(lines: &[u16], pass: usize, i: usize) -> usize
 }
 
 // What a pass does with an item that it looks at.
-fn pass_item(sheet: &[u8], lines: &[u16], table: &mut [u8], pass: usize, i: usize) -> Done
-    requires { OwnItem sheet.now lines.now table.old pass i }
-    ensures { Does sheet.now (pass_rule sheet.now pass (item_model (item_of (node_at sheet.now i)))) table.old result table.new }
+fn pass_item(
+    sheet: &LoadedSheet<'_>,
+    table: &mut [u8],
+    pass: usize,
+    i: usize,
+) -> Result<(), Refusal>
+    requires { OwnItem sheet.now.bytes.now sheet.now.lines.now table.old pass i }
+    ensures { Does sheet.now.bytes.now (pass_rule sheet.now.bytes.now pass (item_model (item_of (node_at sheet.now.bytes.now i)))) table.old result table.new }
 {
-    let k = kind(lines, i);
+    let k = sheet.kind(i);
     if pass == ENTRIES {
-        return check_entry(sheet, lines, table, i);
+        return check_entry(sheet, table, i);
     }
     if pass == INVARIANTS {
-        return expect_predicate(sheet, lines, with_params(0, 0, false), table, i + 1);
+        return expect_predicate(sheet, with_params(0, 0, false), table, i + 1);
     }
     if (pass == EVENTS) | (pass == PARAMS) {
-        return check_params(
-            sheet,
-            lines,
-            k == kinds::EVENT,
-            i + 1,
-            param_count(lines, i),
-        );
+        return check_params(sheet, k == kinds::EVENT, i + 1, param_count(sheet.lines, i));
     }
     check_records(
         sheet,
-        lines,
         with_params(0, 0, k == kinds::GENESIS),
         table,
         record_sort(pass),
         i + 1,
-        record_count(lines, pass, i),
+        record_count(sheet.lines, pass, i),
     )
 }
 
-fn check_item(sheet: &[u8], lines: &[u16], table: &mut [u8], pass: usize, i: usize) -> Done
-    requires { ItemIn sheet.now lines.now table.old pass i }
-    ensures { Does sheet.now (pass_rule sheet.now pass (item_model (item_of (node_at sheet.now i)))) table.old result table.new }
+fn check_item(
+    sheet: &LoadedSheet<'_>,
+    table: &mut [u8],
+    pass: usize,
+    i: usize,
+) -> Result<(), Refusal>
+    requires { ItemIn sheet.now.bytes.now sheet.now.lines.now table.old pass i }
+    ensures { Does sheet.now.bytes.now (pass_rule sheet.now.bytes.now pass (item_model (item_of (node_at sheet.now.bytes.now i)))) table.old result table.new }
 {
-    if !looks_at(pass, kind(lines, i)) {
-        return Done::Fine;
+    if !looks_at(pass, sheet.kind(i)) {
+        return Ok(());
     }
-    pass_item(sheet, lines, table, pass, i)
+    pass_item(sheet, table, pass, i)
 }
 
 // A pass over `left` items, the first of which stands at line at.
 fn check_items(
-    sheet: &[u8],
-    lines: &[u16],
+    sheet: &LoadedSheet<'_>,
     table: &mut [u8],
     pass: usize,
     at: usize,
     left: usize,
-) -> Done
-    requires { ItemsIn sheet.now lines.now table.old pass left at }
-    ensures { Does sheet.now (pass_rule sheet.now pass (build (map item_of (nodes_at sheet.now left at)))) table.old result table.new }
+) -> Result<(), Refusal>
+    requires { ItemsIn sheet.now.bytes.now sheet.now.lines.now table.old pass left at }
+    ensures { Does sheet.now.bytes.now (pass_rule sheet.now.bytes.now pass (build (map item_of (nodes_at sheet.now.bytes.now left at)))) table.old result table.new }
 {
     if left == 0 {
-        return Done::Fine;
+        return Ok(());
     }
-    match check_item(sheet, lines, table, pass, at) {
-        Done::Fine => check_items(sheet, lines, table, pass, end(lines, at), left - 1),
-        Done::Refused(r) => Done::Refused(r),
-    }
+    check_item(sheet, table, pass, at)?;
+    check_items(sheet, table, pass, sheet.end(at), left - 1)
 }
 
 // A pass over all items.
-fn check_pass(sheet: &[u8], lines: &[u16], table: &mut [u8], pass: usize) -> Done
-    requires { PassIn sheet.now lines.now table.old pass }
-    ensures { Does sheet.now (pass_rule sheet.now pass (model_in sheet.now)) table.old result table.new }
+fn check_pass(sheet: &LoadedSheet<'_>, table: &mut [u8], pass: usize) -> Result<(), Refusal>
+    requires { PassIn sheet.now.bytes.now sheet.now.lines.now table.old pass }
+    ensures { Does sheet.now.bytes.now (pass_rule sheet.now.bytes.now pass (model_in sheet.now.bytes.now)) table.old result table.new }
 {
-    check_items(sheet, lines, table, pass, 1, item_count(lines, 0))
+    check_items(sheet, table, pass, 1, item_count(sheet.lines, 0))
 }
 
 // Events, guardian sets, and the parameters of entries.
-fn check_names(sheet: &[u8], lines: &[u16], table: &mut [u8]) -> Done
-    requires { SheetIn sheet.now lines.now table.old }
-    ensures { Does sheet.now (names_rule sheet.now) table.old result table.new }
+fn check_names(sheet: &LoadedSheet<'_>, table: &mut [u8]) -> Result<(), Refusal>
+    requires { SheetIn sheet.now.bytes.now sheet.now.lines.now table.old }
+    ensures { Does sheet.now.bytes.now (names_rule sheet.now.bytes.now) table.old result table.new }
 {
-    match check_pass(sheet, lines, table, EVENTS) {
-        Done::Fine => match guardian_fields(sheet, lines) {
-            Done::Fine => check_pass(sheet, lines, table, PARAMS),
-            Done::Refused(r) => Done::Refused(r),
-        },
-        Done::Refused(r) => Done::Refused(r),
-    }
+    check_pass(sheet, table, EVENTS)?;
+    guardian_fields(sheet)?;
+    check_pass(sheet, table, PARAMS)
 }
 
 // ... and invariants
-fn after_fields(sheet: &[u8], lines: &[u16], table: &mut [u8]) -> Done
-    requires { SheetIn sheet.now lines.now table.old }
-    ensures { Does sheet.now (after_fields sheet.now) table.old result table.new }
+fn after_fields(sheet: &LoadedSheet<'_>, table: &mut [u8]) -> Result<(), Refusal>
+    requires { SheetIn sheet.now.bytes.now sheet.now.lines.now table.old }
+    ensures { Does sheet.now.bytes.now (after_fields sheet.now.bytes.now) table.old result table.new }
 {
-    match check_names(sheet, lines, table) {
-        Done::Fine => check_pass(sheet, lines, table, INVARIANTS),
-        Done::Refused(r) => Done::Refused(r),
-    }
+    check_names(sheet, table)?;
+    check_pass(sheet, table, INVARIANTS)
 }
 
 // What comes before the first entry.
-pub fn before_entries(sheet: &[u8], lines: &[u16], table: &mut [u8]) -> Done
-    requires { SheetIn sheet.now lines.now table.old }
-    ensures { Does sheet.now (before_entries (model_in sheet.now)) table.old result table.new }
+pub fn before_entries(sheet: &LoadedSheet<'_>, table: &mut [u8]) -> Result<(), Refusal>
+    requires { SheetIn sheet.now.bytes.now sheet.now.lines.now table.old }
+    ensures { Does sheet.now.bytes.now (before_entries (model_in sheet.now.bytes.now)) table.old result table.new }
 {
-    match check_pass(sheet, lines, table, FIELDS) {
-        Done::Fine => after_fields(sheet, lines, table),
-        Done::Refused(r) => Done::Refused(r),
-    }
+    check_pass(sheet, table, FIELDS)?;
+    after_fields(sheet, table)
 }
 
 // Entries, key kinds, genesis.
-fn from_entries(sheet: &[u8], lines: &[u16], table: &mut [u8]) -> Done
-    requires { SheetIn sheet.now lines.now table.old }
-    ensures { Does sheet.now (from_entries sheet.now) table.old result table.new }
+fn from_entries(sheet: &LoadedSheet<'_>, table: &mut [u8]) -> Result<(), Refusal>
+    requires { SheetIn sheet.now.bytes.now sheet.now.lines.now table.old }
+    ensures { Does sheet.now.bytes.now (from_entries sheet.now.bytes.now) table.old result table.new }
 {
-    match check_pass(sheet, lines, table, ENTRIES) {
-        Done::Fine => match check_key_kinds(sheet, lines) {
-            Done::Fine => check_pass(sheet, lines, table, GENESIS),
-            Done::Refused(r) => Done::Refused(r),
-        },
-        Done::Refused(r) => Done::Refused(r),
-    }
+    check_pass(sheet, table, ENTRIES)?;
+    check_key_kinds(sheet)?;
+    check_pass(sheet, table, GENESIS)
 }
 
 // The rules on a sheet that is read: accepted, or the first refusal, and the table with the types asked. Of several
 // guardian sets with a bad size among the fields the Rust may name any; the first in the sheet is named here.
-pub fn check(sheet: &[u8], lines: &[u16], table: &mut [u8]) -> Done
-    requires { SheetIn sheet.now lines.now table.old }
-    ensures { Does sheet.now (check_of (model_in sheet.now)) table.old result table.new }
+pub fn check(sheet: &LoadedSheet<'_>, table: &mut [u8]) -> Result<(), Refusal>
+    requires { SheetIn sheet.now.bytes.now sheet.now.lines.now table.old }
+    ensures { Does sheet.now.bytes.now (check_of (model_in sheet.now.bytes.now)) table.old result table.new }
 {
-    match before_entries(sheet, lines, table) {
-        Done::Fine => from_entries(sheet, lines, table),
-        Done::Refused(r) => Done::Refused(r),
-    }
+    before_entries(sheet, table)?;
+    from_entries(sheet, table)
 }

@@ -2,17 +2,20 @@
 use mathlib.Core.Logic.{◌≢◌}
 use mathlib.Core.Path.{◌≡◌, refl, sym, ap, ◌∙◌}
 use mathlib.Core.List.{List, [], ◌∷◌, ◌++◌, map}
-use mathlib.Core.Bool.{Bool, true, false, not}
+use mathlib.Core.Bool.{Bool, true, false, true≢false, not}
 use mathlib.Core.Option
-use mathlib.Core.Option.{Option, none, some}
-use Prim.Native.Nat.{ℕ, suc, ◌+◌, ◌-◌, ◌<◌, ◌≤◌}
+use mathlib.Core.Option.{Option as Maybe, none, some}
+use Prim.Native.Nat.{ℕ, suc, ◌+◌, ◌<◌}
 use native.Mathlib.Numerals.{add-one}
 use native.Mathlib.Omega.{arith}
 use mir.Syntax.{w64}
 use mir.Val.{Fits}
 use lib.ListN.{length}
+use Rattle.std.specs.Prelude.{Option, Some, None, is_some as found, Result, Ok, Err}
 use Rattle.grammar.specs.Grammar as grammar
 use Rattle.sheet.specs.Scratch.{kind_at, name_at, end_at, field_count, item_count}
+use Rattle.sheet.specs.Records.{Steps}
+use Rattle.sheet.specs.declared.records.Records.{Records}
 use Rattle.rules.specs.Text.{Name, Piece, last_named, or_else}
 use Rattle.rules.specs.Ast.{Field, field_of, item_of}
 use Rattle.rules.specs.Asking.{Res, ok, Rule, ◌>>=◌, ◌>>◌, expect, provided, for_each}
@@ -22,17 +25,13 @@ use Rattle.rules.specs.Standing.{node_name, node_at, nodes_at, type_at, field_at
 use Rattle.rules.specs.Typing.{is_some}
 use Rattle.rules.proofs.Lookups.{or_none, last_append}
 use Rattle.rules.proofs.Records.{field_at_lem}
-use Rattle.rules.proofs.Rows.{records, row_some, list_none, list_some, RowWalk, row_over}
+use Rattle.rules.proofs.Rows.{records, list_none, row_over, IterWalk, iter_start}
 use Rattle.rules.proofs.Standing.{row_first, row_rest}
 use Rattle.refusals.specs.Answers.{Answers}
 use Rattle.lookups.specs.Found.{found_field, item_fields, model_at, Stretch, Last, ItemAt, FieldsNamed}
 use Rattle.lookups.specs.Lines.{TypeAt, RecordsAt}
 use Rattle.refusals.specs.Refusal.{done_of}
-use Rattle.lookups.specs.declared.model.Found.{Found}
-use Rattle.lookups.specs.declared.model.Found.TheVariants.{At, Nothing}
 use Rattle.refusals.specs.declared.refusal.Refusal.{Refusal}
-use Rattle.refusals.specs.declared.refusal.Done.{Done}
-use Rattle.refusals.specs.declared.refusal.Done.TheVariants.{Fine, Refused}
 use Rattle.refusals.proofs.Answers.{gives, then_fine, then_refused}
 use Rattle.lookups.proofs.Fields.{last_map, as_field, field-name, all_kind, items_at, item_here, not_state, of_state}
 use Rattle.declarations.specs.Bounds.{bound_if_last, bounds_of, fields_left, FieldsLeft}
@@ -43,7 +42,7 @@ next_fits S σ m i r h = record { fits = omega (arith, (row_first r).within) }
 
 -- ------------------------------------------------------------ a later field of the name
 
-some_or_lem : {A : Type 0} (o : Option A) (a : A) → is_some (or_else o (some a)) ≡ true
+some_or_lem : {A : Type 0} (o : Maybe A) (a : A) → is_some (or_else o (some a)) ≡ true
 unfolding is_some or_else
 some_or_lem none a = refl
 some_or_lem (some b) a = refl
@@ -55,7 +54,7 @@ module _ (s S : List ℕ) (x : Name) (m i n j : ℕ) (h : FieldsLeft s S m i n j
   pub left_items : RecordsAt grammar.Item s S n j
   left_items = record { loaded = h.loaded; row = h.items }
 
-  module _ (f : Found) (l : Last s S kinds.field x m i f) where
+  module _ (f : Option ℕ) (l : Last s S kinds.field x m i f) where
     in_item : last_named (λ y. y.name) x (map field_of (nodes_at s m i)) ≡ found_field s f
     in_item =
         last_map field_of (λ y. y.name) node_name x field-name (nodes_at s m i)
@@ -68,18 +67,23 @@ module _ (s S : List ℕ) (x : Name) (m i n j : ℕ) (h : FieldsLeft s S m i n j
         ∙ last_append (λ y. y.name) x (map field_of (nodes_at s m i)) (model_at s n j).fields none
         ∙ rw (or_none, in_item) refl
 
-    pub later_here : (k : ℕ) → f ≡ At k → true ≡ is_some (last_named (λ y. y.name) x (fields_left s m i n j))
+    pub later_here : found f ≡ true → true ≡ is_some (last_named (λ y. y.name) x (fields_left s m i n j))
     unfolding found_field
-    later_here k e = rw (by_search, e) (sym (some_or_lem (field_named (model_at s n j) x) (field_at s k)))
+    later_here e = rw by_search (by_cases f e)
+      where
+        by_cases : (f : Option ℕ) → found f ≡ true → true ≡ is_some (or_else (field_named (model_at s n j) x) (found_field s f))
+        by_cases (Some k) e = sym (some_or_lem (field_named (model_at s n j) x) (field_at s k))
+        by_cases None e = absurd (true≢false (sym e))
 
-    module _ (e : f ≡ Nothing) (r : Found) (t : FieldsNamed s S x n j r) where
-      pub later_there : (k : ℕ) → r ≡ At k → true ≡ is_some (last_named (λ y. y.name) x (fields_left s m i n j))
+    module _ (e : found f ≡ false) (r : Option ℕ) (t : FieldsNamed s S x n j r) where
+      pub later_there : (b : Bool) → b ≡ found r → b ≡ is_some (last_named (λ y. y.name) x (fields_left s m i n j))
       unfolding found_field or_else is_some
-      later_there k q = rw (by_search, ← t.found, q) refl
-
-      pub later_nowhere : r ≡ Nothing → false ≡ is_some (last_named (λ y. y.name) x (fields_left s m i n j))
-      unfolding found_field or_else is_some
-      later_nowhere q = rw (by_search, ← t.found, q, e) refl
+      later_there b q = q ∙ rw (by_search, ← t.found) (by_cases f r e)
+        where
+          by_cases : (f r : Option ℕ) → found f ≡ false → found r ≡ is_some (or_else (found_field s r) (found_field s f))
+          by_cases (Some k) r e = absurd (true≢false e)
+          by_cases None (Some k) e = refl
+          by_cases None None e = refl
 
 -- ------------------------------------------------------------ one field
 
@@ -104,26 +108,26 @@ module _ (s S : List ℕ) (i m n j : ℕ) (h : FieldsLeft s S (suc m) i n j) whe
   pub field_rest : (k : ℕ) → k ≡ end_at S i → FieldsLeft s S m k n j
   field_rest k e = rw e (record { loaded = h.loaded; fields = row_rest h.fields; items = h.items })
 
-  module _ (r : Done) (a : Answers (guardian_bound (type_at s (i + 1))) (done_of s r)) where
+  module _ (r : Result Unit Refusal) (a : Answers (guardian_bound (type_at s (i + 1))) (done_of s r)) where
     abbrev later : List Field
     later = fields_left s m (end_at S i) n j
 
     own : Answers (guardian_bound (field_at s i).ty) (done_of s r)
     own = rw ((field_at_lem h.loaded here.within of_kind_lem).0, ← add-one i) a
 
-    pub field_fine : r ≡ Fine → Answers (bound_if_last (field_at s i) later) (done_of s Fine)
+    pub field_fine : r ≡ Ok tt → Answers (bound_if_last (field_at s i) later) (done_of s (Ok tt))
     unfolding bound_if_last done_of
     field_fine e = provided_fine (not (is_some (last_named (λ g. g.name) (field_at s i).name later))) (guardian_bound (field_at s i).ty) (rw e at own)
 
-    module _ (why : Refusal) (e : r ≡ Refused why) (x : Name) (k : ℕ) (b : Bool) (y : x ≡ name_at s S i) (z : k ≡ end_at S i) (q : b ≡ is_some (last_named (λ g. g.name) x (fields_left s m k n j))) where
+    module _ (why : Refusal) (e : r ≡ Err why) (x : Name) (k : ℕ) (b : Bool) (y : x ≡ name_at s S i) (z : k ≡ end_at S i) (q : b ≡ is_some (last_named (λ g. g.name) x (fields_left s m k n j))) where
       told : is_some (last_named (λ g. g.name) (field_at s i).name later) ≡ b
       told = rw (q, (field_at_lem h.loaded here.within of_kind_lem).0, y, z) refl
 
-      pub field_passed : b ≡ true → Answers (bound_if_last (field_at s i) later) (done_of s Fine)
+      pub field_passed : b ≡ true → Answers (bound_if_last (field_at s i) later) (done_of s (Ok tt))
       unfolding bound_if_last provided done_of
       field_passed t = rw (bound_if_last, told, t) (gives tt)
 
-      pub field-refused : b ≡ false → Answers (bound_if_last (field_at s i) later) (done_of s (Refused why))
+      pub field-refused : b ≡ false → Answers (bound_if_last (field_at s i) later) (done_of s (Err why))
       unfolding bound_if_last provided
       field-refused t = rw (bound_if_last, told, t, ← e) own
 
@@ -145,7 +149,7 @@ first_bound : (f : Field) (fs : List Field) → for_each (values (f ∷ fs)) bou
 unfolding bound_if_last values for_each provided is_some ◌>>◌ ◌>>=◌
 first_bound f fs = by_cases (last_named (λ g. g.name) f.name fs)
   where
-    by_cases : (o : Option Field) → for_each (elim o as (λ _. List Field) [ some g ↦ values fs | none ↦ f ∷ values fs ]) bound ≡ (provided (not (is_some o)) (bound f) >> for_each (values fs) bound)
+    by_cases : (o : Maybe Field) → for_each (elim o as (λ _. List Field) [ some g ↦ values fs | none ↦ f ∷ values fs ]) bound ≡ (provided (not (is_some o)) (bound f) >> for_each (values fs) bound)
     by_cases (some g) = refl
     by_cases none = refl
 
@@ -158,117 +162,128 @@ walk (f ∷ fs) gs =
     ∙ ap (λ p. bound_if_last f (fs ++ gs) >> p) (walk fs gs)
     ∙ sym (bound_then f (fs ++ gs) (bounds_of fs gs) (for_each (values gs) bound))
 
+-- where the next of the records stands
+behind_is : {S : List ℕ} {r t : Records} {i : ℕ} → r.lines.now ≡ S → Steps r i t → t.at ≡ end_at S i
+behind_is e h = h.behind ∙ rw (e, h.here) refl
+
 -- to answer p it is enough to answer q
 pub record Enough (p q : Rule Unit) : Type 0 where
   pub answer : (r : Res Unit) → Answers q r → Answers p r
 
 -- ------------------------------------------------------------ the fields of an item
 
--- what is left of the bounds of the item's fields: those of left fields from line at on
-pub record BoundsGoing (s S : List ℕ) (item more next left at : ℕ) : Type 0 where
-  pub fields : FieldsLeft s S left at more next
+-- what is left of the bounds of the item's fields: those of the fields that r goes over
+pub record BoundsGoing (s S : List ℕ) (item more next : ℕ) (r : Records) : Type 0 where
+  pub lines : r.lines.now ≡ S
+  pub fields : FieldsLeft s S r.left r.at more next
   pub ends : next ≡ end_at S item
-  pub rest : Enough (bounds_of (map field_of (item_fields (node_at s item))) (model_at s more next).fields) (bounds_of (map field_of (nodes_at s left at)) (model_at s more next).fields)
+  pub rest : Enough (bounds_of (map field_of (item_fields (node_at s item))) (model_at s more next).fields) (bounds_of (map field_of (nodes_at s r.left r.at)) (model_at s more next).fields)
 
 module _ (s S : List ℕ) (item more : ℕ) (h : RecordsAt grammar.Item s S (suc more) item) (k : ℕ) (e : k ≡ kind_at S item) where
   item_at : ItemAt s S item
   item_at = record { loaded = h.loaded; here = row_first h.row }
 
-  pub no_bounds : k ≢ kinds.state → Answers (bounds_of (map field_of (item_fields (node_at s item))) (model_at s more (end_at S item)).fields) (done_of s Fine)
+  pub no_bounds : k ≢ kinds.state → Answers (bounds_of (map field_of (item_fields (node_at s item))) (model_at s more (end_at S item)).fields) (done_of s (Ok tt))
   unfolding bounds_of done_of
   no_bounds q = rw (not_state s S item item_at k e q) (gives tt)
 
-  pub bounds_start : (next at left : ℕ) → k ≡ kinds.state → next ≡ end_at S item → at ≡ item + 1 → left ≡ field_count S item → BoundsGoing s S item more next left at
-  bounds_start next at left q z y c =
-      let o = of_state s S item item_at k e left at q c y in
+  pub bounds_start : (next left : ℕ) (r : Records) → k ≡ kinds.state → next ≡ end_at S item → left ≡ field_count S item → r.at ≡ item + 1 → r.left ≡ left → r.lines.now ≡ S
+      → BoundsGoing s S item more next r
+  bounds_start next left r q z c y l n =
+      let o = of_state s S item item_at k e r.left r.at q (l ∙ c) y in
       record {
+        lines = n;
         fields = record { loaded = h.loaded; fields = o.1; items = rw z (row_rest h.row) };
         ends = z;
-        rest = record { answer = λ r a. rw o.0 a };
+        rest = record { answer = λ d a. rw o.0 a };
       }
 
-module _ (s S : List ℕ) (item more next left at : ℕ) (g : BoundsGoing s S item more next left at) where
+module _ (s S : List ℕ) (item more next : ℕ) (r : Records) (g : BoundsGoing s S item more next r) where
   abbrev its : Rule Unit
   its = bounds_of (map field_of (item_fields (node_at s item))) (model_at s more (end_at S item)).fields
 
-  from_rest : (r : Res Unit) → Answers (bounds_of (map field_of (nodes_at s left at)) (model_at s more next).fields) r → Answers its r
-  from_rest r a = rw (← g.ends) (g.rest.answer r a)
+  from_rest : (d : Res Unit) → Answers (bounds_of (map field_of (nodes_at s r.left r.at)) (model_at s more next).fields) d → Answers its d
+  from_rest d a = rw (← g.ends) (g.rest.answer d a)
 
-  pub bounds_over : left ≤ 0 → Answers its (done_of s Fine)
+  pub bounds_over : r.left ≡ 0 → Answers its (done_of s (Ok tt))
   unfolding bounds_of done_of
-  bounds_over q = from_rest (ok tt) (rw (list_none records s left at q) (gives tt))
+  bounds_over q = from_rest (ok tt) (rw (list_none records s r.left r.at (omega (arith, q))) (gives tt))
 
-  module _ (q : 0 < left) where
-    pub bounds_field : FieldsLeft s S (suc (left - 1)) at more next
-    bounds_field = record { loaded = g.fields.loaded; fields = row_some q g.fields.fields; items = g.fields.items }
+  module _ (i : ℕ) (t : Records) (h : Steps r i t) where
+    pub bounds_field : FieldsLeft s S (suc t.left) i more next
+    bounds_field = rw (← h.left, h.here) g.fields
 
-    module _ (r : Done) (a : Answers (bound_if_last (field_at s at) (fields_left s (left - 1) (end_at S at) more next)) (done_of s r)) where
+    module _ (d : Result Unit Refusal) (a : Answers (bound_if_last (field_at s i) (fields_left s t.left (end_at S i) more next)) (done_of s d)) where
       abbrev others : Rule Unit
-      others = bounds_of (map field_of (nodes_at s (left - 1) (end_at S at))) (model_at s more next).fields
+      others = bounds_of (map field_of (nodes_at s t.left (end_at S i))) (model_at s more next).fields
 
-      split : bounds_of (map field_of (nodes_at s left at)) (model_at s more next).fields ≡ (bound_if_last (field_at s at) (fields_left s (left - 1) (end_at S at) more next) >> others)
+      split : bounds_of (map field_of (nodes_at s r.left r.at)) (model_at s more next).fields ≡ (bound_if_last (field_at s i) (fields_left s t.left (end_at S i) more next) >> others)
       unfolding bounds_of fields_left field_at
       split =
-          ap (λ ts. bounds_of (map field_of ts) (model_at s more next).fields)
-          (list_some records g.fields.loaded q g.fields.fields)
+          rw (h.left, ← h.here)
+          (ap (λ ts. bounds_of (map field_of ts) (model_at s more next).fields) (records.first g.fields.loaded t.left (row_first bounds_field.fields).within))
 
-      pub bounds_refused : (why : Refusal) → r ≡ Refused why → Answers its (done_of s (Refused why))
+      pub bounds_refused : (why : Refusal) → d ≡ Err why → Answers its (done_of s (Err why))
       unfolding done_of
-      bounds_refused why e = from_rest (done_of s (Refused why)) (rw split (then_refused _ others _ (rw e at a)))
+      bounds_refused why e = from_rest (done_of s (Err why)) (rw split (then_refused _ others _ (rw e at a)))
 
-      pub bounds_turn : (at' : ℕ) → r ≡ Fine → at' ≡ end_at S at → BoundsGoing s S item more next (left - 1) at'
+      pub bounds_turn : d ≡ Ok tt → BoundsGoing s S item more next t
       unfolding done_of
-      bounds_turn at' e z =
-          rw z
-          (record {
-            fields = field_rest s S at (left - 1) more next bounds_field (end_at S at) refl;
+      bounds_turn e =
+          record {
+            lines = h.lines ∙ g.lines;
+            fields = field_rest s S i t.left more next bounds_field t.at (behind_is g.lines h);
             ends = g.ends;
-            rest = record { answer = λ y b. g.rest.answer y (rw split (then_fine _ others tt y (rw e at a) b)) };
-          })
+            rest = record { answer = λ y b. g.rest.answer y (rw split (then_fine _ others tt y (rw e at a) (rw (← behind_is g.lines h) b))) };
+          }
 
 -- ------------------------------------------------------------ all items
 
--- what is left of the walk: that over the fields of left items from line at on
-abbrev pub WalkGoing : (s S : List ℕ) → (left at : ℕ) → Type 0
-WalkGoing s S left at =
-    RowWalk grammar.Item nodes_at (λ ts. Enough (for_each (values (model_in s).fields) bound) (for_each (values (build (map item_of ts)).fields) bound)) s S left at
+-- what is left of the walk: that over the fields of the items that r goes over
+abbrev pub WalkGoing : (s S : List ℕ) → Records → Type 0
+WalkGoing s S r =
+    IterWalk grammar.Item nodes_at (λ ts. Enough (for_each (values (model_in s).fields) bound) (for_each (values (build (map item_of ts)).fields) bound)) s S r
 
-pub walk_start : (s S : List ℕ) (left : ℕ) → Loaded s S → left ≡ item_count S 0 → WalkGoing s S left 1
-walk_start s S left d e =
+pub walk_start : (s S : List ℕ) (left : ℕ) (r : Records) → Loaded s S → left ≡ item_count S 0 → r.lines.now ≡ S → r.left ≡ left → r.at ≡ 1 → WalkGoing s S r
+walk_start s S left r d e n p q =
     let i = items_at d in
-    rw e (record { loaded = d; row = i.1; known = record { answer = λ r a. rw i.0 a } })
+    iter_start _ _ _ s S (item_count S 0) 1 r (record { loaded = d; row = i.1; known = record { answer = λ d a. rw i.0 a } }) n (p ∙ e) q
 
-module _ (s S : List ℕ) (left at : ℕ) (g : WalkGoing s S left at) where
-  pub walk_over : left ≤ 0 → Answers (for_each (values (model_in s).fields) bound) (done_of s Fine)
+module _ (s S : List ℕ) (r : Records) (g : WalkGoing s S r) where
+  pub walk_over : r.left ≡ 0 → Answers (for_each (values (model_in s).fields) bound) (done_of s (Ok tt))
   unfolding build values for_each done_of
-  walk_over q = (row_over records g q).answer (ok tt) (gives tt)
+  walk_over q = (row_over records g.walk (omega (arith, q))).answer (ok tt) (gives tt)
 
-  module _ (q : 0 < left) where
-    pub walk_item : RecordsAt grammar.Item s S (suc (left - 1)) at
-    walk_item = record { loaded = g.loaded; row = row_some q g.row }
+  module _ (i : ℕ) (t : Records) (h : Steps r i t) where
+    pub walk_item : RecordsAt grammar.Item s S (suc t.left) i
+    walk_item = record { loaded = g.walk.loaded; row = rw (← h.left, h.here) g.walk.row }
 
-    module _ (r : Done) (a : Answers (bounds_of (map field_of (item_fields (node_at s at))) (model_at s (left - 1) (end_at S at)).fields) (done_of s r)) where
+    module _ (d : Result Unit Refusal) (a : Answers (bounds_of (map field_of (item_fields (node_at s i))) (model_at s t.left (end_at S i)).fields) (done_of s d)) where
       abbrev behind : Rule Unit
-      behind = for_each (values (model_at s (left - 1) (end_at S at)).fields) bound
+      behind = for_each (values (model_at s t.left (end_at S i)).fields) bound
 
-      item_first : (model_at s left at).fields ≡ map field_of (item_fields (node_at s at)) ++ (model_at s (left - 1) (end_at S at)).fields
+      item_first : (model_at s r.left r.at).fields ≡ map field_of (item_fields (node_at s i)) ++ (model_at s t.left (end_at S i)).fields
       unfolding model_at build joined
       item_first =
-          ap (λ ts. (build (map item_of ts)).fields) (list_some records g.loaded q g.row) ∙ rw (item_here g.loaded (row_first walk_item.row)) refl
+          rw (h.left, ← h.here)
+          (ap (λ ts. (build (map item_of ts)).fields) (records.first g.walk.loaded t.left (row_first walk_item.row).within) ∙ rw (item_here g.walk.loaded (row_first walk_item.row)) refl)
 
-      parted : for_each (values (model_at s left at).fields) bound ≡ (bounds_of (map field_of (item_fields (node_at s at))) (model_at s (left - 1) (end_at S at)).fields >> behind)
-      parted = ap (λ fs. for_each (values fs) bound) item_first ∙ walk (map field_of (item_fields (node_at s at))) (model_at s (left - 1) (end_at S at)).fields
+      parted : for_each (values (model_at s r.left r.at).fields) bound ≡ (bounds_of (map field_of (item_fields (node_at s i))) (model_at s t.left (end_at S i)).fields >> behind)
+      parted = ap (λ fs. for_each (values fs) bound) item_first ∙ walk (map field_of (item_fields (node_at s i))) (model_at s t.left (end_at S i)).fields
 
-      pub walk_refused : (why : Refusal) → r ≡ Refused why → Answers (for_each (values (model_in s).fields) bound) (done_of s (Refused why))
+      pub walk_refused : (why : Refusal) → d ≡ Err why → Answers (for_each (values (model_in s).fields) bound) (done_of s (Err why))
       unfolding done_of model_at
-      walk_refused why e = g.known.answer (done_of s (Refused why)) (rw parted (then_refused _ behind _ (rw e at a)))
+      walk_refused why e = g.walk.known.answer (done_of s (Err why)) (rw parted (then_refused _ behind _ (rw e at a)))
 
-      pub walk_turn : (at' : ℕ) → r ≡ Fine → at' ≡ end_at S at → WalkGoing s S (left - 1) at'
+      pub walk_turn : d ≡ Ok tt → WalkGoing s S t
       unfolding done_of model_at
-      walk_turn at' e z =
-          rw z
-          (record {
-            loaded = g.loaded;
-            row = row_rest walk_item.row;
-            known = record { answer = λ y b. g.known.answer y (rw parted (then_fine _ behind tt y (rw e at a) b)) };
-          })
+      walk_turn e =
+          record {
+            lines = h.lines ∙ g.lines;
+            walk =
+                record {
+                  loaded = g.walk.loaded;
+                  row = rw (behind_is g.lines h) (row_rest walk_item.row);
+                  known = record { answer = λ y b. g.walk.known.answer y (rw parted (then_fine _ behind tt y (rw e at a) (rw (← behind_is g.lines h) b))) };
+                };
+          }

@@ -6,6 +6,7 @@ use mathlib.Core.Bool.{Bool, false, not, ◌||◌}
 use Prim.Native.Nat.{ℕ, suc, ◌+◌, ◌-◌, ◌<◌}
 use native.Mathlib.Numerals.{add-one}
 use native.Mathlib.Omega.{arith}
+use Rattle.std.specs.Prelude.{Result}
 use Rattle.text.specs.Text.{bytes, same}
 use Rattle.grammar.specs.Grammar as grammar
 use Rattle.sheet.specs.Scratch.{name_at, kind_at, end_at, type_arg_count}
@@ -20,11 +21,11 @@ use Rattle.refusals.specs.Answers.{Answers, expected}
 use Rattle.lookups.specs.Lines.{TypeAt}
 use Rattle.refusals.specs.Refusal.{refusal_of, done_of}
 use Rattle.refusals.specs.declared.refusal.Refusal.TheVariants.{Guardian}
-use Rattle.refusals.specs.declared.refusal.Done.{Done}
 use Rattle.refusals.proofs.Answers.{expects}
 use Rattle.lookups.proofs.Types.{named_word, args_at, arguments, by_kind, arg_of_kind, arg_told, args_here, args_row}
 use Rattle.declarations.specs.Tests.{size_fits}
 use Rattle.grammar.specs.Kinds as kinds
+use Rattle.refusals.specs.declared.refusal.Refusal.{Refusal}
 
 -- What `members_fit` meets: m arguments, of which the first has the kind k.
 module _ (s S : List ℕ) (i m : ℕ) (h : TypeAt s S i) (c : m ≡ type_arg_count S i) where
@@ -66,6 +67,6 @@ pub guardian_fits_lem : (s S : List ℕ) (i : ℕ) (x : Name) (w m : Bool) → T
 unfolding guardian_fits size_fits
 guardian_fits_lem s S i x w m h e f g = rw (named_word s S i x "GuardianSet" w h e f, g) refl
 
-pub guardian_bound_lem : (s : List ℕ) (i : ℕ) (b : Bool) (r : Done) → b ≡ guardian_fits (type_at s i) → r ≡ expected b (Guardian i) → Answers (guardian_bound (type_at s i)) (done_of s r)
+pub guardian_bound_lem : (s : List ℕ) (i : ℕ) (b : Bool) (r : Result Unit Refusal) → b ≡ guardian_fits (type_at s i) → r ≡ expected b (Guardian i) → Answers (guardian_bound (type_at s i)) (done_of s r)
 unfolding guardian_bound refusal_of
 guardian_bound_lem s i b r e f = rw (← e) (expects s b (Guardian i) r f)

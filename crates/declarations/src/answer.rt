@@ -2,14 +2,14 @@
 ghost use Rattle.std.specs.Prelude.{◌≡◌};
 ghost use Rattle.refusals.specs.Answers.{expected};
 
-use refusals::{Done, Refusal};
+use refusals::Refusal;
 
 // Refuses unless the test holds.
-pub fn expect(holds: bool, why: Refusal) -> Done
+pub fn expect(holds: bool, why: Refusal) -> Result<(), Refusal>
     ensures { result ≡ expected holds why }
 {
     if holds {
-        return Done::Fine;
+        return Ok(());
     }
-    Done::Refused(why)
+    Err(why)
 }

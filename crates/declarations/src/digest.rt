@@ -1,17 +1,16 @@
 // Names that speak of a digest, which a Q_Word64 can't hold.
-ghost use Rattle.std.specs.Prelude.{◌≡◌, ◌<◌, suc, get_or};
-ghost use Rattle.text.specs.Text.{bytes};
+ghost use Rattle.std.specs.Prelude.{◌≡◌, suc};
 ghost use Rattle.rules.specs.Declarations.{contains_any, DIGEST_NAME_TOKENS, refuse_word64_as_digest, starts_with};
 ghost use Rattle.rules.specs.Declarations.{lower as lower_of};
 ghost use Rattle.rules.specs.Standing.{param_at, type_at};
 ghost use Rattle.refusals.specs.Answers.{Answers};
 ghost use Rattle.refusals.specs.Refusal.{done_of};
 ghost use Rattle.declarations.specs.Lines.{Named};
-ghost use Rattle.declarations.specs.Tests.{small};
+ghost use Rattle.declarations.specs.Tests.{small, starts_any};
 
 use crate::answer::expect;
-use refusals::{Done, Refusal};
-use sheet::name;
+use refusals::Refusal;
+use sheet::{LoadedSheet, name};
 use text::is_word;
 
 fn lower(b: u8) -> u8
@@ -27,64 +26,34 @@ fn lower(b: u8) -> u8
 fn starts_with(s: &[u8], word: &[u8]) -> bool
     ensures { result ≡ starts_with (lower_of s.now) word.now }
 {
-    let mut i = 0;
-    while i < word.len() {
-        if s.len() <= i {
-            return false;
-        }
-        if lower(s[i]) != word[i] {
-            return false;
-        }
-        i += 1;
-    }
-    true
+    (word.len() <= s.len()) & s.iter().zip(word).all(|(a, b)| lower(*a) == *b)
 }
 
-// Whether s starts with the digest word of number k.
-fn word_at(s: &[u8], k: usize) -> bool
-    requires { k < 6 }
-    ensures { result ≡ starts_with (lower_of s.now) (bytes (get_or DIGEST_NAME_TOKENS k "")) }
+// Whether s starts with a digest word.
+fn starts_digest(s: &[u8]) -> bool
+    ensures { result ≡ starts_any (lower_of s.now) DIGEST_NAME_TOKENS }
 {
-    match k {
-        0 => starts_with(s, b"digest"),
-        1 => starts_with(s, b"hash"),
-        2 => starts_with(s, b"fingerprint"),
-        3 => starts_with(s, b"checksum"),
-        4 => starts_with(s, b"commitment"),
-        _ => starts_with(s, b"merkle"),
-    }
+    starts_with(s, b"digest")
+        | (starts_with(s, b"hash")
+            | (starts_with(s, b"fingerprint")
+                | (starts_with(s, b"checksum")
+                    | (starts_with(s, b"commitment") | starts_with(s, b"merkle")))))
 }
 
 // Whether a digest word stands at any place of the name.
 fn has_digest(name: &[u8]) -> bool
     ensures { result ≡ contains_any (lower_of name.now) DIGEST_NAME_TOKENS }
 {
-    let mut found = false;
-    let mut i = 0;
-    'places: while i < name.len() {
-        let mut k = 0;
-        while k < 6 {
-            if word_at(&name[i..], k) {
-                found = true;
-                break 'places;
-            }
-            k += 1;
-        }
-        i += 1;
-    }
-    found
+    (0..name.len()).any(|i| starts_digest(&name[i..]))
 }
 
 // The field or parameter at line named, whose type stands at the next line.
-pub fn refuse_word64_as_digest(sheet: &[u8], lines: &[u16], named: usize) -> Done
-    requires { Named sheet.now lines.now named }
-    ensures { Answers (refuse_word64_as_digest (param_at sheet.now named).name (type_at sheet.now (suc named))) (done_of sheet.now result) }
+pub fn refuse_word64_as_digest(sheet: &LoadedSheet<'_>, named: usize) -> Result<(), Refusal>
+    requires { Named sheet.now.bytes.now sheet.now.lines.now named }
+    ensures { Answers (refuse_word64_as_digest (param_at sheet.now.bytes.now named).name (type_at sheet.now.bytes.now (suc named))) (done_of sheet.now.bytes.now result) }
 {
-    if !is_word(name(sheet, lines, named + 1), b"Q_Word64") {
-        return Done::Fine;
+    if !is_word(sheet.name(named + 1), b"Q_Word64") {
+        return Ok(());
     }
-    expect(
-        !has_digest(name(sheet, lines, named)),
-        Refusal::Digest(named),
-    )
+    expect(!has_digest(sheet.name(named)), Refusal::Digest(named))
 }

@@ -11,8 +11,8 @@ ghost use Rattle.declarations.specs.Tests.{size_fits};
 
 use crate::answer::expect;
 use grammar::kinds;
-use refusals::{Done, Refusal};
-use sheet::{kind, name, type_arg_count};
+use refusals::Refusal;
+use sheet::{LoadedSheet, type_arg_count};
 use text::is_word;
 
 // The number n with one more digit, which is 0 for a byte below the digits.
@@ -31,46 +31,42 @@ fn size_fits(text: &[u8]) -> bool
     ensures { result ≡ size_fits (parse_u64 text.now) }
 {
     let mut n: usize = 0;
-    let mut i = 0;
-    while i < text.len() {
-        let b = text[i];
+    for &b in text {
         if b == b'_' {
-            i += 1;
             continue;
         }
         n = with_digit(n, b);
         if 256 < n {
             return false;
         }
-        i += 1;
     }
     1 <= n
 }
 
 // Whether the first argument of the `type` record at line ty is a set's size.
-fn members_fit(sheet: &[u8], lines: &[u16], ty: usize) -> bool
-    requires { TypeAt sheet.now lines.now ty }
-    ensures { result ≡ size_fits (members_of (args (type_at sheet.now ty))) }
+fn members_fit(sheet: &LoadedSheet<'_>, ty: usize) -> bool
+    requires { TypeAt sheet.now.bytes.now sheet.now.lines.now ty }
+    ensures { result ≡ size_fits (members_of (args (type_at sheet.now.bytes.now ty))) }
 {
-    if type_arg_count(lines, ty) == 0 {
+    if type_arg_count(sheet.lines, ty) == 0 {
         return false;
     }
-    if kind(lines, ty + 1) != kinds::NUM {
+    if sheet.kind(ty + 1) != kinds::NUM {
         return false;
     }
-    size_fits(name(sheet, lines, ty + 1))
+    size_fits(sheet.name(ty + 1))
 }
 
-fn guardian_fits(sheet: &[u8], lines: &[u16], ty: usize) -> bool
-    requires { TypeAt sheet.now lines.now ty }
-    ensures { result ≡ guardian_fits (type_at sheet.now ty) }
+fn guardian_fits(sheet: &LoadedSheet<'_>, ty: usize) -> bool
+    requires { TypeAt sheet.now.bytes.now sheet.now.lines.now ty }
+    ensures { result ≡ guardian_fits (type_at sheet.now.bytes.now ty) }
 {
-    !is_word(name(sheet, lines, ty), b"GuardianSet") | members_fit(sheet, lines, ty)
+    !is_word(sheet.name(ty), b"GuardianSet") | members_fit(sheet, ty)
 }
 
-pub fn guardian_bound(sheet: &[u8], lines: &[u16], ty: usize) -> Done
-    requires { TypeAt sheet.now lines.now ty }
-    ensures { Answers (guardian_bound (type_at sheet.now ty)) (done_of sheet.now result) }
+pub fn guardian_bound(sheet: &LoadedSheet<'_>, ty: usize) -> Result<(), Refusal>
+    requires { TypeAt sheet.now.bytes.now sheet.now.lines.now ty }
+    ensures { Answers (guardian_bound (type_at sheet.now.bytes.now ty)) (done_of sheet.now.bytes.now result) }
 {
-    expect(guardian_fits(sheet, lines, ty), Refusal::Guardian(ty))
+    expect(guardian_fits(sheet, ty), Refusal::Guardian(ty))
 }

@@ -6,7 +6,7 @@ ghost use Rattle.rules.specs.Asking.{for_each};
 ghost use Rattle.rules.specs.Ast.{field_of};
 ghost use Rattle.rules.specs.Declarations.{guardian_bound};
 ghost use Rattle.rules.specs.Model.{values};
-ghost use Rattle.rules.specs.Standing.{field_at, Loaded, model_in, node_at};
+ghost use Rattle.rules.specs.Standing.{field_at, model_in, node_at};
 ghost use Rattle.rules.specs.Text.{last_named};
 ghost use Rattle.rules.specs.Typing.{is_some};
 ghost use Rattle.refusals.specs.Answers.{Answers};
@@ -17,100 +17,74 @@ ghost use Rattle.declarations.specs.Bounds.{bound_if_last, bounds_of, FieldsLeft
 
 use crate::guardian::guardian_bound;
 use grammar::kinds;
-use lookups::{Found, fields_named, last_named};
-use refusals::Done;
-use sheet::{end, field_count, item_count, kind, name};
+use lookups::{fields_named, last_named};
+use refusals::Refusal;
+use sheet::{LoadedSheet, field_count, item_count};
 
 // Whether one of the fields from line from on, or of the items from line at on, has the name x.
 fn named_later(
-    sheet: &[u8],
-    lines: &[u16],
+    sheet: &LoadedSheet<'_>,
     x: &[u8],
     from: usize,
     fields: usize,
     at: usize,
     items: usize,
 ) -> bool
-    requires { FieldsLeft sheet.now lines.now fields from items at }
-    ensures { result ≡ is_some (last_named (λ f. f.name) x.now (fields_left sheet.now fields from items at)) }
+    requires { FieldsLeft sheet.now.bytes.now sheet.now.lines.now fields from items at }
+    ensures { result ≡ is_some (last_named (λ f. f.name) x.now (fields_left sheet.now.bytes.now fields from items at)) }
 {
-    match last_named(sheet, lines, kinds::FIELD, x, from, fields) {
-        Found::At(_) => true,
-        Found::Nothing => match fields_named(sheet, lines, x, at, items) {
-            Found::At(_) => true,
-            Found::Nothing => false,
-        },
+    if last_named(sheet, kinds::FIELD, x, from, fields).is_some() {
+        return true;
     }
+    fields_named(sheet, x, at, items).is_some()
 }
 
 // The bound of the field at a line, behind which its item has more fields, and the contract items from line at on. Nearly
 // all fields are within their bound, and then no name is looked for.
 fn field_bound(
-    sheet: &[u8],
-    lines: &[u16],
+    sheet: &LoadedSheet<'_>,
     field: usize,
     more: usize,
     at: usize,
     items: usize,
-) -> Done
-    requires { FieldsLeft sheet.now lines.now (suc more) field items at }
-    ensures { Answers (bound_if_last (field_at sheet.now field) (fields_left sheet.now more (end_at lines.now field) items at)) (done_of sheet.now result) }
+) -> Result<(), Refusal>
+    requires { FieldsLeft sheet.now.bytes.now sheet.now.lines.now (suc more) field items at }
+    ensures { Answers (bound_if_last (field_at sheet.now.bytes.now field) (fields_left sheet.now.bytes.now more (end_at sheet.now.lines.now field) items at)) (done_of sheet.now.bytes.now result) }
 {
-    match guardian_bound(sheet, lines, field + 1) {
-        Done::Fine => Done::Fine,
-        Done::Refused(why) => {
-            let x = name(sheet, lines, field);
-            if named_later(sheet, lines, x, end(lines, field), more, at, items) {
-                return Done::Fine;
-            }
-            Done::Refused(why)
-        }
+    let Err(why) = guardian_bound(sheet, field + 1) else {
+        return Ok(());
+    };
+    let x = sheet.name(field);
+    if named_later(sheet, x, sheet.end(field), more, at, items) {
+        return Ok(());
     }
+    Err(why)
 }
 
 // The bounds of the fields that the item at a line declares, behind which the contract has more items.
-fn item_bounds(sheet: &[u8], lines: &[u16], item: usize, more: usize) -> Done
-    requires { RecordsAt Item sheet.now lines.now (suc more) item }
-    ensures { Answers (bounds_of (map field_of (item_fields (node_at sheet.now item))) (model_at sheet.now more (end_at lines.now item)).fields) (done_of sheet.now result) }
+fn item_bounds(sheet: &LoadedSheet<'_>, item: usize, more: usize) -> Result<(), Refusal>
+    requires { RecordsAt Item sheet.now.bytes.now sheet.now.lines.now (suc more) item }
+    ensures { Answers (bounds_of (map field_of (item_fields (node_at sheet.now.bytes.now item))) (model_at sheet.now.bytes.now more (end_at sheet.now.lines.now item)).fields) (done_of sheet.now.bytes.now result) }
 {
-    if kind(lines, item) != kinds::STATE {
-        return Done::Fine;
+    if sheet.kind(item) != kinds::STATE {
+        return Ok(());
     }
-    let next = end(lines, item);
-    let mut at = item + 1;
-    let mut left = field_count(lines, item);
-    while 0 < left {
-        match field_bound(sheet, lines, at, left - 1, next, more) {
-            Done::Refused(why) => {
-                return Done::Refused(why);
-            }
-            Done::Fine => {
-                at = end(lines, at);
-                left -= 1;
-            }
-        }
+    let next = sheet.end(item);
+    let mut fields = sheet.records(item + 1, field_count(sheet.lines, item));
+    while let Some(at) = fields.next() {
+        field_bound(sheet, at, fields.left, next, more)?;
     }
-    Done::Fine
+    Ok(())
 }
 
 // `for field in model.state.values() { guardian_bound(&field.ty)?; }`. The Rust walks a hash map, so which of several bad
 // fields it names is open; the written rules, and so this function, name the first in sheet order.
-pub fn guardian_fields(sheet: &[u8], lines: &[u16]) -> Done
-    requires { Loaded sheet.now lines.now }
-    ensures { Answers (for_each (values (model_in sheet.now).fields) (λ f. guardian_bound f.ty)) (done_of sheet.now result) }
+pub fn guardian_fields(sheet: &LoadedSheet<'_>) -> Result<(), Refusal>
+    ensures { Answers (for_each (values (model_in sheet.now.bytes.now).fields) (λ f. guardian_bound f.ty)) (done_of sheet.now.bytes.now result) }
 {
-    let mut at = 1;
-    let mut items = item_count(lines, 0);
-    while 0 < items {
-        match item_bounds(sheet, lines, at, items - 1) {
-            Done::Refused(why) => {
-                return Done::Refused(why);
-            }
-            Done::Fine => {
-                at = end(lines, at);
-                items -= 1;
-            }
-        }
+    let mut items = sheet.records(1, item_count(sheet.lines, 0));
+    while let Some(at) = items.next() {
+        item_bounds(sheet, at, items.left)?;
     }
-    Done::Fine
+    Ok(())
 }

@@ -14,9 +14,9 @@ ghost use Rattle.rules.specs.Kept.{ty_from};
 use crate::answer::expect;
 use grammar::kinds;
 use lookups::{ty_of_decl, type_code};
-use refusals::{Done, Refusal};
+use refusals::Refusal;
 use rules::codes;
-use sheet::{end, kind, name, type_arg_count};
+use sheet::{LoadedSheet, name, type_arg_count};
 use text::is_word;
 
 // Int, Bool, Time, Address, Word64 or Name.
@@ -31,25 +31,25 @@ fn takes_no_args(ty: u8) -> bool
 }
 
 // The last arm of `storable`, and the whole of `event_field_type`.
-fn known(sheet: &[u8], lines: &[u16], ty: usize) -> Done
-    requires { TypeAt sheet.now lines.now ty }
-    ensures { Answers (known_of (type_at sheet.now ty)) (done_of sheet.now result) }
+fn known(sheet: &LoadedSheet<'_>, ty: usize) -> Result<(), Refusal>
+    requires { TypeAt sheet.now.bytes.now sheet.now.lines.now ty }
+    ensures { Answers (known_of (type_at sheet.now.bytes.now ty)) (done_of sheet.now.bytes.now result) }
 {
-    let decl = ty_of_decl(sheet, lines, ty);
+    let decl = ty_of_decl(sheet, ty);
     if decl == codes::UNKNOWN {
-        return Done::Refused(Refusal::UnknownType(ty));
+        return Err(Refusal::UnknownType(ty));
     }
     expect(
-        !takes_no_args(decl) | (type_arg_count(lines, ty) == 0),
+        !takes_no_args(decl) | (type_arg_count(sheet.lines, ty) == 0),
         Refusal::NoArguments(ty),
     )
 }
 
-pub fn event_field_type(sheet: &[u8], lines: &[u16], ty: usize) -> Done
-    requires { TypeAt sheet.now lines.now ty }
-    ensures { Answers (event_field_type (type_at sheet.now ty)) (done_of sheet.now result) }
+pub fn event_field_type(sheet: &LoadedSheet<'_>, ty: usize) -> Result<(), Refusal>
+    requires { TypeAt sheet.now.bytes.now sheet.now.lines.now ty }
+    ensures { Answers (event_field_type (type_at sheet.now.bytes.now ty)) (done_of sheet.now.bytes.now result) }
 {
-    known(sheet, lines, ty)
+    known(sheet, ty)
 }
 
 // How many arguments a Map or Registry takes; 0 for any other name.
@@ -74,75 +74,69 @@ fn is_refused_inside(ty: u8) -> bool
 }
 
 // Whether the type at line inner may be a key or value of the Map or Registry at line ty.
-fn inner_fits(sheet: &[u8], lines: &[u16], ty: usize, inner: usize, key: bool) -> bool
-    requires ty_at { TypeAt sheet.now lines.now ty }
-    requires inner_at { TypeAt sheet.now lines.now inner }
-    ensures { result ≡ inner_fits (type_name (type_at sheet.now ty)) key (type_at sheet.now inner) }
+fn inner_fits(sheet: &LoadedSheet<'_>, ty: usize, inner: usize, key: bool) -> bool
+    requires ty_at { TypeAt sheet.now.bytes.now sheet.now.lines.now ty }
+    requires inner_at { TypeAt sheet.now.bytes.now sheet.now.lines.now inner }
+    ensures { result ≡ inner_fits (type_name (type_at sheet.now.bytes.now ty)) key (type_at sheet.now.bytes.now inner) }
 {
-    let decl = ty_of_decl(sheet, lines, inner);
+    let decl = ty_of_decl(sheet, inner);
     if decl == codes::NAME {
-        return key | is_word(name(sheet, lines, ty), b"Map");
+        return key | is_word(sheet.name(ty), b"Map");
     }
-    !is_refused_inside(decl) & (type_arg_count(lines, inner) == 0)
+    !is_refused_inside(decl) & (type_arg_count(sheet.lines, inner) == 0)
 }
 
 // The argument at line arg of the Map or Registry at line ty.
-fn storable_arg(sheet: &[u8], lines: &[u16], ty: usize, arg: usize, key: bool) -> Done
-    requires ty_at { TypeAt sheet.now lines.now ty }
-    requires arg_here { Here lines.now Arg arg }
-    ensures { Answers (storable_arg (type_at sheet.now ty) key (arg_at sheet.now arg)) (done_of sheet.now result) }
+fn storable_arg(sheet: &LoadedSheet<'_>, ty: usize, arg: usize, key: bool) -> Result<(), Refusal>
+    requires ty_at { TypeAt sheet.now.bytes.now sheet.now.lines.now ty }
+    requires arg_here { Here sheet.now.lines.now Arg arg }
+    ensures { Answers (storable_arg (type_at sheet.now.bytes.now ty) key (arg_at sheet.now.bytes.now arg)) (done_of sheet.now.bytes.now result) }
 {
-    if kind(lines, arg) != kinds::TYPE {
-        return Done::Refused(Refusal::OnlyTypes(ty));
+    if sheet.kind(arg) != kinds::TYPE {
+        return Err(Refusal::OnlyTypes(ty));
     }
     let why = Refusal::InnerType {
         ty: ty,
         inner: arg,
         is_key: key,
     };
-    expect(inner_fits(sheet, lines, ty, arg, key), why)
+    expect(inner_fits(sheet, ty, arg, key), why)
 }
 
-fn storable_args(sheet: &[u8], lines: &[u16], ty: usize) -> Done
-    requires { TypeAt sheet.now lines.now ty }
-    ensures { Answers (storable_args (type_at sheet.now ty) true (args (type_at sheet.now ty))) (done_of sheet.now result) }
+fn storable_args(sheet: &LoadedSheet<'_>, ty: usize) -> Result<(), Refusal>
+    requires { TypeAt sheet.now.bytes.now sheet.now.lines.now ty }
+    ensures { Answers (storable_args (type_at sheet.now.bytes.now ty) true (args (type_at sheet.now.bytes.now ty))) (done_of sheet.now.bytes.now result) }
 {
-    let n = type_arg_count(lines, ty);
-    let mut arg = ty + 1;
-    let mut k = 0;
-    while k < n {
-        let judged = storable_arg(sheet, lines, ty, arg, k == 0);
-        if let Done::Refused(why) = judged {
-            return Done::Refused(why);
-        }
-        arg = end(lines, arg);
-        k += 1;
+    let mut is_key = true;
+    for arg in sheet.records(ty + 1, type_arg_count(sheet.lines, ty)) {
+        storable_arg(sheet, ty, arg, is_key)?;
+        is_key = false;
     }
-    Done::Fine
+    Ok(())
 }
 
-fn storable_keyed(sheet: &[u8], lines: &[u16], ty: usize, arity: usize) -> Done
-    requires ty_at { TypeAt sheet.now lines.now ty }
-    requires arity_of_ty { arity ≡ arity_in (type_name (type_at sheet.now ty)) }
-    ensures { Answers (storable_keyed (type_at sheet.now ty) arity) (done_of sheet.now result) }
+fn storable_keyed(sheet: &LoadedSheet<'_>, ty: usize, arity: usize) -> Result<(), Refusal>
+    requires ty_at { TypeAt sheet.now.bytes.now sheet.now.lines.now ty }
+    requires arity_of_ty { arity ≡ arity_in (type_name (type_at sheet.now.bytes.now ty)) }
+    ensures { Answers (storable_keyed (type_at sheet.now.bytes.now ty) arity) (done_of sheet.now.bytes.now result) }
 {
-    if type_arg_count(lines, ty) != arity {
-        return Done::Refused(Refusal::Arity(ty));
+    if type_arg_count(sheet.lines, ty) != arity {
+        return Err(Refusal::Arity(ty));
     }
-    storable_args(sheet, lines, ty)
+    storable_args(sheet, ty)
 }
 
-pub fn storable(sheet: &[u8], lines: &[u16], ty: usize) -> Done
-    requires { TypeAt sheet.now lines.now ty }
-    ensures { Answers (storable_of (type_at sheet.now ty)) (done_of sheet.now result) }
+pub fn storable(sheet: &LoadedSheet<'_>, ty: usize) -> Result<(), Refusal>
+    requires { TypeAt sheet.now.bytes.now sheet.now.lines.now ty }
+    ensures { Answers (storable_of (type_at sheet.now.bytes.now ty)) (done_of sheet.now.bytes.now result) }
 {
-    let word = name(sheet, lines, ty);
+    let word = sheet.name(ty);
     if is_word(word, b"Q_Name") {
-        return Done::Refused(Refusal::NameStored(ty));
+        return Err(Refusal::NameStored(ty));
     }
     let arity = arity_of(word);
     if arity == 0 {
-        return known(sheet, lines, ty);
+        return known(sheet, ty);
     }
-    storable_keyed(sheet, lines, ty, arity)
+    storable_keyed(sheet, ty, arity)
 }

@@ -11,6 +11,7 @@ use mir.Val.{Fits}
 use borrow.Author.Tests.{eq-eqb, ne_eqb, eqb-true, eqb-false}
 use lib.Dec.{eqb}
 use lib.ListN.{length}
+use Rattle.std.specs.Prelude.{Option, Some, None, Result, Ok, Err}
 use Rattle.grammar.specs.Grammar as grammar
 use Rattle.sheet.specs.Scratch.{kind_at, end_at, name_at, line_count, emit_arg_count, param_count}
 use Rattle.sheet.specs.Tree.{take_nodes}
@@ -30,19 +31,13 @@ use Rattle.rules.proofs.Rows.{exprs, row_some, list_some}
 use Rattle.rules.proofs.Standing.{stands, row_first, row_rest}
 use Rattle.lookups.specs.Lines.{TypeAt}
 use Rattle.refusals.specs.Refusal.{refusal_of, done_of}
-use Rattle.lookups.specs.declared.model.Found.{Found}
-use Rattle.lookups.specs.declared.model.Found.TheVariants.{At, Nothing}
 use Rattle.refusals.specs.declared.refusal.Refusal.{Refusal}
 use Rattle.refusals.specs.declared.refusal.Refusal.TheVariants.{EmitField}
-use Rattle.refusals.specs.declared.refusal.Done.{Done}
-use Rattle.refusals.specs.declared.refusal.Done.TheVariants.{Fine, Refused}
 use Rattle.refusals.proofs.Answers.{fits, misfits}
 use Rattle.lookups.proofs.Codes.{from_code}
 use Rattle.text.proofs.Tests.{or_parts}
 use Rattle.env.specs.Force.{env_of, ExprIn}
 use Rattle.env.specs.declared.env.Env.{Env}
-use Rattle.env.specs.declared.judge.Typed.{Typed}
-use Rattle.env.specs.declared.judge.Typed.TheVariants.{Is, Refused as No}
 use Rattle.typing.specs.Asks.{Asks, NoValue, AsksAll, Types, Does}
 use Rattle.typing.proofs.Calls.{did}
 use Rattle.typing.proofs.Doing.{typed_then, not_typed, does_then, does_cut}
@@ -70,11 +65,11 @@ module _ (s : List ℕ) (env : Env) (arg param c d : ℕ) (n m : Bool) (e : n �
   fitting : (want got : Ty) (x : Bool) → c ≡ code want → d ≡ code got → m ≡ x → not (emit_mismatch (env_of s [] env) (expr_at s arg) want got) ≡ not x
   fitting want got x k l q = ap not (sym (h.tests (env_of s [] env) (expr_at s arg) want got e k l) ∙ q)
 
-  pub field_wrong : m ≡ true → JudgesField s env arg param c d (Refused (EmitField arg param d))
+  pub field_wrong : m ≡ true → JudgesField s env arg param c d (Err (EmitField arg param d))
   unfolding done_of refusal_of
   field_wrong q = record { judged = λ want got k l. rw (from_code d got l) (misfits _ 43 _ _ (fitting want got true k l q)) }
 
-  pub field_fine : m ≡ false → JudgesField s env arg param c d Fine
+  pub field_fine : m ≡ false → JudgesField s env arg param c d (Ok tt)
   unfolding done_of
   field_fine q = record { judged = λ want got k l. fits _ 43 _ _ (fitting want got false k l q) }
 
@@ -96,12 +91,12 @@ module _ (s S : List ℕ) (env : Env) (T : Table) (arg param : ℕ) (h : FieldIn
   pub field_fits : length S < 18446744073709551616 → Fits w64 (param + 1)
   field_fits l = record { fits = omega (arith, typed.1.within) }
 
-  module _ (a : Typed) (U : Table) (k : Types s (ty_of (env_of s T env) (expr_at s arg)) T a U) where
-    pub field_no : (r : Refusal) → a ≡ No r → Does s (check_emit_field (env_of s T env) (expr_at s arg) (param_at s param)) T (Refused r) U
+  module _ (a : Result ℕ Refusal) (U : Table) (k : Types s (ty_of (env_of s T env) (expr_at s arg)) T a U) where
+    pub field_no : (r : Refusal) → a ≡ Err r → Does s (check_emit_field (env_of s T env) (expr_at s arg) (param_at s param)) T (Err r) U
     unfolding check_emit_field
     field_no r e = not_typed s (ty_of (env_of s T env) (expr_at s arg)) _ T a U k r e
 
-    module _ (c want : ℕ) (r : Done) (e : a ≡ Is c) (w : want ≡ code (ty_of_decl (type_at s (param + 1)))) (j : JudgesField s env arg param want c r) where
+    module _ (c want : ℕ) (r : Result Unit Refusal) (e : a ≡ Ok c) (w : want ≡ code (ty_of_decl (type_at s (param + 1)))) (j : JudgesField s env arg param want c r) where
       judged : Answers (expect (not (emit_mismatch (env_of s T env) (expr_at s arg) (ty_of_decl (param_at s param).ty) (ty_from c))) 43 (span (expr_at s arg)) (emit_text (param_at s param) (ty_from c))) (done_of s r)
       unfolding emit_mismatch is_name_param env_of
       judged =
@@ -128,7 +123,7 @@ module _ (s S : List ℕ) (env : Env) (T : Table) (arg args param params : ℕ) 
   no_more true q e = rw (eqb-true args 0 q) refl
   no_more false q e = rw (eqb-true params 0 e, no_params s param) (no_field (env_of s T env) (list (exprs_at s args arg)) T)
 
-  pub fields_stop : (eqb args 0 || eqb params 0) ≡ true → Does s Fields T Fine T
+  pub fields_stop : (eqb args 0 || eqb params 0) ≡ true → Does s Fields T (Ok tt) T
   unfolding done_of
   fields_stop e = record { gives = no_more (eqb args 0) refl e }
 
@@ -166,11 +161,11 @@ module _ (s S : List ℕ) (env : Env) (T : Table) (arg args param params : ℕ) 
         let d = h.ready.force.loaded in
         rw (list_some exprs d (omega (arith, both.0)) h.these, list_some rows.params d (omega (arith, both.1)) h.those) refl
 
-    module _ (d : Done) (U : Table) (k : Does s first T d U) where
-      pub fields_no : (r : Refusal) → d ≡ Refused r → Does s Fields T (Refused r) U
+    module _ (d : Result Unit Refusal) (U : Table) (k : Does s first T d U) where
+      pub fields_no : (r : Refusal) → d ≡ Err r → Does s Fields T (Err r) U
       fields_no r e = record { gives = opened ∙ (does_cut s first rest T d U k r e).gives }
 
-      module _ (e : d ≡ Fine) (a' p' : ℕ) (ea : a' ≡ end_at S arg) (ep : p' ≡ end_at S param) where
+      module _ (e : d ≡ Ok tt) (a' p' : ℕ) (ea : a' ≡ end_at S arg) (ep : p' ≡ end_at S param) where
         on : Onward s S env T U
         unfolding check_emit_field
         on = onward s S env T U first tt h.ready (off_judged h.ready.force.loaded (env_of s T env) (row_first these) h.no_value _ _ _ _) (did s first T d U k.gives e)
@@ -178,7 +173,7 @@ module _ (s S : List ℕ) (env : Env) (T : Table) (arg args param params : ℕ) 
         pub fields_rest : FieldsIn s S env U a' (args - 1) p' (params - 1)
         fields_rest = record { ready = on.ready; these = rw ea (row_rest these); no_value = rw ea (no_value_next h.ready.force.loaded (row_first these)); those = rw ep (row_rest those) }
 
-        pub fields_ok : (r : Done) (W : Table) → Does s (fields_rule (env_of s U env) (list (exprs_at s (args - 1) a')) (params_at s (params - 1) p')) U r W → Does s Fields T r W
+        pub fields_ok : (r : Result Unit Refusal) (W : Table) → Does s (fields_rule (env_of s U env) (list (exprs_at s (args - 1) a')) (params_at s (params - 1) p')) U r W → Does s Fields T r W
         fields_ok r W g' = record { gives = opened ∙ (does_then s first rest T d U k e r W (rw (← on.same, ← ea, ← ep) g')).gives }
 
 -- ------------------------------------------------------------ check_emit_fields and check_emit
@@ -214,12 +209,12 @@ module _ (s S : List ℕ) (env : Env) (T : Table) (i : ℕ) (h : EmitIn s S env 
   abbrev Emits : Rule Unit
   Emits = check_emit_fields (env_of s T env) (name_at s S i) (list es)
 
-  module _ (x : Name) (r : Found) (ex : x ≡ name_at s S i) (n : EventNamed s S x r) where
-    pub no_event : r ≡ Nothing → Does s Emits T Fine T
+  module _ (x : Name) (r : Option ℕ) (ex : x ≡ name_at s S i) (n : EventNamed s S x r) where
+    pub no_event : r ≡ None → Does s Emits T (Ok tt) T
     unfolding check_emit_fields env_of if_some found_event done_of kept
     no_event e = record { gives = rw (← ex, ← n.found, e) refl }
 
-    module _ (event : ℕ) (e : r ≡ At event) where
+    module _ (event : ℕ) (e : r ≡ Some event) where
       there : (event < line_count S) × (kind_at S event ≡ kinds.event)
       there = rw e at n.kind
 
@@ -233,7 +228,7 @@ module _ (s S : List ℕ) (env : Env) (T : Table) (i : ℕ) (h : EmitIn s S env 
         pub event-fields : FieldsIn s S env T (i + 1) m (event + 1) k
         event-fields = record { ready = h.ready; these = rw (em, add-one i) row; no_value = rw (add-one i) args_no_value; those = rw (ek, add-one event) params.1 }
 
-        pub event_done : (d : Done) (U : Table) → Does s (fields_rule (env_of s T env) (list (exprs_at s m (i + 1))) (params_at s k (event + 1))) T d U → Does s Emits T d U
+        pub event_done : (d : Result Unit Refusal) (U : Table) → Does s (fields_rule (env_of s T env) (list (exprs_at s m (i + 1))) (params_at s k (event + 1))) T d U → Does s Emits T d U
         unfolding check_emit_fields fields_rule env_of if_some found_event
         event_done d U g = record { gives = rw (← ex, ← n.found, e, params.0, ← em, ← ek, ← add-one i, ← add-one event) g.gives }
 
@@ -241,25 +236,25 @@ module _ (s S : List ℕ) (env : Env) (T : Table) (i : ℕ) (h : EmitIn s S env 
     pub emit_asks : AsksAll s S env T m (i + 1)
     emit_asks = record { ready = h.ready; row = rw (em, add-one i) row; no_value = rw (add-one i) args_no_value }
 
-    module _ (d : Done) (U : Table) (k : Does s (ask_each (typings (env_of s T env) (exprs_at s m (i + 1)))) T d U) where
+    module _ (d : Result Unit Refusal) (U : Table) (k : Does s (ask_each (typings (env_of s T env) (exprs_at s m (i + 1)))) T d U) where
       abbrev all : Rule Unit
       all = for_each (list es) λ arg. ty_of (env_of s T env) arg >> ret tt
 
       asks : Does s all T d U
       asks = record { gives = each_typed (env_of s T env) es T ∙ rw (← em, ← add-one i) k.gives }
 
-      pub emit_no : (r : Refusal) → d ≡ Refused r → Does s (emit_rule (env_of s T env) (name_at s S i) (list es)) T (Refused r) U
+      pub emit_no : (r : Refusal) → d ≡ Err r → Does s (emit_rule (env_of s T env) (name_at s S i) (list es)) T (Err r) U
       unfolding emit_rule
       emit_no r e = does_cut s all Emits T d U asks r e
 
-      module _ (e : d ≡ Fine) where
+      module _ (e : d ≡ Ok tt) where
         on_emit : Onward s S env T U
         on_emit = onward s S env T U _ tt h.ready (off_each h.ready.force.loaded (env_of s T env) emit_asks.row emit_asks.no_value) (did s _ T d U k.gives e)
 
         pub emit_on : EmitIn s S env U i
         emit_on = record { ready = on_emit.ready; within = h.within; kind = h.kind }
 
-        pub emit_ok : (r : Done) (W : Table) → Does s (check_emit_fields (env_of s U env) (name_at s S i) (list es)) U r W
+        pub emit_ok : (r : Result Unit Refusal) (W : Table) → Does s (check_emit_fields (env_of s U env) (name_at s S i) (list es)) U r W
             → Does s (emit_rule (env_of s T env) (name_at s S i) (list es)) T r W
         unfolding emit_rule
         emit_ok r W g = does_then s all Emits T d U asks e r W (rw (← on_emit.same) g)

@@ -8,6 +8,7 @@ use native.Mathlib.Numerals.{add-one}
 use native.Mathlib.Omega.{arith}
 use borrow.Author.Tests.{eq-eqb, ne_eqb}
 use lib.ListN.{get_or, take, get_elem?}
+use Rattle.std.specs.Prelude.{Result, Ok, Err}
 use Rattle.text.specs.Text.{bytes, ended}
 use Rattle.text.specs.Word.{index_in, split}
 use Rattle.grammar.specs.Grammar as grammar
@@ -29,14 +30,10 @@ use Rattle.lookups.specs.Lines.{ExprAt}
 use Rattle.refusals.specs.Refusal.{refusal_of, done_of}
 use Rattle.refusals.specs.declared.refusal.Refusal.{Refusal}
 use Rattle.refusals.specs.declared.refusal.Refusal.TheVariants.{Recipient}
-use Rattle.refusals.specs.declared.refusal.Done.{Done}
-use Rattle.refusals.specs.declared.refusal.Done.TheVariants.{Fine, Refused}
 use Rattle.refusals.proofs.Answers.{fits, misfits}
 use Rattle.lookups.proofs.Tables.{words_in, place_most, pick_place}
 use Rattle.env.specs.Force.{env_of}
 use Rattle.env.specs.declared.env.Env.{Env}
-use Rattle.env.specs.declared.judge.Typed.{Typed}
-use Rattle.env.specs.declared.judge.Typed.TheVariants.{Is, Refused as No}
 use Rattle.typing.specs.Asks.{Asks, NoValue, AsksAll, Types, Does}
 use Rattle.typing.proofs.Calls.{did}
 use Rattle.typing.proofs.Doing.{typed_then, not_typed, does_then, does_cut}
@@ -80,20 +77,20 @@ module _ (s S : List ℕ) (callee : ℕ) (h : ExprAt s S callee) (k : ℕ) (ek :
 -- ------------------------------------------------------------ one recipient
 
 module _ (arg c : ℕ) where
-  pub recipient_wrong : c ≡ codes.name → JudgesRecipient arg c (Refused (Recipient arg))
+  pub recipient_wrong : c ≡ codes.name → JudgesRecipient arg c (Err (Recipient arg))
   unfolding eq_ty code done_of refusal_of
   recipient_wrong e = record { judged = λ s t k. misfits _ 29 _ _ (rw (← k, eq-eqb c codes.name e) refl) }
 
-  pub recipient_fine : c ≢ codes.name → JudgesRecipient arg c Fine
+  pub recipient_fine : c ≢ codes.name → JudgesRecipient arg c (Ok tt)
   unfolding eq_ty code done_of
   recipient_fine e = record { judged = λ s t k. fits _ 29 _ _ (rw (← k, ne_eqb c codes.name e) refl) }
 
-module _ (s S : List ℕ) (env : Env) (T : Table) (arg : ℕ) (a : Typed) (U : Table) (k : Types s (ty_of (env_of s T env) (expr_at s arg)) T a U) where
-  pub recipient_no : (r : Refusal) → a ≡ No r → Does s (recipient_rule (env_of s T env) (expr_at s arg)) T (Refused r) U
+module _ (s S : List ℕ) (env : Env) (T : Table) (arg : ℕ) (a : Result ℕ Refusal) (U : Table) (k : Types s (ty_of (env_of s T env) (expr_at s arg)) T a U) where
+  pub recipient_no : (r : Refusal) → a ≡ Err r → Does s (recipient_rule (env_of s T env) (expr_at s arg)) T (Err r) U
   unfolding recipient_rule
   recipient_no r e = not_typed s (ty_of (env_of s T env) (expr_at s arg)) _ T a U k r e
 
-  pub recipient_ok : (c : ℕ) (r : Done) → a ≡ Is c → JudgesRecipient arg c r → Does s (recipient_rule (env_of s T env) (expr_at s arg)) T r U
+  pub recipient_ok : (c : ℕ) (r : Result Unit Refusal) → a ≡ Ok c → JudgesRecipient arg c r → Does s (recipient_rule (env_of s T env) (expr_at s arg)) T r U
   unfolding recipient_rule
   recipient_ok c r e j =
       typed_then s (ty_of (env_of s T env) (expr_at s arg)) _ T a U k c r e (j.judged s (ty_from c) (gave_code s _ T a U k c e))
@@ -104,7 +101,7 @@ module _ (s S : List ℕ) (env : Env) (T : Table) (left at : ℕ) (h : AsksAll s
   abbrev All : Rule Unit
   All = recipients_rule (env_of s T env) (list (exprs_at s left at))
 
-  pub all_none : left ≡ 0 → Does s All T Fine T
+  pub all_none : left ≡ 0 → Does s All T (Ok tt) T
   unfolding recipients_rule exprs_at take_nodes exprs_of list for_each done_of kept
   all_none e = record { gives = rw e refl }
 
@@ -125,11 +122,11 @@ module _ (s S : List ℕ) (env : Env) (T : Table) (left at : ℕ) (h : AsksAll s
     unfolding recipients_rule for_each list
     opened = rw (exprs_some h.ready.force.loaded (omega arith) h.row) refl
 
-    module _ (d : Done) (U : Table) (k : Does s first T d U) where
-      pub all_no : (r : Refusal) → d ≡ Refused r → Does s All T (Refused r) U
+    module _ (d : Result Unit Refusal) (U : Table) (k : Does s first T d U) where
+      pub all_no : (r : Refusal) → d ≡ Err r → Does s All T (Err r) U
       all_no r e = record { gives = opened ∙ (does_cut s first rest T d U k r e).gives }
 
-      module _ (e : d ≡ Fine) (m : ℕ) (q : m ≡ end_at S at) where
+      module _ (e : d ≡ Ok tt) (m : ℕ) (q : m ≡ end_at S at) where
         on : Onward s S env T U
         unfolding recipient_rule
         on = onward s S env T U first tt h.ready (off_judged h.ready.force.loaded (env_of s T env) (row_first row) h.no_value _ _ _ _) (did s first T d U k.gives e)
@@ -137,7 +134,7 @@ module _ (s S : List ℕ) (env : Env) (T : Table) (left at : ℕ) (h : AsksAll s
         pub all_rest : AsksAll s S env U (left - 1) m
         all_rest = record { ready = on.ready; row = rw q (row_rest row); no_value = rw q (no_value_next h.ready.force.loaded (row_first row)) }
 
-        pub all_ok : (r : Done) (W : Table) → Does s (recipients_rule (env_of s U env) (list (exprs_at s (left - 1) m))) U r W → Does s All T r W
+        pub all_ok : (r : Result Unit Refusal) (W : Table) → Does s (recipients_rule (env_of s U env) (list (exprs_at s (left - 1) m))) U r W → Does s All T r W
         all_ok r W g = record { gives = opened ∙ (does_then s first rest T d U k e r W (rw (← on.same, ← q) g)).gives }
 
 -- ------------------------------------------------------------ refuse_name_recipient
@@ -173,7 +170,7 @@ module _ (s S : List ℕ) (env : Env) (T : Table) (i : ℕ) (h : Asks s S env T 
   abbrev Refuses : Rule Unit
   Refuses = refuse_name_recipient (env_of s T env) (expr_at s i)
 
-  pub no_call : k ≢ kinds.call → Does s Refuses T Fine T
+  pub no_call : k ≢ kinds.call → Does s Refuses T (Ok tt) T
   unfolding refuse_name_recipient if_some done_of kept
   no_call n = record { gives = rw (is-call_at h.ready.force.loaded h.here, ← ek, ne_eqb k kinds.call n) refl }
 
@@ -200,11 +197,11 @@ module _ (s S : List ℕ) (env : Env) (T : Table) (i : ℕ) (h : Asks s S env T 
       pub few_asks : m < due → AsksAll s S env T m at
       few_asks l = record { ready = h.ready; row = args; no_value = args_no_value }
 
-      pub few_done : (d : Done) (U : Table) → m < due → Does s (recipients_rule (env_of s T env) (list (exprs_at s m at))) T d U → Does s Refuses T d U
+      pub few_done : (d : Result Unit Refusal) (U : Table) → m < due → Does s (recipients_rule (env_of s T env) (list (exprs_at s m at))) T d U → Does s Refuses T d U
       few_done d U l g = record { gives = opened' ∙ rw (take_all due h.ready.force.loaded args (omega arith)) g.gives }
 
       pub due_asks : due ≤ m → AsksAll s S env T due at
       due_asks l = record { ready = h.ready; row = row_take due l args; no_value = args_no_value }
 
-      pub due_done : (d : Done) (U : Table) → due ≤ m → Does s (recipients_rule (env_of s T env) (list (exprs_at s due at))) T d U → Does s Refuses T d U
+      pub due_done : (d : Result Unit Refusal) (U : Table) → due ≤ m → Does s (recipients_rule (env_of s T env) (list (exprs_at s due at))) T d U → Does s Refuses T d U
       due_done d U l g = record { gives = opened' ∙ rw (take-list due h.ready.force.loaded args l) g.gives }

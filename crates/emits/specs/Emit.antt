@@ -1,5 +1,5 @@
 -- What the checks of an `emit` ask and promise.
-use Rattle.std.specs.Prelude.{ℕ, ◌<◌, Bool, not, ◌≡◌}
+use Rattle.std.specs.Prelude.{ℕ, ◌<◌, Bool, not, ◌≡◌, Result}
 use mathlib.Core.List.{List, [], zip}
 use Rattle.grammar.specs.Grammar as grammar
 use Rattle.sheet.specs.Scratch.{kind_at, line_count}
@@ -12,11 +12,11 @@ use Rattle.rules.specs.Statements.{emit_mismatch, emit_text, check_emit_field, c
 use Rattle.rules.specs.Standing.{expr_at, param_at, Here, Row}
 use Rattle.refusals.specs.Answers.{Answers}
 use Rattle.refusals.specs.Refusal.{done_of}
-use Rattle.refusals.specs.declared.refusal.Done.{Done}
 use Rattle.env.specs.Force.{env_of, Ready}
 use Rattle.env.specs.declared.env.Env.{Env as CodeEnv}
 use Rattle.typing.specs.Asks.{NoValue}
 use Rattle.grammar.specs.Kinds as kinds
+use Rattle.refusals.specs.declared.refusal.Refusal.{Refusal}
 
 -- the `emit` clause of `check_body`, without the rest of the body
 unfoldable pub emit_rule : Env → Name → List Expr → Rule Unit
@@ -53,6 +53,6 @@ pub record FieldsIn (s S : List ℕ) (env : CodeEnv) (T : Table) (arg args param
 pub record Mismatches (c d : ℕ) (b r : Bool) : Type 0 where
   pub tests : (Γ : Env) (arg : Expr) (want got : Ty) → b ≡ is_name_param Γ arg → c ≡ code want → d ≡ code got → r ≡ emit_mismatch Γ arg want got
 
-pub record JudgesField (s : List ℕ) (env : CodeEnv) (arg param c d : ℕ) (r : Done) : Type 0 where
+pub record JudgesField (s : List ℕ) (env : CodeEnv) (arg param c d : ℕ) (r : Result Unit Refusal) : Type 0 where
   pub judged : (want got : Ty) → c ≡ code want → d ≡ code got
       → Answers (expect (not (emit_mismatch (env_of s [] env) (expr_at s arg) want got)) 43 (span (expr_at s arg)) (emit_text (param_at s param) got)) (done_of s r)

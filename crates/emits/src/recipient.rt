@@ -7,23 +7,23 @@ ghost use Rattle.env.specs.Force.{env_of};
 ghost use Rattle.typing.specs.Asks.{Asks, AsksAll, Does};
 ghost use Rattle.emits.specs.Recipient.{JudgesRecipient, recipient_rule, recipients_rule, Recipients};
 
-use env::{Env, Typed};
+use env::Env;
 use grammar::kinds;
-use refusals::{Done, Refusal};
+use refusals::Refusal;
 use rules::codes;
-use sheet::{call_arg_count, end, kind, name};
+use sheet::{LoadedSheet, call_arg_count};
 use text::index_in;
 use typing::ty_of;
 
 // How many arguments, from the first on, of a call with the callee at this line are recipients.
-fn recipients(sheet: &[u8], lines: &[u16], callee: usize) -> usize
-    requires { ExprAt sheet.now lines.now callee }
-    ensures { Recipients sheet.now callee result }
+fn recipients(sheet: &LoadedSheet<'_>, callee: usize) -> usize
+    requires { ExprAt sheet.now.bytes.now sheet.now.lines.now callee }
+    ensures { Recipients sheet.now.bytes.now callee result }
 {
-    if kind(lines, callee) != kinds::ID {
+    if sheet.kind(callee) != kinds::ID {
         return 0;
     }
-    let place = index_in(name(sheet, lines, callee), b"send mint_asset send_asset ");
+    let place = index_in(sheet.name(callee), b"send mint_asset send_asset ");
     if place < 2 {
         return 1;
     }
@@ -34,66 +34,65 @@ fn recipients(sheet: &[u8], lines: &[u16], callee: usize) -> usize
 }
 
 // Judges the recipient at line arg by its type.
-fn judge_recipient(arg: usize, ty: u8) -> Done
+fn judge_recipient(arg: usize, ty: u8) -> Result<(), Refusal>
     ensures { JudgesRecipient arg ty result }
 {
     if ty == codes::NAME {
-        Done::Refused(Refusal::Recipient(arg))
+        Err(Refusal::Recipient(arg))
     } else {
-        Done::Fine
+        Ok(())
     }
 }
 
 // The recipient at line arg.
-fn check_recipient(sheet: &[u8], lines: &[u16], env: Env, table: &mut [u8], arg: usize) -> Done
-    requires { Asks sheet.now lines.now env table.old arg }
-    ensures { Does sheet.now (recipient_rule (env_of sheet.now table.old env) (expr_at sheet.now arg)) table.old result table.new }
+fn check_recipient(
+    sheet: &LoadedSheet<'_>,
+    env: Env,
+    table: &mut [u8],
+    arg: usize,
+) -> Result<(), Refusal>
+    requires { Asks sheet.now.bytes.now sheet.now.lines.now env table.old arg }
+    ensures { Does sheet.now.bytes.now (recipient_rule (env_of sheet.now.bytes.now table.old env) (expr_at sheet.now.bytes.now arg)) table.old result table.new }
 {
-    match ty_of(sheet, lines, env, table, arg) {
-        Typed::Is(ty) => judge_recipient(arg, ty),
-        Typed::Refused(r) => Done::Refused(r),
-    }
+    let ty = ty_of(sheet, env, table, arg)?;
+    judge_recipient(arg, ty)
 }
 
 // `left` recipients, the first of which stands at line at.
 fn check_recipients(
-    sheet: &[u8],
-    lines: &[u16],
+    sheet: &LoadedSheet<'_>,
     env: Env,
     table: &mut [u8],
     at: usize,
     left: usize,
-) -> Done
-    requires { AsksAll sheet.now lines.now env table.old left at }
-    ensures { Does sheet.now (recipients_rule (env_of sheet.now table.old env) (list (exprs_at sheet.now left at))) table.old result table.new }
+) -> Result<(), Refusal>
+    requires { AsksAll sheet.now.bytes.now sheet.now.lines.now env table.old left at }
+    ensures { Does sheet.now.bytes.now (recipients_rule (env_of sheet.now.bytes.now table.old env) (list (exprs_at sheet.now.bytes.now left at))) table.old result table.new }
 {
     if left == 0 {
-        return Done::Fine;
+        return Ok(());
     }
-    match check_recipient(sheet, lines, env, table, at) {
-        Done::Fine => check_recipients(sheet, lines, env, table, end(lines, at), left - 1),
-        Done::Refused(r) => Done::Refused(r),
-    }
+    check_recipient(sheet, env, table, at)?;
+    check_recipients(sheet, env, table, sheet.end(at), left - 1)
 }
 
 // No recipient of the call at line i is a name. Any other expression has none.
 pub fn refuse_name_recipient(
-    sheet: &[u8],
-    lines: &[u16],
+    sheet: &LoadedSheet<'_>,
     env: Env,
     table: &mut [u8],
     i: usize,
-) -> Done
-    requires { Asks sheet.now lines.now env table.old i }
-    ensures { Does sheet.now (refuse_name_recipient (env_of sheet.now table.old env) (expr_at sheet.now i)) table.old result table.new }
+) -> Result<(), Refusal>
+    requires { Asks sheet.now.bytes.now sheet.now.lines.now env table.old i }
+    ensures { Does sheet.now.bytes.now (refuse_name_recipient (env_of sheet.now.bytes.now table.old env) (expr_at sheet.now.bytes.now i)) table.old result table.new }
 {
-    if kind(lines, i) != kinds::CALL {
-        return Done::Fine;
+    if sheet.kind(i) != kinds::CALL {
+        return Ok(());
     }
-    let args = call_arg_count(lines, i);
-    let due = recipients(sheet, lines, i + 1);
+    let args = call_arg_count(sheet.lines, i);
+    let due = recipients(sheet, i + 1);
     if args < due {
-        return check_recipients(sheet, lines, env, table, end(lines, i + 1), args);
+        return check_recipients(sheet, env, table, sheet.end(i + 1), args);
     }
-    check_recipients(sheet, lines, env, table, end(lines, i + 1), due)
+    check_recipients(sheet, env, table, sheet.end(i + 1), due)
 }

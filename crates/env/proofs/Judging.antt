@@ -9,6 +9,7 @@ use native.Mathlib.Omega.{arith}
 use lib.Dec.{eqb}
 use lib.ListN.{get_or}
 use borrow.Author.Tests.{eq-eqb, ne_eqb, not-true, not-false}
+use Rattle.std.specs.Prelude.{Result, Ok, Err}
 use Rattle.rules.specs.Text.{lit}
 use Rattle.rules.specs.Ast.{UnaryOp, Not as NotOp, Neg as NegOp, unary_ops, Add, Sub, Mul, Div, Rem, Shr, bin_ops, Expr, span}
 use Rattle.rules.specs.Asking.{Ty, Int, Boolean, Address, TName, Unknown, code, Res, Rule, ret, ◌>>◌, expect}
@@ -22,14 +23,11 @@ use Rattle.refusals.specs.Answers.{Answers}
 use Rattle.refusals.specs.Refusal.{refusal_of, done_of}
 use Rattle.refusals.specs.declared.refusal.Refusal.{Refusal}
 use Rattle.refusals.specs.declared.refusal.Refusal.TheVariants.{Not, Neg, Logical, Arithmetic, Ordering, NamesCompared, Compared, Amount, NameNotParam, NameWanted, Holds}
-use Rattle.refusals.specs.declared.refusal.Done.TheVariants.{Fine, Refused as Wrong}
 use Rattle.refusals.proofs.Answers.{gives, fits, misfits, passes, refuses}
 use Rattle.lookups.proofs.Codes.{same_code}
 use Rattle.env.specs.Answers.{typed_of, both_of, Judged, Judged2, JudgedIn, JudgesAmount, JudgesKey}
 use Rattle.env.specs.Force.{env_of}
 use Rattle.env.specs.declared.env.Env.{Env}
-use Rattle.env.specs.declared.judge.Typed.{Typed}
-use Rattle.env.specs.declared.judge.Typed.TheVariants.{Is, Refused}
 use Rattle.rules.specs.Codes as codes
 use Rattle.grammar.specs.Operators as ops
 
@@ -48,7 +46,7 @@ module _ {f : Ty → Bool} {why : ℕ → Refusal} (w : Wants f why) (b : Bool) 
   operand_fine : (r : Res Ty) → b ≡ true → Answers q r → Answers (want w t (expr_at s i) >> q) r
   operand_fine r e a = passes (f t) w.number (span (expr_at s i)) (lit w.text ∷ []) q r (sym h ∙ e) a
 
-  operand_wrong : b ≡ false → Answers (want w t (expr_at s i) >> q) (typed_of s (Refused (why i)))
+  operand_wrong : b ≡ false → Answers (want w t (expr_at s i) >> q) (typed_of s (Err (why i)))
   unfolding typed_of
   operand_wrong e = rw (w.told s i) (refuses (f t) w.number (span (expr_at s i)) (lit w.text ∷ []) q (sym h ∙ e))
 
@@ -65,7 +63,7 @@ pub record Binary (rule : (left right : Expr) (l r : Ty) → Rule Ty) (f : Ty �
   pub code : IsCode n
 
 module _ {op : UnaryOp} {f : Ty → Bool} {why : ℕ → Refusal} {n : ℕ} (u : Unary op f why n) (o i c : ℕ) (b : Bool) (q : get_or unary_ops o NegOp ≡ op) (h : b ≡ f (ty_from c)) where
-  pub unary_fine : b ≡ true → Judged (λ s. judge_unary (get_or unary_ops o NegOp) (expr_at s i)) c (Is n)
+  pub unary_fine : b ≡ true → Judged (λ s. judge_unary (get_or unary_ops o NegOp) (expr_at s i)) c (Ok n)
   unfolding typed_of
   unary_fine e =
       record {
@@ -73,7 +71,7 @@ module _ {op : UnaryOp} {f : Ty → Bool} {why : ℕ → Refusal} {n : ℕ} (u :
         valid = u.code;
       }
 
-  pub unary_wrong : b ≡ false → Judged (λ s. judge_unary (get_or unary_ops o NegOp) (expr_at s i)) c (Refused (why i))
+  pub unary_wrong : b ≡ false → Judged (λ s. judge_unary (get_or unary_ops o NegOp) (expr_at s i)) c (Err (why i))
   unary_wrong e =
       record { judged = λ s. rw (q, u.is (expr_at s i) (ty_from c)) (operand_wrong u.wants b (ty_from c) h s i (ret (ty_from n)) e); valid = tt }
 
@@ -100,7 +98,7 @@ module _ {rule : (left right : Expr) (l r : Ty) → Rule Ty} {f : Ty → Bool} {
         valid = o.code;
       }
 
-  pub both_judged : (b x : Bool) (a : Typed) → b ≡ f (ty_from c) → x ≡ f (ty_from d) → a ≡ both_of b x (why i) (why j) n
+  pub both_judged : (b x : Bool) (a : Result ℕ Refusal) → b ≡ f (ty_from c) → x ≡ f (ty_from d) → a ≡ both_of b x (why i) (why j) n
       → Judged2 (λ s. rule (expr_at s i) (expr_at s j)) c d a
   both_judged b x a h y e = rw e (by_tests b x h y)
 
@@ -158,7 +156,7 @@ module _ (s : List ℕ) (i j c d : ℕ) where
   named : (x : Bool) → (eqb c codes.name || eqb d codes.name) ≡ x → not (eq_ty (ty_from c) TName || eq_ty (ty_from d) TName) ≡ not x
   named x e = rw (is_name_lem c, is_name_lem d, e) refl
 
-  pub names_wrong : (eqb c codes.name || eqb d codes.name) ≡ true → JudgedIn s (equality (expr_at s i) (expr_at s j)) c d (Refused (NamesCompared i))
+  pub names_wrong : (eqb c codes.name || eqb d codes.name) ≡ true → JudgedIn s (equality (expr_at s i) (expr_at s j)) c d (Err (NamesCompared i))
   unfolding equality typed_of refusal_of
   names_wrong e = record { judged = refuses _ 41 (span (expr_at s i)) names_compared_text _ (named true e); valid = tt }
 
@@ -169,7 +167,7 @@ module _ (s : List ℕ) (i j c d : ℕ) where
         ≡ (b || x || y)
     comparable = rw (h, p, q, is_address c, is_address d) refl
 
-    pub compared_fine : (b || x || y) ≡ true → JudgedIn s (equality (expr_at s i) (expr_at s j)) c d (Is codes.boolean)
+    pub compared_fine : (b || x || y) ≡ true → JudgedIn s (equality (expr_at s i) (expr_at s j)) c d (Ok codes.boolean)
     unfolding equality typed_of ty_from ty_of_mark
     compared_fine e =
         record {
@@ -179,7 +177,7 @@ module _ (s : List ℕ) (i j c d : ℕ) where
           valid = (omega arith, omega arith);
         }
 
-    pub compared_wrong : (b || x || y) ≡ false → JudgedIn s (equality (expr_at s i) (expr_at s j)) c d (Refused (Compared j c d))
+    pub compared_wrong : (b || x || y) ≡ false → JudgedIn s (equality (expr_at s i) (expr_at s j)) c d (Err (Compared j c d))
     unfolding equality typed_of refusal_of
     compared_wrong e =
         record {
@@ -192,7 +190,7 @@ module _ (s : List ℕ) (i j c d : ℕ) where
 -- ------------------------------------------------------------ binary operators
 
 -- what is judged on every sheet is judged on this one
-pub in_sheet : {f : List ℕ → Ty → Ty → Rule Ty} {c d : ℕ} {r : Typed} (s : List ℕ) → Judged2 f c d r → JudgedIn s (f s) c d r
+pub in_sheet : {f : List ℕ → Ty → Ty → Rule Ty} {c d : ℕ} {r : Result ℕ Refusal} (s : List ℕ) → Judged2 f c d r → JudgedIn s (f s) c d r
 in_sheet s h = record { judged = h.judged s; valid = h.valid }
 
 all_get : {A : Type 0} (P : A → Type 0) (xs : List A) (a : A) → All P xs → P a → (k : ℕ) → P (get_or xs k a)
@@ -200,7 +198,7 @@ all_get P [] a h p k = p
 all_get P (x ∷ xs) a h p zero = h.0
 all_get P (x ∷ xs) a h p (suc k) = all_get P xs a h.1 p k
 
-module _ (s : List ℕ) (a b : Expr) (c d : ℕ) (r : Typed) (o : ℕ) where
+module _ (s : List ℕ) (a b : Expr) (c d : ℕ) (r : Result ℕ Refusal) (o : ℕ) where
   abbrev ByOp : ℕ → Type 0
   ByOp k = JudgedIn s (judge_binary (get_or bin_ops k Shr) a b) c d r
 
@@ -226,11 +224,11 @@ module _ (s : List ℕ) (a b : Expr) (c d : ℕ) (r : Typed) (o : ℕ) where
 
 -- the code t of the amount's type
 module _ (callee arg c t : ℕ) (k : t ≡ code (ty_from c)) where
-  pub amount_fine : (eqb t codes.int || (eqb t codes.asset || eqb t codes.unknown)) ≡ true → JudgesAmount callee arg c Fine
+  pub amount_fine : (eqb t codes.int || (eqb t codes.asset || eqb t codes.unknown)) ≡ true → JudgesAmount callee arg c (Ok tt)
   unfolding is_ty eq_ty code done_of
   amount_fine e = record { judged = λ s. fits _ 32 _ _ (rw (← k, or-false) e) }
 
-  pub amount_wrong : (eqb t codes.int || (eqb t codes.asset || eqb t codes.unknown)) ≡ false → JudgesAmount callee arg c (Wrong (Amount callee arg))
+  pub amount_wrong : (eqb t codes.int || (eqb t codes.asset || eqb t codes.unknown)) ≡ false → JudgesAmount callee arg c (Err (Amount callee arg))
   unfolding is_ty eq_ty code done_of refusal_of
   amount_wrong e = record { judged = λ s. misfits _ 32 _ _ (rw (← k, or-false) e) }
 
@@ -252,7 +250,7 @@ module _ (s : List ℕ) (env : Env) (field : ℕ) (key : Bool) (arg c d : ℕ) (
   is_straight : (x : Bool) → b ≡ x → (not (eq_ty (ty_from d) TName) || is_name_param (env_of s [] env) (expr_at s arg)) ≡ x
   is_straight x e = rw (is_name_lem d) (sym p ∙ e)
 
-  pub straight_wrong : not b ≡ true → JudgesKey s env field key arg c d (Wrong (NameNotParam field arg))
+  pub straight_wrong : not b ≡ true → JudgesKey s env field key arg c d (Err (NameNotParam field arg))
   unfolding judge_key done_of refusal_of
   straight_wrong e = record { judged = refuses _ 33 _ _ _ (is_straight false (not-true b e)) }
 
@@ -260,7 +258,7 @@ module _ (s : List ℕ) (env : Env) (field : ℕ) (key : Bool) (arg c d : ℕ) (
     is_named : (not (eq_ty (ty_from c) TName) || eq_ty (ty_from d) TName) ≡ not (eqb c codes.name && not (eqb d codes.name))
     is_named = rw (is_name_lem c, is_name_lem d) (implies (eqb c codes.name) (eqb d codes.name))
 
-    pub name_wrong : (eqb c codes.name && not (eqb d codes.name)) ≡ true → JudgesKey s env field key arg c d (Wrong (NameWanted field arg))
+    pub name_wrong : (eqb c codes.name && not (eqb d codes.name)) ≡ true → JudgesKey s env field key arg c d (Err (NameWanted field arg))
     unfolding judge_key done_of refusal_of
     name_wrong e = record { judged = passes _ 33 _ _ _ _ (is_straight true (not-false b n)) (refuses _ 34 _ _ _ (is_named ∙ rw e refl)) }
 
@@ -268,7 +266,7 @@ module _ (s : List ℕ) (env : Env) (field : ℕ) (key : Bool) (arg c d : ℕ) (
       holds : ((key && eq_ty (ty_from d) TName) || compatible (ty_from c) (ty_from d)) ≡ ((key && eqb d codes.name) || x)
       holds = rw (h, is_name_lem d) refl
 
-      pub key_fine : ((key && eqb d codes.name) || x) ≡ true → JudgesKey s env field key arg c d Fine
+      pub key_fine : ((key && eqb d codes.name) || x) ≡ true → JudgesKey s env field key arg c d (Ok tt)
       unfolding judge_key done_of
       key_fine e =
           record {
@@ -277,7 +275,7 @@ module _ (s : List ℕ) (env : Env) (field : ℕ) (key : Bool) (arg c d : ℕ) (
                 (passes _ 34 _ _ _ _ (is_named ∙ rw m refl) (fits _ 35 _ _ (holds ∙ e)));
           }
 
-      pub key_wrong : ((key && eqb d codes.name) || x) ≡ false → JudgesKey s env field key arg c d (Wrong (Holds field arg c d))
+      pub key_wrong : ((key && eqb d codes.name) || x) ≡ false → JudgesKey s env field key arg c d (Err (Holds field arg c d))
       unfolding judge_key done_of refusal_of
       key_wrong e =
           record {

@@ -2,9 +2,9 @@
 use mathlib.Core.Logic.{◌≢◌}
 use mathlib.Core.Path.{◌≡◌, refl, sym, ap, ◌∙◌}
 use mathlib.Core.List.{List, [], ◌∷◌, map, map-map}
-use mathlib.Core.Bool.{Bool, true, false, ◌||◌}
+use mathlib.Core.Bool.{Bool, true, false, true≢false, ◌||◌}
 use mathlib.Core.Option
-use mathlib.Core.Option.{Option, none, some}
+use mathlib.Core.Option.{Option as Maybe, none, some}
 use Prim.Native.String.{String}
 use Prim.Native.Nat.{ℕ, suc, ◌+◌, ◌<◌}
 use native.Mathlib.Numerals.{add-one}
@@ -13,7 +13,10 @@ use mir.Syntax.{w64}
 use mir.Val.{Fits}
 use lib.Dec.{eqb}
 use lib.ListN.{length, get_or}
-use borrow.Author.Tests.{eq-eqb, ne_eqb, eqb-false}
+use borrow.Author.Tests.{eq-eqb, ne_eqb}
+use Rattle.std.specs.Bool.{then_some}
+use Rattle.std.specs.Option.{option_eq}
+use Rattle.std.specs.Prelude.{Option, Some, None, is_some}
 use Rattle.text.specs.Text.{bytes, same}
 use Rattle.grammar.specs.Grammar as grammar
 use Rattle.sheet.specs.Load.{sorts, copies}
@@ -28,17 +31,14 @@ use Rattle.rules.specs.Check.{param_types}
 use Rattle.rules.specs.Typing as typing
 use Rattle.rules.specs.Typing.{ident_of, ty_of_ident, is_name_param, keyed_field, is_pool}
 use Rattle.rules.specs.Standing.{node_name, nodes_at, expr_at, type_at, field_at, param_at, Loaded}
-use Rattle.rules.proofs.Keeps.{code-marks}
 use Rattle.rules.proofs.Exprs.{ident_at}
 use Rattle.rules.proofs.Parts.{parts}
 use Rattle.rules.proofs.Standing.{Stands, stands, row_behind, row_first}
 use Rattle.lookups.specs.Found.{of_kind, found_node, found_field, FoundKind, Last, FieldNamed}
-use Rattle.lookups.specs.declared.model.Found.{Found}
-use Rattle.lookups.specs.declared.model.Found.TheVariants.{At, Nothing}
 use Rattle.lookups.proofs.Fields.{last_map, all_kind, param-name}
 use Rattle.lookups.proofs.Types.{type_name_lem}
 pub use Rattle.lookups.proofs.Behind.{TypeBehind, behind, found_typed, found_next}
-use Rattle.env.specs.Force.{params_in, local_of, lets, env_of, mark_of, InForce, ExprIn, Ready, field_ty, field_node, keyed_node, FieldFound, KeyedFound}
+use Rattle.env.specs.Force.{params_in, local_of, lets, env_of, code_found, InForce, ExprIn, Ready, field_ty, field_node, keyed_node, FieldFound, KeyedFound}
 use Rattle.env.specs.declared.env.Env.{Env}
 use Rattle.grammar.specs.Kinds as kinds
 use Rattle.rules.specs.Codes as codes
@@ -50,7 +50,7 @@ get-map : {A B : Type 0} (g : A → Name × B) (f : A → Name) (x : Name) → (
 unfolding get
 get-map {A} {B} g f x e as' = rw (get, last_map g (λ p. p.0) f x e as') (by_cases (last_named f x as'))
   where
-    by_cases : (o : Option A) → elim (Option.map g o) as (λ _. Option B) [ none ↦ none | some p ↦ some p.1 ] ≡ Option.map (λ a. (g a).1) o
+    by_cases : (o : Maybe A) → elim (Option.map g o) as (λ _. Maybe B) [ none ↦ none | some p ↦ some p.1 ] ≡ Option.map (λ a. (g a).1) o
     by_cases none = refl
     by_cases (some a) = refl
 
@@ -63,43 +63,43 @@ params-list : (s : List ℕ) (env : Env) → params_in s env ≡ map param_ty (n
 unfolding params_in param_types
 params-list s env = map-map (λ p. (p.name, ty_of_decl p.ty)) param_of (nodes_at s env.count env.params)
 
-module _ (s S : List ℕ) (env : Env) (x : Name) (h : InForce s S env) (r : Found) (l : Last s S kinds.param x env.count env.params r) where
+module _ (s S : List ℕ) (env : Env) (x : Name) (h : InForce s S env) (r : Option ℕ) (l : Last s S kinds.param x env.count env.params r) where
   param_got : get x (params_in s env) ≡ Option.map (λ t. (param_ty t).1) (found_node s r)
   param_got =
       let ns = nodes_at s env.count env.params in
       let all : of_kind kinds.param ns ≡ ns = all_kind kinds.param (λ i a. omega (arith, a.kind.0, a.kind.1)) h.loaded h.params in
       ap (get x) (params-list s env) ∙ get-map param_ty node_name x param-name ns ∙ rw (l.found, all) refl
 
-  pub param_there : (i v : ℕ) → r ≡ At i → v ≡ code (ty_of_decl (type_at s (i + 1))) → v ≡ mark_of (get x (params_in s env))
-  unfolding found_node mark_of param_at
+  pub param_there : (i v : ℕ) → r ≡ Some i → v ≡ code (ty_of_decl (type_at s (i + 1))) → Some v ≡ code_found (get x (params_in s env))
+  unfolding found_node code_found param_at
   param_there i v e q =
       let t = behind kinds.param s S h.loaded r i e l.kind (omega arith) (omega arith) in
-      q ∙ rw (param_got, e, t.param, add-one i) refl
+      rw (q, param_got, e, t.param, add-one i) refl
 
-  pub no_param : r ≡ Nothing → 0 ≡ mark_of (get x (params_in s env))
-  unfolding found_node mark_of
+  pub no_param : r ≡ None → None ≡ code_found (get x (params_in s env))
+  unfolding found_node code_found
   no_param e = rw (param_got, e) refl
 
-marked : (o : Option Ty) → mark_of o ≢ 0 → (t : Ty) × (o ≡ some t)
-unfolding mark_of
-marked none h = absurd (h refl)
-marked (some t) h = (t, refl)
+there : (o : Maybe Ty) → is_some (code_found o) ≡ true → (t : Ty) × (o ≡ some t)
+unfolding code_found
+there none e = absurd (true≢false (sym e))
+there (some t) e = (t, refl)
 
-unmarked : (o : Option Ty) → mark_of o ≡ 0 → o ≡ none
-unfolding mark_of
+unmarked : (o : Maybe Ty) → is_some (code_found o) ≡ false → o ≡ none
+unfolding code_found
 unmarked none e = refl
-unmarked (some t) e = absurd (eqb-false (code t) 0 (code-marks t).0 e)
+unmarked (some t) e = absurd (true≢false e)
 
 -- ------------------------------------------------------------ state fields
 
-module _ (s S : List ℕ) (x : Name) (d : Loaded s S) (r : Found) (n : FieldNamed s S x r) where
-  pub field_there : (i v : ℕ) → r ≡ At i → v ≡ code (ty_of_decl (type_at s (i + 1))) → v ≡ code (field_ty s x)
+module _ (s S : List ℕ) (x : Name) (d : Loaded s S) (r : Option ℕ) (n : FieldNamed s S x r) where
+  pub field_there : (i v : ℕ) → r ≡ Some i → v ≡ code (ty_of_decl (type_at s (i + 1))) → v ≡ code (field_ty s x)
   unfolding found_field field_ty
   field_there i v e q =
       let t = behind kinds.field s S d r i e n.kind (omega arith) (omega arith) in
       q ∙ rw (field_ty, ← n.found, e, t.field, add-one i) refl
 
-  module _ (b : Bool) (e : r ≡ Nothing) (w : b ≡ same x (bytes "deployer")) where
+  module _ (b : Bool) (e : r ≡ None) (w : b ≡ same x (bytes "deployer")) where
     pub deployer : b ≡ true → codes.address ≡ code (field_ty s x)
     unfolding found_field field_ty is code
     deployer q = rw (field_ty, ← n.found, e, ← w, q) refl
@@ -114,22 +114,26 @@ local_name : (T : Table) (t : Node) → (local_of T t).0 ≡ node_name t
 unfolding local_of node_name
 local_name T (node i l ps) = refl
 
-module _ (s S : List ℕ) (env : Env) (T : Table) (x : Name) (h : Ready s S env T) (ty : ℕ) (p : ty ≡ mark_of (get x (params_in s env))) where
-  pub by_param : ty ≢ 0 → ty ≡ code (ty_of_ident (env_of s T env) x)
-  unfolding ty_of_ident env_of mark_of
-  by_param n = let q = marked (get x (params_in s env)) (rw (← p) n) in p ∙ rw (ty_of_ident, q.1) refl
+module _ (s S : List ℕ) (env : Env) (T : Table) (x : Name) (h : Ready s S env T) (o : Option ℕ) (p : o ≡ code_found (get x (params_in s env))) where
+  pub by_param : (ty : ℕ) → o ≡ Some ty → ty ≡ code (ty_of_ident (env_of s T env) x)
+  unfolding ty_of_ident env_of code_found
+  by_param ty n = by_cases (get x (params_in s env)) refl (sym p ∙ n)
+    where
+      by_cases : (g : Maybe Ty) → get x (params_in s env) ≡ g → code_found g ≡ Some ty → ty ≡ code (ty_of_ident (env_of s T env) x)
+      by_cases none e f = absurd (let z : ◌≡◌ {A = ℕ} 0 1 = cc f in omega arith)
+      by_cases (some t) e f = (let q : ty ≡ code t = cc f in q) ∙ rw (ty_of_ident, e) refl
 
-  module _ (z : ty ≡ 0) (r : Found) (l : Last s S kinds.let' x env.bound env.body r) where
+  module _ (z : o ≡ None) (r : Option ℕ) (l : Last s S kinds.let' x env.bound env.body r) where
     no_such : get x (params_in s env) ≡ none
-    no_such = unmarked (get x (params_in s env)) (sym p ∙ z)
+    no_such = unmarked (get x (params_in s env)) (ap is_some (sym p ∙ z))
 
     local_got : get x (map (local_of T) (lets s env.bound env.body)) ≡ Option.map (λ t. (local_of T t).1) (found_node s r)
     unfolding lets
     local_got = get-map (local_of T) node_name x (local_name T) (lets s env.bound env.body) ∙ rw l.found refl
 
-    module _ (i : ℕ) (e : r ≡ At i) where
+    module _ (i : ℕ) (e : r ≡ Some i) where
       let_at : (i < line_count S) × (kind_at S i ≡ kinds.let')
-      let_at = let q : FoundKind S kinds.let' (At i) = rw e at l.kind in q
+      let_at = let q : FoundKind S kinds.let' (Some i) = rw e at l.kind in q
 
       let_line : Stands s S i
       let_line = stands h.force.loaded i let_at.0
@@ -150,7 +154,7 @@ module _ (s S : List ℕ) (env : Env) (T : Table) (x : Name) (h : Ready s S env 
           let g : get x (map (local_of T) (lets s env.bound env.body)) ≡ some (ty_from (get_or T (suc i) 0)) = local_got ∙ rw (e, let_line.here) refl in
           k ∙ rw (f, add-one i, ty_of_ident, no_such, g) refl
 
-    pub by_field : (v : ℕ) → r ≡ Nothing → v ≡ code (field_ty s x) → v ≡ code (ty_of_ident (env_of s T env) x)
+    pub by_field : (v : ℕ) → r ≡ None → v ≡ code (field_ty s x) → v ≡ code (ty_of_ident (env_of s T env) x)
     unfolding ty_of_ident env_of found_node field_ty
     by_field v e f =
         let g : get x (map (local_of T) (lets s env.bound env.body)) ≡ none = local_got ∙ rw e refl in
@@ -166,33 +170,33 @@ module _ (s S : List ℕ) (env : Env) (i : ℕ) (h : ExprIn s S env i) (k : ℕ)
   unfolding is_name_param
   no_name n = rw (is_name_param, no_ident n) refl
 
-  pub no_state : k ≢ kinds.id → FieldFound s S env i Nothing
+  pub no_state : k ≢ kinds.id → FieldFound s S env i None
   unfolding typing.state_field_of field_node found_field found_node
   no_state n = record { found = rw (typing.state_field_of, no_ident n) refl; node = rw (field_node, no_ident n) refl; kind = tt }
 
-  module _ (q : k ≡ kinds.id) (x : Name) (n : x ≡ name_at s S i) (ty : ℕ) (p : ty ≡ mark_of (get x (params_in s env))) where
+  module _ (q : k ≡ kinds.id) (x : Name) (n : x ≡ name_at s S i) (o : Option ℕ) (p : o ≡ code_found (get x (params_in s env))) where
     the_ident : ident_of (expr_at s i) ≡ some x
     the_ident = ident_at h.force.loaded h.here ∙ rw (← e, eq-eqb k kinds.id q, n) refl
 
-    pub name-param : eqb ty codes.name ≡ is_name_param (env_of s [] env) (expr_at s i)
-    unfolding is_name_param env_of mark_of eq_ty code
-    name-param = rw (is_name_param, the_ident, p) (by_cases (get x (params_in s env)))
+    pub name-param : (b : Bool) → b ≡ option_eq eqb o (Some codes.name) → b ≡ is_name_param (env_of s [] env) (expr_at s i)
+    unfolding is_name_param env_of code_found eq_ty code
+    name-param b f = f ∙ rw (is_name_param, the_ident, p) (by_cases (get x (params_in s env)))
       where
-        by_cases : (o : Option Ty) → eqb (mark_of o) codes.name ≡ elim o [ none ↦ false | some t ↦ eq_ty t TName ]
+        by_cases : (o : Maybe Ty) → option_eq eqb (code_found o) (Some codes.name) ≡ elim o [ none ↦ false | some t ↦ eq_ty t TName ]
         by_cases none = refl
         by_cases (some t) = refl
 
-    pub hidden : ty ≢ 0 → FieldFound s S env i Nothing
+    pub hidden : is_some o ≡ true → FieldFound s S env i None
     unfolding typing.state_field_of field_node env_of found_field found_node
     hidden z =
-        let o = marked (get x (params_in s env)) (rw (← p) z) in
-        record { found = rw (typing.state_field_of, the_ident, o.1) refl; node = rw (field_node, the_ident, o.1) refl; kind = tt }
+        let g = there (get x (params_in s env)) (rw (← p) z) in
+        record { found = rw (typing.state_field_of, the_ident, g.1) refl; node = rw (field_node, the_ident, g.1) refl; kind = tt }
 
-    pub field_found : (r : Found) → ty ≡ 0 → FieldNamed s S x r → FieldFound s S env i r
+    pub field_found : (r : Option ℕ) → is_some o ≡ false → FieldNamed s S x r → FieldFound s S env i r
     unfolding typing.state_field_of field_node env_of
     field_found r z f =
-        let o = unmarked (get x (params_in s env)) (sym p ∙ z) in
-        record { found = f.found ∙ rw (typing.state_field_of, the_ident, o) refl; node = f.node ∙ rw (field_node, the_ident, o) refl; kind = f.kind }
+        let g = unmarked (get x (params_in s env)) (rw (← p) z) in
+        record { found = f.found ∙ rw (typing.state_field_of, the_ident, g) refl; node = f.node ∙ rw (field_node, the_ident, g) refl; kind = f.kind }
 
 -- ------------------------------------------------------------ fields by their type
 
@@ -206,16 +210,16 @@ either_word x v w = by_cases (is x v) (is x w)
     by_cases false true = refl
     by_cases false false = refl
 
-module _ (s S : List ℕ) (env : Env) (i : ℕ) (h : ExprIn s S env i) (r : Found) (f : FieldFound s S env i r) where
-  pub nothing_keyed : r ≡ Nothing → KeyedFound s S env i Nothing
+module _ (s S : List ℕ) (env : Env) (i : ℕ) (h : ExprIn s S env i) (r : Option ℕ) (f : FieldFound s S env i r) where
+  pub nothing_keyed : r ≡ None → KeyedFound s S env i None
   unfolding keyed_field keyed_node found_field found_node
   nothing_keyed e = record { found = rw (keyed_field, ← f.found, e) refl; node = rw (keyed_node, ← f.node, e) refl; kind = tt }
 
-  pub no_pool : r ≡ Nothing → false ≡ is_pool (env_of s [] env) (expr_at s i)
+  pub no_pool : r ≡ None → false ≡ is_pool (env_of s [] env) (expr_at s i)
   unfolding is_pool found_field
   no_pool e = rw (is_pool, ← f.found, e) refl
 
-  module _ (j : ℕ) (e : r ≡ At j) (y : Name) (n : y ≡ name_at s S (j + 1)) where
+  module _ (j : ℕ) (e : r ≡ Some j) (y : Name) (n : y ≡ name_at s S (j + 1)) where
     the_type : type_name (field_at s j).ty ≡ y
     the_type =
         let t = behind kinds.field s S h.force.loaded r j e f.kind (omega arith) (omega arith) in
@@ -230,11 +234,11 @@ module _ (s S : List ℕ) (env : Env) (i : ℕ) (h : ExprIn s S env i) (r : Foun
       unfolding is
       which = rw (the_type, either_word y "Map" "Registry", v, w) refl
 
-      pub keyed : (b || c) ≡ true → KeyedFound s S env i (At j)
+      pub keyed : (o : Option ℕ) → o ≡ then_some (b || c) j → KeyedFound s S env i o
       unfolding keyed_field keyed_node found_field found_node field_at
-      keyed q =
-          record { found = rw (keyed_field, ← f.found, e, which, q) refl; node = rw (keyed_node, ← f.node, e, which, q) refl; kind = rw e at f.kind }
-
-      pub unkeyed : (b || c) ≡ false → KeyedFound s S env i Nothing
-      unfolding keyed_field keyed_node found_field found_node field_at
-      unkeyed q = record { found = rw (keyed_field, ← f.found, e, which, q) refl; node = rw (keyed_node, ← f.node, e, which, q) refl; kind = tt }
+      keyed o q = rw q (by_cases (b || c) refl)
+        where
+          by_cases : (t : Bool) → (b || c) ≡ t → KeyedFound s S env i (then_some t j)
+          by_cases true t =
+              record { found = rw (keyed_field, ← f.found, e, which, t) refl; node = rw (keyed_node, ← f.node, e, which, t) refl; kind = rw e at f.kind }
+          by_cases false t = record { found = rw (keyed_field, ← f.found, e, which, t) refl; node = rw (keyed_node, ← f.node, e, which, t) refl; kind = tt }

@@ -2,11 +2,14 @@
 use mathlib.Core.Logic.{◌≢◌}
 use mathlib.Core.Path.{◌≡◌, refl, sym, ap, ◌∙◌}
 use mathlib.Core.List.{List, [], ◌∷◌, append-nil}
-use mathlib.Core.Bool.{Bool, true, false, ◌||◌, ◌&&◌, or_assoc, or-false}
+use mathlib.Core.Bool.{Bool, false, ◌||◌, ◌&&◌, or_assoc, or-false}
 use Prim.Native.Nat.{ℕ, zero, suc, ◌+◌, ◌-◌, ◌<◌, ◌≤◌}
+use native.Mathlib.Numerals.{add-one}
 use native.Mathlib.Omega.{arith}
 use lib.Dec.{eqb, ltb}
 use borrow.Author.Tests.{eq-eqb, ne_eqb}
+use Rattle.std.specs.Prelude.{Option, Some, None}
+use Rattle.std.specs.List.{list_any, range_with_len}
 use Rattle.grammar.specs.Grammar as grammar
 use Rattle.sheet.specs.Line.{Line}
 use Rattle.sheet.specs.Load.{sorts, copies}
@@ -24,8 +27,6 @@ use Rattle.rules.proofs.Exprs.{line_at}
 use Rattle.rules.proofs.Lets.{past_on, not_stale}
 use Rattle.rules.proofs.Standing.{stands}
 use Rattle.lookups.specs.Found.{found_node, FoundKind, Stretch, Last}
-use Rattle.lookups.specs.declared.model.Found.{Found}
-use Rattle.lookups.specs.declared.model.Found.TheVariants.{At, Nothing}
 use Rattle.env.specs.Force.{lets, ends_in, env_of, InForce, ExprIn}
 use Rattle.env.specs.declared.env.Env.{Env}
 use Rattle.env.proofs.Lets.{let_end, ends_behind, ends_past, among_later}
@@ -44,18 +45,18 @@ module _ (s S : List ℕ) (env : Env) (i at k : ℕ) (f : InForce s S env) (e : 
   pub no_id : (r : Bool) → k ≢ kinds.id → r ≡ false → r ≡ hit s S (later i (ends_in s env)) at
   no_id r q z = z ∙ rw (← e, ne_eqb k kinds.id q) refl
 
-  module _ (x : Name) (r : Found) (q : k ≡ kinds.id) (n : x ≡ name_at s S at) (l : Last s S kinds.let' x env.bound env.body r) where
+  module _ (x : Name) (r : Option ℕ) (q : k ≡ kinds.id) (n : x ≡ name_at s S at) (l : Last s S kinds.let' x env.bound env.body r) where
     by_search : ends_behind s i (found_node s r) ≡ hit s S (later i (ends_in s env)) at
     unfolding lets
     by_search = ap (ends_behind s i) l.found ∙ rw (← e, eq-eqb k kinds.id q, ← n) (sym (among_later s S env f x i))
 
-    pub is_later : (j v : ℕ) (b : Bool) → r ≡ At j → v ≡ end_at S j → b ≡ ltb i v → b ≡ hit s S (later i (ends_in s env)) at
+    pub is_later : (j v : ℕ) (b : Bool) → r ≡ Some j → v ≡ end_at S j → b ≡ ltb i v → b ≡ hit s S (later i (ends_in s env)) at
     unfolding found_node
     is_later j v b h w z =
-        let g : FoundKind S kinds.let' (At j) = rw h at l.kind in
+        let g : FoundKind S kinds.let' (Some j) = rw h at l.kind in
         z ∙ rw (w, ← let_end f.loaded j g.0 g.1) (rw h at by_search)
 
-    pub not_later : r ≡ Nothing → false ≡ hit s S (later i (ends_in s env)) at
+    pub not_later : r ≡ None → false ≡ hit s S (later i (ends_in s env)) at
     unfolding found_node
     not_later h = rw (← by_search, h) refl
 
@@ -178,30 +179,15 @@ not_stale_at s S env T i h q =
 pub past_next : (s S : List ℕ) (env : Env) (i : ℕ) (r : Bool) → ExprIn s S env i → env.next ≤ i → r ≡ false → r ≡ stale (env_of s [] env) (expr_at s i)
 past_next s S env i r h q e = e ∙ sym (not_stale_at s S env [] i h q)
 
--- what is found so far: nothing before line at
-pub record Looking (s S : List ℕ) (env : Env) (i end at : ℕ) : Type 0 where
-  pub rest : stale (env_of s [] env) (expr_at s i) ≡ any (hit s S (later i (ends_in s env))) at (end - at)
+any_is : (p : ℕ → Bool) (i n : ℕ) → list_any p (range_with_len i n) ≡ any p i n
+unfolding any
+any_is p i zero = refl
+any_is p i (suc n) = ap (λ b. p i || b) (rw add-one (any_is p (suc i) n))
 
-pub look_start : (s S : List ℕ) (env : Env) (i end : ℕ) → ExprIn s S env i → end ≡ end_at S i → Looking s S env i end i
+pub any_line : (s S : List ℕ) (env : Env) (i end : ℕ) → ExprIn s S env i → end ≡ end_at S i
+    → list_any (hit s S (later i (ends_in s env))) (range_with_len i (end - i)) ≡ stale (env_of s [] env) (expr_at s i)
 unfolding stale env_of
-look_start s S env i end h e =
+any_line s S env i end h e =
     let d = h.force.loaded in
-    record { rest = rw (line_at d h.here, e) (has_lines d (later i (ends_in s env)) i h.here) }
-
-module _ (s S : List ℕ) (env : Env) (i end at : ℕ) (l : Looking s S env i end at) where
-  pub look_over : (r : Bool) → end ≤ at → r ≡ false → r ≡ stale (env_of s [] env) (expr_at s i)
-  unfolding any
-  look_over r h e = e ∙ sym (l.rest ∙ rw (let q : end - at ≡ 0 = omega arith in q) refl)
-
-  module _ (h : at < end) (b : Bool) (e : b ≡ hit s S (later i (ends_in s env)) at) where
-    turn : stale (env_of s [] env) (expr_at s i) ≡ (b || any (hit s S (later i (ends_in s env))) (at + 1) (end - (at + 1)))
-    unfolding any
-    turn =
-        l.rest
-        ∙ rw (e, let q : end - at ≡ suc (end - suc at) = omega arith in q, let q : at + 1 ≡ suc at = omega arith in q) refl
-
-    pub look_found : (r : Bool) → b ≡ true → r ≡ true → r ≡ stale (env_of s [] env) (expr_at s i)
-    look_found r q f = f ∙ sym (turn ∙ rw q refl)
-
-    pub look_next : b ≡ false → Looking s S env i end (at + 1)
-    look_next q = record { rest = turn ∙ rw q refl }
+    let xs = later i (ends_in s env) in
+    any_is (hit s S xs) i (end - i) ∙ sym (rw (line_at d h.here, e) (has_lines d xs i h.here))

@@ -3,7 +3,7 @@ use mathlib.Core.Logic.{◌≢◌}
 use mathlib.Core.Path.{◌≡◌, refl, sym, ◌∙◌}
 use mathlib.Core.List.{List, [], ◌∷◌}
 use mathlib.Core.Bool.{Bool, true, false, cond, not, ◌&&◌, ◌||◌, or-false}
-use mathlib.Core.Option.{Option, none, some}
+use mathlib.Core.Option.{Option as Maybe, none, some}
 use Prim.Native.String.{String}
 use Prim.Native.Nat.{ℕ, suc, ◌+◌, ◌<◌, ◌≤◌}
 use native.Mathlib.Numerals.{add-one}
@@ -11,6 +11,7 @@ use native.Mathlib.Omega.{arith}
 use lib.Dec.{eqb, ltb}
 use lib.ListN.{get_or}
 use borrow.Author.Tests.{eq-eqb, ne_eqb, lt-ltb, le-ltb, not-true, not-false}
+use Rattle.std.specs.Prelude.{Option, Some, None, Result, Ok, Err}
 use Rattle.text.specs.Text.{bytes, same, ended}
 use Rattle.text.specs.Word.{index_in, split}
 use Rattle.grammar.specs.Grammar as grammar
@@ -31,11 +32,7 @@ use Rattle.refusals.specs.Answers.{Answers}
 use Rattle.lookups.specs.Found.{found_node, found_field}
 use Rattle.lookups.specs.Lines.{TypeAt}
 use Rattle.refusals.specs.Refusal.{dot_at, refusal_of, done_of}
-use Rattle.lookups.specs.declared.model.Found.{Found}
-use Rattle.lookups.specs.declared.model.Found.TheVariants.{At, Nothing}
 use Rattle.refusals.specs.declared.refusal.Refusal.TheVariants.{Receiver, KeyedOp}
-use Rattle.refusals.specs.declared.refusal.Done.{Done}
-use Rattle.refusals.specs.declared.refusal.Done.TheVariants.{Fine, Refused}
 use Rattle.refusals.proofs.Answers.{gives, fits, misfits}
 use Rattle.lookups.proofs.Tables.{one_place, words_in, values_in, place_most, pick_place}
 use Rattle.lookups.proofs.Types.{type_name_lem}
@@ -45,6 +42,7 @@ use Rattle.env.specs.declared.env.Env.{Env}
 use Rattle.env.proofs.Lookups.{behind, either_word}
 use Rattle.grammar.specs.Kinds as kinds
 use Rattle.rules.specs.Codes as codes
+use Rattle.refusals.specs.declared.refusal.Refusal.{Refusal}
 
 -- ------------------------------------------------------------ dots
 
@@ -122,11 +120,11 @@ module _ (s S : List ℕ) (env : Env) (i : ℕ) (h : ExprIn s S env i) (k : ℕ)
       rw (add-one i)
       (record { force = h.force; here = row_first (dot_at_lem h.force.loaded h.here (sym e ∙ q)).1 })
 
-  pub uses_none : k ≢ kinds.dot → KeyedOf s S env i Nothing
+  pub uses_none : k ≢ kinds.dot → KeyedOf s S env i None
   unfolding keyed_of keyed_record found_field found_node
   uses_none n = record { found = rw (keyed_of, none_here n) refl; node = rw (keyed_record, ← e, ne_eqb k kinds.dot n) refl; kind = tt }
 
-  pub uses : (r : Found) → k ≡ kinds.dot → KeyedFound s S env (i + 1) r → KeyedOf s S env i r
+  pub uses : (r : Option ℕ) → k ≡ kinds.dot → KeyedFound s S env (i + 1) r → KeyedOf s S env i r
   unfolding keyed_of keyed_record
   uses r q f =
       record {
@@ -135,7 +133,7 @@ module _ (s S : List ℕ) (env : Env) (i : ℕ) (h : ExprIn s S env i) (k : ℕ)
         kind = f.kind;
       }
 
-  pub no_receiver : k ≢ kinds.dot → Answers (expect_asset_receiver (env_of s [] env) (expr_at s i)) (done_of s Fine)
+  pub no_receiver : k ≢ kinds.dot → Answers (expect_asset_receiver (env_of s [] env) (expr_at s i)) (done_of s (Ok tt))
   unfolding expect_asset_receiver if_some done_of
   no_receiver n = rw (expect_asset_receiver, none_here n) (gives tt)
 
@@ -148,7 +146,7 @@ module _ (s S : List ℕ) (env : Env) (i : ℕ) (h : ExprIn s S env i) (k : ℕ)
         let w : is_one x ("merge" ∷ "split" ∷ []) ≡ ltb p 2 = one_place x ("merge" ∷ "split" ∷ []) ∙ rw f refl in
         rw (expect_asset_receiver, dot_here q, dot_told s i (the_dot s S i) (dot_here q), ← n, w) refl
 
-    pub any_receiver : p ≡ 2 → Answers (expect_asset_receiver (env_of s [] env) (expr_at s i)) (done_of s Fine)
+    pub any_receiver : p ≡ 2 → Answers (expect_asset_receiver (env_of s [] env) (expr_at s i)) (done_of s (Ok tt))
     unfolding done_of
     any_receiver z = rw receiver (fits _ 30 _ _ (rw z refl))
 
@@ -160,11 +158,11 @@ module _ (s S : List ℕ) (env : Env) (i : ℕ) (h : ExprIn s S env i) (k : ℕ)
       on_pool : is_pool (env_of s [] env) (expr_at s (suc i)) ≡ b
       on_pool = sym (rw (add-one i) at g)
 
-      pub a_receiver : b ≡ true → Answers (expect_asset_receiver (env_of s [] env) (expr_at s i)) (done_of s Fine)
+      pub a_receiver : b ≡ true → Answers (expect_asset_receiver (env_of s [] env) (expr_at s i)) (done_of s (Ok tt))
       unfolding done_of
       a_receiver t = rw receiver (fits _ 30 _ _ (rw (wanted, on_pool, t) refl))
 
-      pub bad_receiver : b ≡ false → Answers (expect_asset_receiver (env_of s [] env) (expr_at s i)) (done_of s (Refused (Receiver i)))
+      pub bad_receiver : b ≡ false → Answers (expect_asset_receiver (env_of s [] env) (expr_at s i)) (done_of s (Err (Receiver i)))
       unfolding done_of refusal_of
       bad_receiver t = rw receiver (misfits _ 30 _ _ (rw (wanted, on_pool, t) refl))
 
@@ -221,12 +219,12 @@ abbrev method_types : Ty → List (String × Ty)
 method_types g = ("contains", Boolean) ∷ ("split", Asset) ∷ ("get", g) ∷ []
 
 -- the rules of a callee that uses o
-module _ (Γ : typing.Env) (e : Expr) (o : Option Field) (g : o ≡ keyed_of Γ e) where
+module _ (Γ : typing.Env) (e : Expr) (o : Maybe Field) (g : o ≡ keyed_of Γ e) where
   pub uses_op : op_rule o e ≡ expect_keyed_op Γ e
   unfolding keyed_of op_rule expect_keyed_op if_some
   uses_op = by_cases (dot_of e) g
     where
-      by_cases : (x : Option Dot) → o ≡ elim x [ none ↦ none | some d ↦ keyed_field Γ d.base ]
+      by_cases : (x : Maybe Dot) → o ≡ elim x [ none ↦ none | some d ↦ keyed_field Γ d.base ]
           → if_some x (λ d. if_some o (λ f. expect (keyed_op_fits f.ty d.name) 31 d.nspan (keyed_op_text d.name f)))
           ≡ if_some x (λ d. if_some (keyed_field Γ d.base) (λ f. expect (keyed_op_fits f.ty d.name) 31 d.nspan (keyed_op_text d.name f)))
       by_cases none q = refl
@@ -236,19 +234,19 @@ module _ (Γ : typing.Env) (e : Expr) (o : Option Field) (g : o ≡ keyed_of Γ 
   unfolding keyed_of call_ty method_ty ty_of_call
   uses-type = by_cases (dot_of e) refl
     where
-      by_cases : (x : Option Dot) → dot_of e ≡ x → call_ty o e ≡ ty_of_call Γ e
+      by_cases : (x : Maybe Dot) → dot_of e ≡ x → call_ty o e ≡ ty_of_call Γ e
       by_cases none q = rw (call_ty, ty_of_call, q) refl
       by_cases (some d) q = let u = rw (keyed_of, q) at g in rw (call_ty, ty_of_call, q, u) refl
 
-module _ (s S : List ℕ) (i : ℕ) (keyed : Found) (h : Callee s S i keyed) where
-  its_type : (f : ℕ) → keyed ≡ At f → (field_at s f).ty ≡ type_at s (suc f)
+module _ (s S : List ℕ) (i : ℕ) (keyed : Option ℕ) (h : Callee s S i keyed) where
+  its_type : (f : ℕ) → keyed ≡ Some f → (field_at s f).ty ≡ type_at s (suc f)
   its_type f e = (behind kinds.field s S h.expr.loaded keyed f e h.kind (omega arith) (omega arith)).field
 
-  abbrev JudgesMethod : Done → Type 0
+  abbrev JudgesMethod : Result Unit Refusal → Type 0
   JudgesMethod r = Answers (op_rule (found_field s keyed) (expr_at s i)) (done_of s r)
 
   module _ (k : ℕ) (q : k ≡ kind_at S i) where
-    pub op_nowhere : k ≢ kinds.dot → JudgesMethod Fine
+    pub op_nowhere : k ≢ kinds.dot → JudgesMethod (Ok tt)
     unfolding op_rule if_some done_of
     op_nowhere z = rw (op_rule, not_dot h.expr.loaded h.expr.here q z) (gives tt)
 
@@ -256,22 +254,22 @@ module _ (s S : List ℕ) (i : ℕ) (keyed : Found) (h : Callee s S i keyed) whe
       here : dot_of (expr_at s i) ≡ some (the_dot s S i)
       here = is-dot h.expr.loaded h.expr.here q z
 
-      pub no_op : keyed ≡ Nothing → JudgesMethod Fine
+      pub no_op : keyed ≡ None → JudgesMethod (Ok tt)
       unfolding op_rule if_some found_field done_of
       no_op e = rw (op_rule, here, e) (gives tt)
 
-      module _ (f : ℕ) (e : keyed ≡ At f) (x : Name) (n : x ≡ name_at s S i) (b : Bool) (w : b ≡ keyed_op_fits (type_at s (f + 1)) x) where
+      module _ (f : ℕ) (e : keyed ≡ Some f) (x : Name) (n : x ≡ name_at s S i) (b : Bool) (w : b ≡ keyed_op_fits (type_at s (f + 1)) x) where
         op : op_rule (found_field s keyed) (expr_at s i) ≡ expect b 31 (dot_at s i).nspan (keyed_op_text (dot_at s i).name (field_at s f))
         unfolding op_rule if_some found_field
         op =
             let v : keyed_op_fits (field_at s f).ty (name_at s S i) ≡ b = sym (w ∙ rw (its_type f e, n, add-one f) refl) in
             rw (op_rule, here, e, dot_told s i (the_dot s S i) here, v) refl
 
-        pub good_op : b ≡ true → JudgesMethod Fine
+        pub good_op : b ≡ true → JudgesMethod (Ok tt)
         unfolding done_of
         good_op t = rw op (fits b 31 _ _ t)
 
-        pub bad_op : b ≡ false → JudgesMethod (Refused (KeyedOp i f))
+        pub bad_op : b ≡ false → JudgesMethod (Err (KeyedOp i f))
         unfolding done_of refusal_of
         bad_op t = rw op (misfits b 31 _ _ t)
 
@@ -293,14 +291,14 @@ module _ (s S : List ℕ) (i : ℕ) (keyed : Found) (h : Callee s S i keyed) whe
         (pick {P = λ p. p ≢ 2 → get_or method_codes p 0 ≡ code (get_or (values_in (method_types g)) p Unknown)} {i = 0} {n = 4} p
         ((λ _. refl) also (λ _. refl) also (λ y. absurd (y refl)) also (λ _. refl) also stop) (omega arith) method_most z)
 
-    pub by_get : (f r : ℕ) → p ≡ 2 → keyed ≡ At f → r ≡ code (get_ty (type_at s (f + 1))) → r ≡ code (method_ty (name_at s S i) (found_field s keyed))
+    pub by_get : (f r : ℕ) → p ≡ 2 → keyed ≡ Some f → r ≡ code (get_ty (type_at s (f + 1))) → r ≡ code (method_ty (name_at s S i) (found_field s keyed))
     unfolding ty_of_get found_field get_ty
     by_get f r z k q =
         let g : get_ty (type_at s (f + 1)) ≡ ty_of_get (found_field s keyed) =
         rw (add-one f, k, its_type f k) refl in
         q ∙ rw (of_place (get_ty (type_at s (f + 1))) g, z) refl
 
-    pub no_get : p ≡ 2 → keyed ≡ Nothing → codes.int ≡ code (method_ty (name_at s S i) (found_field s keyed))
+    pub no_get : p ≡ 2 → keyed ≡ None → codes.int ≡ code (method_ty (name_at s S i) (found_field s keyed))
     unfolding ty_of_get found_field code
     no_get z k = rw (of_place Int (rw k refl), z) refl
 

@@ -1,6 +1,6 @@
 -- What a call's callee tells.
-use Rattle.std.specs.Prelude.{ℕ, suc, true, false, cond, not, ◌&&◌, List, [], ◌∷◌, ◌≡◌, eqb}
-use Rattle.std.proofs.Math.Option.{Option, none, some}
+use Rattle.std.specs.Prelude.{ℕ, suc, true, false, cond, not, ◌&&◌, List, [], ◌∷◌, ◌≡◌, eqb, Option}
+use Rattle.std.proofs.Math.Option.{Option as Maybe, none, some}
 use Rattle.sheet.specs.Scratch.{kind_at}
 use Rattle.sheet.specs.Tree.{Node}
 use Rattle.rules.specs.Text.{Name, is, is_one, pick}
@@ -12,7 +12,6 @@ use Rattle.rules.specs.Typing.{dot_of, ident_is, keyed_field, keyed_op_fits, key
 use Rattle.rules.specs.Standing.{expr_at}
 use Rattle.lookups.specs.Found.{found_node, found_field, FoundKind}
 use Rattle.lookups.specs.Lines.{ExprAt}
-use Rattle.lookups.specs.declared.model.Found.{Found}
 use Rattle.env.specs.Force.{env_of, keyed_node}
 use Rattle.env.specs.declared.env.Env.{Env}
 use Rattle.grammar.specs.Kinds as kinds
@@ -36,25 +35,25 @@ wants_of method =
     ]
 
 -- the Map or Registry that a callee uses
-unfoldable pub keyed_of : typing.Env → Expr → Option Field
+unfoldable pub keyed_of : typing.Env → Expr → Maybe Field
 keyed_of Γ callee = elim (dot_of callee) [ none ↦ none | some d ↦ keyed_field Γ d.base ]
 
 -- ... and its record
-unfoldable pub keyed_record : List ℕ → List ℕ → Env → ℕ → Option Node
+unfoldable pub keyed_record : List ℕ → List ℕ → Env → ℕ → Maybe Node
 keyed_record s S env callee = cond (eqb (kind_at S callee) kinds.dot) (keyed_node s S env (suc callee)) none
 
-pub record KeyedOf (s S : List ℕ) (env : Env) (callee : ℕ) (r : Found) : Type 0 where
+pub record KeyedOf (s S : List ℕ) (env : Env) (callee : ℕ) (r : Option ℕ) : Type 0 where
   pub found : found_field s r ≡ keyed_of (env_of s [] env) (expr_at s callee)
   pub node : found_node s r ≡ keyed_record s S env callee
   pub kind : FoundKind S kinds.field r
 
 -- a callee stands at a line, and `keyed` is a field or nothing
-pub record Callee (s S : List ℕ) (callee : ℕ) (keyed : Found) : Type 0 where
+pub record Callee (s S : List ℕ) (callee : ℕ) (keyed : Option ℕ) : Type 0 where
   pub expr : ExprAt s S callee
   pub kind : FoundKind S kinds.field keyed
 
 -- `expect_keyed_op` of a callee that uses this Map or Registry, if any
-unfoldable pub op_rule : Option Field → Expr → Rule Unit
+unfoldable pub op_rule : Maybe Field → Expr → Rule Unit
 op_rule keyed callee =
     if_some (dot_of callee) λ d.
     if_some keyed λ f.
@@ -65,10 +64,10 @@ unfoldable pub get_ty : Type' → Ty
 get_ty ty = elim (is (type_name ty) "Map" && not (is_ty (declared_arg ty 1) (Unknown ∷ Time ∷ []))) [ true ↦ declared_arg ty 1 | false ↦ Int ]
 
 -- the type of a call by its method
-unfoldable pub method_ty : Name → Option Field → Ty
+unfoldable pub method_ty : Name → Maybe Field → Ty
 method_ty method keyed = pick method (("contains", Boolean) ∷ ("split", Asset) ∷ ("get", ty_of_get keyed) ∷ []) Unknown
 
 -- `ty_of_call` of a callee that uses this Map or Registry, if any
-unfoldable pub call_ty : Option Field → Expr → Ty
+unfoldable pub call_ty : Maybe Field → Expr → Ty
 call_ty keyed callee =
     elim (dot_of callee) [ some d ↦ method_ty d.name keyed | none ↦ elim (ident_is callee "mint") [ true ↦ Asset | false ↦ Unknown ] ]

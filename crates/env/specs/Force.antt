@@ -1,6 +1,6 @@
 -- The rules' `Env` of the code's, and what the code asks of it.
-use Rattle.std.specs.Prelude.{ℕ, suc, ◌≤◌, List, [], ◌∷◌, map, true, false, ◌≡◌, length, get_or}
-use Rattle.std.proofs.Math.Option.{Option, none, some}
+use Rattle.std.specs.Prelude.{ℕ, suc, ◌≤◌, List, [], ◌∷◌, map, true, false, ◌≡◌, length, get_or, Option, Some, None}
+use Rattle.std.proofs.Math.Option.{Option as Maybe, none, some}
 use Rattle.grammar.specs.Grammar as grammar
 use Rattle.sheet.specs.Scratch.{skip, line_count, item_count}
 use Rattle.sheet.specs.Tree.{Node, node}
@@ -14,7 +14,6 @@ use Rattle.rules.specs.Typing as typing
 use Rattle.rules.specs.Check.{param_types}
 use Rattle.rules.specs.Standing.{node_name, nodes_at, expr_at, model_in, Loaded, Here, Row}
 use Rattle.lookups.specs.Found.{of_kind, all_fields, found_node, found_field, FoundKind}
-use Rattle.lookups.specs.declared.model.Found.{Found}
 use Rattle.env.specs.declared.env.Env.{Env}
 use Rattle.grammar.specs.Kinds as kinds
 
@@ -67,10 +66,10 @@ pub record Ready (s S : List ℕ) (env : Env) (T : Table) : Type 0 where
 
 -- ------------------------------------------------------------ what is found
 
--- the code of a type that was found, 0 where there is none
-unfoldable pub mark_of : Option Ty → ℕ
-mark_of none = 0
-mark_of (some t) = code t
+-- the code of a type that was found
+unfoldable pub code_found : Maybe Ty → Option ℕ
+code_found none = None
+code_found (some t) = Some (code t)
 
 -- the type of a name that is no parameter's and no local's
 unfoldable pub field_ty : List ℕ → Name → Ty
@@ -78,7 +77,7 @@ field_ty s x =
     elim (field_named (model_in s) x) [ some f ↦ ty_of_decl f.ty | none ↦ elim (is x "deployer") [ true ↦ Address | false ↦ Unknown ] ]
 
 -- the record of the state field that the bare name at line i means
-unfoldable pub field_node : List ℕ → List ℕ → Env → ℕ → Option Node
+unfoldable pub field_node : List ℕ → List ℕ → Env → ℕ → Maybe Node
 field_node s S env i =
     elim (typing.ident_of (expr_at s i)) [
       | none ↦ none
@@ -86,7 +85,7 @@ field_node s S env i =
     ]
 
 -- ... where it is a Map or Registry
-unfoldable pub keyed_node : List ℕ → List ℕ → Env → ℕ → Option Node
+unfoldable pub keyed_node : List ℕ → List ℕ → Env → ℕ → Maybe Node
 keyed_node s S env i =
     elim (field_node s S env i) [
       | none ↦ none
@@ -94,12 +93,12 @@ keyed_node s S env i =
     ]
 
 -- No local changes these, so the table is left out.
-pub record FieldFound (s S : List ℕ) (env : Env) (i : ℕ) (r : Found) : Type 0 where
+pub record FieldFound (s S : List ℕ) (env : Env) (i : ℕ) (r : Option ℕ) : Type 0 where
   pub found : found_field s r ≡ typing.state_field_of (env_of s [] env) (expr_at s i)
   pub node : found_node s r ≡ field_node s S env i
   pub kind : FoundKind S kinds.field r
 
-pub record KeyedFound (s S : List ℕ) (env : Env) (i : ℕ) (r : Found) : Type 0 where
+pub record KeyedFound (s S : List ℕ) (env : Env) (i : ℕ) (r : Option ℕ) : Type 0 where
   pub found : found_field s r ≡ typing.keyed_field (env_of s [] env) (expr_at s i)
   pub node : found_node s r ≡ keyed_node s S env i
   pub kind : FoundKind S kinds.field r

@@ -14,10 +14,10 @@ ghost use Rattle.env.specs.Force.{env_of, ExprIn};
 
 use crate::env::{Env, is_pool, keyed_field};
 use grammar::kinds;
-use lookups::{Found, declared_arg};
-use refusals::{Done, Refusal};
+use lookups::declared_arg;
+use refusals::Refusal;
 use rules::codes;
-use sheet::{kind, name};
+use sheet::LoadedSheet;
 use text::{index_in, is_word};
 
 // The type of a dot with this name.
@@ -64,77 +64,83 @@ pub fn moves_amount(method: &[u8]) -> bool
 }
 
 // The Map or Registry that a callee uses: the keyed field of a dot's base.
-pub fn keyed_of(sheet: &[u8], lines: &[u16], env: Env, callee: usize) -> Found
-    requires { ExprIn sheet.now lines.now env callee }
-    ensures { KeyedOf sheet.now lines.now env callee result }
+pub fn keyed_of(sheet: &LoadedSheet<'_>, env: Env, callee: usize) -> Option<usize>
+    requires { ExprIn sheet.now.bytes.now sheet.now.lines.now env callee }
+    ensures { KeyedOf sheet.now.bytes.now sheet.now.lines.now env callee result }
 {
-    if kind(lines, callee) != kinds::DOT {
-        return Found::Nothing;
+    if sheet.kind(callee) != kinds::DOT {
+        return None;
     }
-    keyed_field(sheet, lines, env, callee + 1)
+    keyed_field(sheet, env, callee + 1)
 }
 
 // `expect_asset_receiver`: `merge` and `split` want a Q_Asset field.
-pub fn expect_asset_receiver(sheet: &[u8], lines: &[u16], env: Env, callee: usize) -> Done
-    requires { ExprIn sheet.now lines.now env callee }
-    ensures { Answers (expect_asset_receiver (env_of sheet.now [] env) (expr_at sheet.now callee)) (done_of sheet.now result) }
+pub fn expect_asset_receiver(
+    sheet: &LoadedSheet<'_>,
+    env: Env,
+    callee: usize,
+) -> Result<(), Refusal>
+    requires { ExprIn sheet.now.bytes.now sheet.now.lines.now env callee }
+    ensures { Answers (expect_asset_receiver (env_of sheet.now.bytes.now [] env) (expr_at sheet.now.bytes.now callee)) (done_of sheet.now.bytes.now result) }
 {
-    if kind(lines, callee) != kinds::DOT {
-        return Done::Fine;
+    if sheet.kind(callee) != kinds::DOT {
+        return Ok(());
     }
-    if index_in(name(sheet, lines, callee), b"merge split ") == 2 {
-        return Done::Fine;
+    if index_in(sheet.name(callee), b"merge split ") == 2 {
+        return Ok(());
     }
-    if is_pool(sheet, lines, env, callee + 1) {
-        Done::Fine
+    if is_pool(sheet, env, callee + 1) {
+        Ok(())
     } else {
-        Done::Refused(Refusal::Receiver(callee))
+        Err(Refusal::Receiver(callee))
     }
 }
 
 // Whether the Map or Registry of the type at line ty has the method.
-fn keyed_op_fits(sheet: &[u8], lines: &[u16], ty: usize, method: &[u8]) -> bool
-    requires { TypeAt sheet.now lines.now ty }
-    ensures { result ≡ keyed_op_fits (type_at sheet.now ty) method.now }
+fn keyed_op_fits(sheet: &LoadedSheet<'_>, ty: usize, method: &[u8]) -> bool
+    requires { TypeAt sheet.now.bytes.now sheet.now.lines.now ty }
+    ensures { result ≡ keyed_op_fits (type_at sheet.now.bytes.now ty) method.now }
 {
-    if is_word(name(sheet, lines, ty), b"Registry") {
+    if is_word(sheet.name(ty), b"Registry") {
         return index_in(method, b"insert remove contains ") < 3;
     }
     if index_in(method, b"set get contains remove ") < 4 {
         return true;
     }
-    moves_amount(method) & (declared_arg(sheet, lines, ty, 1) == codes::INT)
+    moves_amount(method) & (declared_arg(sheet, ty, 1) == codes::INT)
 }
 
 // `expect_keyed_op`: the Map or Registry that the callee uses, if any, has the method.
-pub fn expect_keyed_op(sheet: &[u8], lines: &[u16], callee: usize, keyed: Found) -> Done
-    requires { Callee sheet.now lines.now callee keyed }
-    ensures { Answers (op_rule (found_field sheet.now keyed) (expr_at sheet.now callee)) (done_of sheet.now result) }
+pub fn expect_keyed_op(
+    sheet: &LoadedSheet<'_>,
+    callee: usize,
+    keyed: Option<usize>,
+) -> Result<(), Refusal>
+    requires { Callee sheet.now.bytes.now sheet.now.lines.now callee keyed }
+    ensures { Answers (op_rule (found_field sheet.now.bytes.now keyed) (expr_at sheet.now.bytes.now callee)) (done_of sheet.now.bytes.now result) }
 {
-    if kind(lines, callee) != kinds::DOT {
-        return Done::Fine;
+    if sheet.kind(callee) != kinds::DOT {
+        return Ok(());
     }
-    match keyed {
-        Found::At(field) => {
-            if keyed_op_fits(sheet, lines, field + 1, name(sheet, lines, callee)) {
-                Done::Fine
-            } else {
-                Done::Refused(Refusal::KeyedOp { callee, field })
-            }
-        }
-        Found::Nothing => Done::Fine,
+    let Some(field) = keyed else {
+        return Ok(());
+    };
+    if keyed_op_fits(sheet, field + 1, sheet.name(callee)) {
+        Ok(())
+    } else {
+        Err(Refusal::KeyedOp { callee, field })
     }
 }
 
 // The type that `get` gives on a Map or Registry, whose declared type stands at line ty.
-fn ty_of_get(sheet: &[u8], lines: &[u16], ty: usize) -> u8
-    requires { TypeAt sheet.now lines.now ty }
-    ensures { result ≡ code (get_ty (type_at sheet.now ty)) }
+fn ty_of_get(sheet: &LoadedSheet<'_>, ty: usize) -> u8
+    requires { TypeAt sheet.now.bytes.now sheet.now.lines.now ty }
+    ensures { result ≡ code (get_ty (type_at sheet.now.bytes.now ty)) }
 {
-    if !is_word(name(sheet, lines, ty), b"Map") {
+    if !is_word(sheet.name(ty), b"Map") {
         return codes::INT;
     }
-    let value = declared_arg(sheet, lines, ty, 1);
+    let value = declared_arg(sheet, ty, 1);
     if (value == codes::UNKNOWN) | (value == codes::TIME) {
         codes::INT
     } else {
@@ -143,17 +149,17 @@ fn ty_of_get(sheet: &[u8], lines: &[u16], ty: usize) -> u8
 }
 
 // The type of a call by its dot's method.
-fn ty_of_method(sheet: &[u8], lines: &[u16], callee: usize, keyed: Found) -> u8
-    requires { Callee sheet.now lines.now callee keyed }
-    ensures { result ≡ code (method_ty (name_at sheet.now lines.now callee) (found_field sheet.now keyed)) }
+fn ty_of_method(sheet: &LoadedSheet<'_>, callee: usize, keyed: Option<usize>) -> u8
+    requires { Callee sheet.now.bytes.now sheet.now.lines.now callee keyed }
+    ensures { result ≡ code (method_ty (name_at sheet.now.bytes.now sheet.now.lines.now callee) (found_field sheet.now.bytes.now keyed)) }
 {
-    let place = index_in(name(sheet, lines, callee), b"contains split get ");
+    let place = index_in(sheet.name(callee), b"contains split get ");
     if place != 2 {
         return method_code(place);
     }
     match keyed {
-        Found::At(field) => ty_of_get(sheet, lines, field + 1),
-        Found::Nothing => codes::INT,
+        Some(field) => ty_of_get(sheet, field + 1),
+        None => codes::INT,
     }
 }
 
@@ -167,15 +173,15 @@ fn method_code(place: usize) -> u8
 const METHODS: [u8; 4] = [codes::BOOLEAN, codes::ASSET, codes::INT, codes::UNKNOWN];
 
 // `ty_of_call`: the type of a call, by its callee.
-pub fn ty_of_call(sheet: &[u8], lines: &[u16], callee: usize, keyed: Found) -> u8
-    requires { Callee sheet.now lines.now callee keyed }
-    ensures { result ≡ code (call_ty (found_field sheet.now keyed) (expr_at sheet.now callee)) }
+pub fn ty_of_call(sheet: &LoadedSheet<'_>, callee: usize, keyed: Option<usize>) -> u8
+    requires { Callee sheet.now.bytes.now sheet.now.lines.now callee keyed }
+    ensures { result ≡ code (call_ty (found_field sheet.now.bytes.now keyed) (expr_at sheet.now.bytes.now callee)) }
 {
-    let k = kind(lines, callee);
+    let k = sheet.kind(callee);
     if k == kinds::DOT {
-        return ty_of_method(sheet, lines, callee, keyed);
+        return ty_of_method(sheet, callee, keyed);
     }
-    if (k == kinds::ID) & is_word(name(sheet, lines, callee), b"mint") {
+    if (k == kinds::ID) & is_word(sheet.name(callee), b"mint") {
         codes::ASSET
     } else {
         codes::UNKNOWN

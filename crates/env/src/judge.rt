@@ -15,14 +15,9 @@ ghost use Rattle.rules.specs.Kept.{ty_from};
 use crate::env::{Env, is_name_param};
 use grammar::ops;
 use lookups::{compatible, is_zero_literal, numeric, type_code};
-use refusals::{Done, Refusal};
+use refusals::Refusal;
 use rules::codes;
-
-#[derive(Clone, Copy)]
-pub enum Typed {
-    Is(u8),
-    Refused(Refusal),
-}
+use sheet::LoadedSheet;
 
 // Whether the type is the one of a code, or Unknown.
 fn or_unknown(ty: u8, want: u8) -> bool
@@ -32,38 +27,38 @@ fn or_unknown(ty: u8, want: u8) -> bool
     (t == want) | (t == codes::UNKNOWN)
 }
 
-pub fn judge_unary(op: usize, inner: usize, ty: u8) -> Typed
+pub fn judge_unary(op: usize, inner: usize, ty: u8) -> Result<u8, Refusal>
     ensures { Judged (λ s. judge_unary (get_or unary_ops op Neg) (expr_at s inner)) ty result }
 {
     if op == ops::UN_NOT {
         if or_unknown(ty, codes::BOOLEAN) {
-            Typed::Is(codes::BOOLEAN)
+            Ok(codes::BOOLEAN)
         } else {
-            Typed::Refused(Refusal::Not(inner))
+            Err(Refusal::Not(inner))
         }
     } else {
         if or_unknown(ty, codes::INT) {
-            Typed::Is(codes::INT)
+            Ok(codes::INT)
         } else {
-            Typed::Refused(Refusal::Neg(inner))
+            Err(Refusal::Neg(inner))
         }
     }
 }
 
 // What two tests come to, with why each refuses and the type where both hold.
-fn both(l: bool, r: bool, left: Refusal, right: Refusal, ty: u8) -> Typed
+fn both(l: bool, r: bool, left: Refusal, right: Refusal, ty: u8) -> Result<u8, Refusal>
     ensures { result ≡ both_of l r left right ty }
 {
     if !l {
-        return Typed::Refused(left);
+        return Err(left);
     }
     if !r {
-        return Typed::Refused(right);
+        return Err(right);
     }
-    Typed::Is(ty)
+    Ok(ty)
 }
 
-fn logical(left: usize, right: usize, l: u8, r: u8) -> Typed
+fn logical(left: usize, right: usize, l: u8, r: u8) -> Result<u8, Refusal>
     ensures { Judged2 (λ s. logical_of (expr_at s left) (expr_at s right)) l r result }
 {
     both(
@@ -75,7 +70,7 @@ fn logical(left: usize, right: usize, l: u8, r: u8) -> Typed
     )
 }
 
-fn arithmetic(left: usize, right: usize, l: u8, r: u8) -> Typed
+fn arithmetic(left: usize, right: usize, l: u8, r: u8) -> Result<u8, Refusal>
     ensures { Judged2 (λ s. arithmetic_of (expr_at s left) (expr_at s right)) l r result }
 {
     both(
@@ -87,7 +82,7 @@ fn arithmetic(left: usize, right: usize, l: u8, r: u8) -> Typed
     )
 }
 
-fn ordering(left: usize, right: usize, l: u8, r: u8) -> Typed
+fn ordering(left: usize, right: usize, l: u8, r: u8) -> Result<u8, Refusal>
     ensures { Judged2 (λ s. ordering_of (expr_at s left) (expr_at s right)) l r result }
 {
     both(
@@ -100,45 +95,44 @@ fn ordering(left: usize, right: usize, l: u8, r: u8) -> Typed
 }
 
 // Whether a type is an address, and the other side the zero that means none.
-fn absent(sheet: &[u8], lines: &[u16], ty: u8, other: usize) -> bool
-    requires { ExprAt sheet.now lines.now other }
-    ensures { result ≡ (eqb ty codes.address && is_zero_literal (expr_at sheet.now other)) }
+fn absent(sheet: &LoadedSheet<'_>, ty: u8, other: usize) -> bool
+    requires { ExprAt sheet.now.bytes.now sheet.now.lines.now other }
+    ensures { result ≡ (eqb ty codes.address && is_zero_literal (expr_at sheet.now.bytes.now other)) }
 {
-    (ty == codes::ADDRESS) & is_zero_literal(sheet, lines, other)
+    (ty == codes::ADDRESS) & is_zero_literal(sheet, other)
 }
 
-fn equality(sheet: &[u8], lines: &[u16], left: usize, right: usize, l: u8, r: u8) -> Typed
-    requires { Operands sheet.now lines.now left right }
-    ensures { JudgedIn sheet.now (equality_of (expr_at sheet.now left) (expr_at sheet.now right)) l r result }
+fn equality(sheet: &LoadedSheet<'_>, left: usize, right: usize, l: u8, r: u8) -> Result<u8, Refusal>
+    requires { Operands sheet.now.bytes.now sheet.now.lines.now left right }
+    ensures { JudgedIn sheet.now.bytes.now (equality_of (expr_at sheet.now.bytes.now left) (expr_at sheet.now.bytes.now right)) l r result }
 {
     if (l == codes::NAME) | (r == codes::NAME) {
-        return Typed::Refused(Refusal::NamesCompared(left));
+        return Err(Refusal::NamesCompared(left));
     }
-    if compatible(l, r) | absent(sheet, lines, l, right) | absent(sheet, lines, r, left) {
-        Typed::Is(codes::BOOLEAN)
+    if compatible(l, r) | absent(sheet, l, right) | absent(sheet, r, left) {
+        Ok(codes::BOOLEAN)
     } else {
-        Typed::Refused(Refusal::Compared { right, l, r })
+        Err(Refusal::Compared { right, l, r })
     }
 }
 
 // Judges the types of both sides by the operator (grammar's ops).
 pub fn judge_binary(
-    sheet: &[u8],
-    lines: &[u16],
+    sheet: &LoadedSheet<'_>,
     op: usize,
     left: usize,
     right: usize,
     l: u8,
     r: u8,
-) -> Typed
-    requires { Operands sheet.now lines.now left right }
-    ensures { JudgedIn sheet.now (judge_binary (get_or bin_ops op Shr) (expr_at sheet.now left) (expr_at sheet.now right)) l r result }
+) -> Result<u8, Refusal>
+    requires { Operands sheet.now.bytes.now sheet.now.lines.now left right }
+    ensures { JudgedIn sheet.now.bytes.now (judge_binary (get_or bin_ops op Shr) (expr_at sheet.now.bytes.now left) (expr_at sheet.now.bytes.now right)) l r result }
 {
     if op < ops::BIN_EQ {
         return logical(left, right, l, r);
     }
     if op < ops::BIN_LT {
-        return equality(sheet, lines, left, right, l, r);
+        return equality(sheet, left, right, l, r);
     }
     if op < ops::BIN_ADD {
         return ordering(left, right, l, r);
@@ -147,52 +141,51 @@ pub fn judge_binary(
 }
 
 // Judges the amount that the method of the dot at line callee moves.
-pub fn judge_amount(callee: usize, arg: usize, got: u8) -> Done
+pub fn judge_amount(callee: usize, arg: usize, got: u8) -> Result<(), Refusal>
     ensures { JudgesAmount callee arg got result }
 {
     let t = type_code(got);
     if (t == codes::INT) | ((t == codes::ASSET) | (t == codes::UNKNOWN)) {
-        Done::Fine
+        Ok(())
     } else {
-        Done::Refused(Refusal::Amount { callee, arg })
+        Err(Refusal::Amount { callee, arg })
     }
 }
 
 // Whether the argument, of the type got, is no Q_Name or a Q_Name parameter.
-fn straight(sheet: &[u8], lines: &[u16], env: Env, arg: usize, got: u8) -> bool
-    requires { ExprIn sheet.now lines.now env arg }
-    ensures { result ≡ (not (eqb got codes.name) || is_name_param (env_of sheet.now [] env) (expr_at sheet.now arg)) }
+fn straight(sheet: &LoadedSheet<'_>, env: Env, arg: usize, got: u8) -> bool
+    requires { ExprIn sheet.now.bytes.now sheet.now.lines.now env arg }
+    ensures { result ≡ (not (eqb got codes.name) || is_name_param (env_of sheet.now.bytes.now [] env) (expr_at sheet.now.bytes.now arg)) }
 {
     if got != codes::NAME {
         return true;
     }
-    is_name_param(sheet, lines, env, arg)
+    is_name_param(sheet, env, arg)
 }
 
 // Judges a key or value of the Map or Registry at line field.
 pub fn judge_key(
-    sheet: &[u8],
-    lines: &[u16],
+    sheet: &LoadedSheet<'_>,
     env: Env,
     field: usize,
     is_key: bool,
     arg: usize,
     want: u8,
     got: u8,
-) -> Done
-    requires { ExprIn sheet.now lines.now env arg }
-    ensures { JudgesKey sheet.now env field is_key arg want got result }
+) -> Result<(), Refusal>
+    requires { ExprIn sheet.now.bytes.now sheet.now.lines.now env arg }
+    ensures { JudgesKey sheet.now.bytes.now env field is_key arg want got result }
 {
-    if !straight(sheet, lines, env, arg, got) {
-        return Done::Refused(Refusal::NameNotParam { field, arg });
+    if !straight(sheet, env, arg, got) {
+        return Err(Refusal::NameNotParam { field, arg });
     }
     if (want == codes::NAME) & (got != codes::NAME) {
-        return Done::Refused(Refusal::NameWanted { field, arg });
+        return Err(Refusal::NameWanted { field, arg });
     }
     if (is_key & (got == codes::NAME)) | compatible(want, got) {
-        Done::Fine
+        Ok(())
     } else {
-        Done::Refused(Refusal::Holds {
+        Err(Refusal::Holds {
             field,
             arg,
             want,

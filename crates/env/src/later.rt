@@ -10,45 +10,30 @@ ghost use Rattle.grammar.specs.Kinds as kinds;
 
 use crate::env::Env;
 use grammar::kinds;
-use lookups::{Found, last_named};
-use sheet::{end, kind, name};
+use lookups::last_named;
+use sheet::LoadedSheet;
 
 // Whether line at is an `id` with the name of a bound `let` that ends behind line i. Of those of a name the last ends last.
-fn is_later(sheet: &[u8], lines: &[u16], env: Env, i: usize, at: usize) -> bool
-    requires { InForce sheet.now lines.now env }
-    ensures { result ≡ (eqb (kind_at lines.now at) kinds.id && among (name_at sheet.now lines.now at) (later i (ends_in sheet.now env))) }
+fn is_later(sheet: &LoadedSheet<'_>, env: Env, i: usize, at: usize) -> bool
+    requires { InForce sheet.now.bytes.now sheet.now.lines.now env }
+    ensures { result ≡ (eqb (kind_at sheet.now.lines.now at) kinds.id && among (name_at sheet.now.bytes.now sheet.now.lines.now at) (later i (ends_in sheet.now.bytes.now env))) }
 {
-    if kind(lines, at) != kinds::ID {
+    if sheet.kind(at) != kinds::ID {
         return false;
     }
-    match last_named(
-        sheet,
-        lines,
-        kinds::LET,
-        name(sheet, lines, at),
-        env.body,
-        env.bound,
-    ) {
-        Found::At(j) => i < end(lines, j),
-        Found::Nothing => false,
+    match last_named(sheet, kinds::LET, sheet.name(at), env.body, env.bound) {
+        Some(j) => i < sheet.end(j),
+        None => false,
     }
 }
 
 // Whether such a name stands in the expression at line i. `check` asks no line before `next`.
-pub fn stale(sheet: &[u8], lines: &[u16], env: Env, i: usize) -> bool
-    requires { ExprIn sheet.now lines.now env i }
-    ensures { result ≡ stale_of (env_of sheet.now [] env) (expr_at sheet.now i) }
+pub fn stale(sheet: &LoadedSheet<'_>, env: Env, i: usize) -> bool
+    requires { ExprIn sheet.now.bytes.now sheet.now.lines.now env i }
+    ensures { result ≡ stale_of (env_of sheet.now.bytes.now [] env) (expr_at sheet.now.bytes.now i) }
 {
     if env.next <= i {
         return false;
     }
-    let stop = end(lines, i);
-    let mut at = i;
-    while at < stop {
-        if is_later(sheet, lines, env, i, at) {
-            return true;
-        }
-        at += 1;
-    }
-    false
+    (i..sheet.end(i)).any(|at| is_later(sheet, env, i, at))
 }

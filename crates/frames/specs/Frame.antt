@@ -1,8 +1,6 @@
 -- What a header says, and what reading it and its sheet does to the bytes of an input where those are known.
-use Rattle.std.specs.Prelude.{ℕ, Bool, true, false, List, length, take, slice_index, cond, ltb, ◌&&◌, ◌≡◌, ◌++◌, ◌+◌, ◌-◌, ◌*◌, ◌<◌, Option}
-use Rattle.std.specs.Io.KnownBytes.{Consumes, IsAtEnd}
-use Rattle.frames.specs.declared.Frame.{Frame}
-use Rattle.frames.specs.declared.Frame.TheVariants.{Lent, Over}
+use Rattle.std.specs.Prelude.{ℕ, Bool, true, false, List, Option, Some, None, length, take, slice_index, cond, ltb, ◌&&◌, ◌≡◌, ◌++◌, ◌+◌, ◌-◌, ◌*◌, ◌<◌, ◌⊎◌}
+use Rattle.std.specs.Io.KnownBytes.{Appends, Consumes, IsAtEnd}
 use Rattle.frames.specs.declared.Lengths.{Lengths}
 
 -- a decimal digit's value, and 0 of another byte
@@ -27,16 +25,28 @@ lengths_of head = record {
   message = number_of head 18;
 }
 
--- a header was taken from the bytes, or there were fewer and none is left
-abbrev pub TakesHeader : (old new : Option (List ℕ)) → Frame → Type 0
-TakesHeader old new (Lent lengths) = (head : List ℕ) × (length head ≡ 24) × (lengths ≡ lengths_of head) × Consumes old new head
-TakesHeader old new Over = (part : List ℕ) × (length part < 24) × Consumes old new part × IsAtEnd new
+-- the bytes of a header, and what they say
+abbrev pub IsHeader : List ℕ → Lengths → Type 0
+IsHeader head lengths = (length head ≡ 24) × (lengths ≡ lengths_of head)
 
--- the sheet was taken from the bytes, or there were fewer, which it starts with, and none is left
-abbrev pub TakesSheet : (old new : Option (List ℕ)) → List ℕ → Bool → Type 0
-TakesSheet old new sheet true = Consumes old new sheet
-TakesSheet old new sheet false = (n : ℕ) × (n < length sheet) × Consumes old new (take n sheet) × IsAtEnd new
+-- so many bytes were taken from the input, or there were fewer, which they start with, and none is left
+abbrev pub Fills : (old new : Option (List ℕ)) → List ℕ → Bool → Type 0
+Fills old new bytes true = Consumes old new bytes
+Fills old new bytes false = (n : ℕ) × (n < length bytes) × Consumes old new (take n bytes) × IsAtEnd new
 
--- a header and the sheet behind it were taken from the bytes
-abbrev pub TakesFrame : (old new : Option (List ℕ)) → Lengths → List ℕ → Type 0
-TakesFrame old new lengths sheet = (head : List ℕ) × (length head ≡ 24) × (lengths ≡ lengths_of head) × Consumes old new (head ++ sheet)
+-- a header was taken from the input, or there were fewer bytes and none is left
+abbrev pub TakesHeader : (old new : Option (List ℕ)) → Option Lengths → Type 0
+TakesHeader old new (Some lengths) = (head : List ℕ) × IsHeader head lengths × Consumes old new head
+TakesHeader old new None = (part : List ℕ) × (length part < 24) × Consumes old new part × IsAtEnd new
+
+-- a header and a sheet of as many bytes as `size` says were taken from the input, and `line` of them was written
+abbrev pub AnswersFrame : (input input' out out' : Option (List ℕ)) (size : Lengths → ℕ) (line : List ℕ → Lengths → List ℕ) → Type 0
+AnswersFrame input input' out out' size line =
+    (lengths : Lengths) × (head sheet : List ℕ) × IsHeader head lengths × (length sheet ≡ size lengths) × Consumes input input' (head ++ sheet)
+    × Appends out out' (line sheet lengths)
+
+-- all that was left of the input was taken: fewer bytes than a header has, or a header and fewer bytes than `size` says
+abbrev pub EndsFrames : (old new : Option (List ℕ)) (size : Lengths → ℕ) → Type 0
+EndsFrames old new size =
+    TakesHeader old new None
+    ⊎ ((lengths : Lengths) × (head part : List ℕ) × IsHeader head lengths × (length part < size lengths) × Consumes old new (head ++ part) × IsAtEnd new)

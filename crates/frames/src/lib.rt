@@ -3,7 +3,7 @@
 
 ghost use Rattle.std.specs.Prelude.{◌≡◌, ◌<◌, ◌≤◌, IfOk, length, take};
 ghost use Rattle.std.specs.Io.KnownBytes.{Consumes, IsAtEnd};
-ghost use Rattle.frames.specs.Frame.{digit_of, number_of, TakesHeader, TakesSheet};
+ghost use Rattle.frames.specs.Frame.{digit_of, number_of, Fills, TakesHeader};
 
 use std::io;
 use std::io::Read;
@@ -17,26 +17,17 @@ pub struct Lengths {
     pub message: usize,
 }
 
-#[derive(Clone, Copy)]
-pub enum Frame {
-    Lent(Lengths),
-    Over,
-}
-
 fn digit(b: u8) -> usize
     ensures upper_bound { result ≤ 9 }
     ensures value { result ≡ digit_of b }
 {
-    if b < 48 {
-        return 0;
+    match b {
+        b'0'..=b'9' => (b - b'0') as usize,
+        _ => 0,
     }
-    if 57 < b {
-        return 0;
-    }
-    (b - 48) as usize
 }
 
-// Five digits of the header, from a position on.
+// Five digits of the header, from a position on. In a fold over them it would be left to prove that the total fits.
 fn number(head: &[u8; 24], at: usize) -> usize
     requires { at ≤ 19 }
     ensures { result ≡ number_of head.now at }
@@ -48,7 +39,7 @@ fn number(head: &[u8; 24], at: usize) -> usize
         + digit(head[at + 4])
 }
 
-// Reads until the bytes are full or the input ends; how many bytes of it there were.
+// Reads until the bytes are full or the input ends; how many bytes of it there were. A while: each read gives as many as it likes.
 pub fn read_full<R: Read>(input: &mut R, bytes: &mut [u8]) -> io::Result<usize>
     ensures bound { IfOk result (λ n. n ≤ length bytes.new) }
     ensures consumed { IfOk result (λ n. Consumes (R.remaining input.old) (R.remaining input.new) (take n bytes.new)) }
@@ -65,25 +56,26 @@ pub fn read_full<R: Read>(input: &mut R, bytes: &mut [u8]) -> io::Result<usize>
     Ok(count)
 }
 
-// Reads the next header.
-pub fn header<R: Read>(input: &mut R) -> io::Result<Frame>
+// Fills the bytes; whether there were as many.
+pub fn filled<R: Read>(input: &mut R, bytes: &mut [u8]) -> io::Result<bool>
+    ensures { IfOk result (Fills (R.remaining input.old) (R.remaining input.new) bytes.new) }
+{
+    Ok(read_full(input, bytes)? == bytes.len())
+}
+
+// Reads the next header, if there is one.
+#[tactic(auto, unfolding(crate::specs::Frame::lengths_of))]
+pub fn header<R: Read>(input: &mut R) -> io::Result<Option<Lengths>>
     ensures { IfOk result (TakesHeader (R.remaining input.old) (R.remaining input.new)) }
 {
     let mut head = [0u8; 24];
-    if read_full(input, &mut head)? < head.len() {
-        return Ok(Frame::Over);
+    if !filled(input, &mut head)? {
+        return Ok(None);
     }
-    Ok(Frame::Lent(Lengths {
+    Ok(Some(Lengths {
         sheet: number(&head, 0),
         scratch: number(&head, 6),
         types: number(&head, 12),
         message: number(&head, 18),
     }))
-}
-
-// Fills the sheet; whether there was as much.
-pub fn filled<R: Read>(input: &mut R, sheet: &mut [u8]) -> io::Result<bool>
-    ensures { IfOk result (TakesSheet (R.remaining input.old) (R.remaining input.new) sheet.new) }
-{
-    Ok(read_full(input, sheet)? == sheet.len())
 }

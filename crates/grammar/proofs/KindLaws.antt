@@ -9,10 +9,12 @@ use borrow.Author.Tests.{ltb-true, eqb-true}
 use lib.Dec.{eqb, ltb}
 use lib.ListN.{length, get_or}
 use Prim.Native.String.{String}
+use Rattle.std.specs.Prelude.{Option, Some, IfSome}
+use Rattle.std.specs.Bool.{then_some}
 use Rattle.text.specs.Text.{bytes, ended, same}
 use Rattle.text.specs.Word.{index_in, split}
 use Rattle.text.proofs.Words.{same-is}
-use Rattle.grammar.specs.Grammar.{assign_ops, un_ops, bin_ops, Sort, Contract, Item, Field, Param, Ty, Arg, Clause, Stmt, Expr, records_for, no_kind, first_kind, within, words_of, kind_for}
+use Rattle.grammar.specs.Grammar.{Placed, assign_ops, un_ops, bin_ops, Sort, Contract, Item, Field, Param, Ty, Arg, Clause, Stmt, Expr, records_for, no_kind, first_kind, within, words_of, kind_for}
 use Rattle.grammar.specs.Table.{sort_of, sort_number}
 
 -- the words of a sort's records, as the code has them
@@ -72,21 +74,32 @@ stands ws k (v ∷ vs) (suc i) e h = by_cases (eqb (index_in v ws) k) e (λ f. s
     by_cases true f g = omega (arith, g f)
     by_cases false f g = absurd (true≢false (sym f))
 
--- A word is tried, the one at place k: r is k where the field w is that word, else the number of words.
-tried : (ws : List (List ℕ)) → standing ws 0 ws ≡ true → (w : List ℕ) (k r : ℕ) → r ≡ cond (same w (get_or ws k [])) k (length ws) → r < length ws → r ≡ index_in w ws
-tried ws o w k r e h = by_cases (same w (get_or ws k [])) refl e
+-- A word v is tried, the one at place k.
+tried : (ws : List (List ℕ)) → standing ws 0 ws ≡ true → (w v : List ℕ) (k : ℕ) (r : Option ℕ) → r ≡ then_some (same w v) k → get_or ws k [] ≡ v → k < length ws → Placed w ws r
+tried ws o w v k r e h i = record { place = rw e (by_cases (same w v) refl) }
   where
-    by_cases : (t : Bool) → same w (get_or ws k []) ≡ t → r ≡ cond t k (length ws) → r ≡ index_in w ws
-    by_cases true s q = rw (same-is w (get_or ws k []) s) (omega (arith, stands ws 0 ws k o (omega arith)))
-    by_cases false s q = absurd (omega arith)
+    by_cases : (t : Bool) → same w v ≡ t → IfSome (then_some t k) (λ k. k ≡ index_in w ws)
+    by_cases true s = rw (same-is w v s, ← h) (omega (arith, stands ws 0 ws k o i))
+    by_cases false s = tt
 
-pub tried_expr : (w : List ℕ) (k r : ℕ) → r ≡ cond (same w (get_or (words_of (records_for Expr)) k [])) k 14 → r < 14 → r ≡ index_in w (words_of (records_for Expr))
+pub tried_expr : (w v : List ℕ) (k : ℕ) (r : Option ℕ) → r ≡ then_some (same w v) k → get_or (words_of (records_for Expr)) k [] ≡ v → k < length (words_of (records_for Expr))
+    → Placed w (words_of (records_for Expr)) r
 unfolding index_in same standing
 tried_expr = tried (words_of (records_for Expr)) refl
 
-pub tried_bin : (w : List ℕ) (k r : ℕ) → r ≡ cond (same w (get_or bin_ops k [])) k 14 → r < 14 → r ≡ index_in w bin_ops
+pub tried_bin : (w v : List ℕ) (k : ℕ) (r : Option ℕ) → r ≡ then_some (same w v) k → get_or bin_ops k [] ≡ v → k < length bin_ops → Placed w bin_ops r
 unfolding index_in same standing
 tried_bin = tried bin_ops refl
+
+-- The place is known, or looked for in the table.
+pub known : (w : List ℕ) (ws : List (List ℕ)) (r : Option ℕ) (k : ℕ) → Placed w ws r → r ≡ Some k → k ≡ index_in w ws
+known w ws r k p e = rw e at p.place
+
+pub looked_expr : (w : List ℕ) (k : ℕ) → k ≡ index_in w (split (bytes (table Expr))) → k ≡ index_in w (words_of (records_for Expr))
+looked_expr w k e = e ∙ rw (words_of_lem Expr)
+
+pub looked_bin : (w : List ℕ) (k : ℕ) → k ≡ index_in w (split (bytes "or and eq ne lt gt le ge add sub mul div rem shr ")) → k ≡ index_in w bin_ops
+looked_bin w k e = e ∙ rw bin-words
 
 pub kind_at_lem : (s : Sort) (w : List ℕ) (p r : ℕ) → p ≡ index_in w (words_of (records_for s)) → r ≡ within (first_kind s) (length (records_for s)) p → r ≡ kind_for s w
 unfolding kind_for

@@ -1,5 +1,5 @@
 -- The records of a sheet as tables: of each its word, its fields, its parts, and where it may stand.
-use Rattle.std.specs.Prelude.{ℕ, ◌+◌, cond, List, [], ◌∷◌, ◌++◌, ltb, length, get_or}
+use Rattle.std.specs.Prelude.{ℕ, ◌+◌, cond, List, [], ◌∷◌, ◌++◌, ltb, length, get_or, Option, IfSome, ◌≡◌}
 use Prim.Native.String.{String}
 use Rattle.text.specs.Text.{bytes}
 use Rattle.text.specs.Word.{index_in}
@@ -125,3 +125,7 @@ words_of (r ∷ rs) = bytes r.word ∷ words_of rs
 -- the kind of the record with the word w where the sort s is due, or `no_kind`
 unfoldable pub kind_for : Sort → List ℕ → ℕ
 kind_for s w = within (first_kind s) (length (records_for s)) (index_in w (words_of (records_for s)))
+
+-- r is the place of w among ws, or isn't known
+pub record Placed (w : List ℕ) (ws : List (List ℕ)) (r : Option ℕ) : Type 0 where
+  pub place : IfSome r (λ k. k ≡ index_in w ws)

@@ -79,6 +79,7 @@ pub const WRAPPING: usize = 33;
 // No record's kind.
 pub const NONE: usize = 34;
 
+#[tactic(auto, using(std::proofs::lemmas::Bool::Decides::nat_tests))]
 fn within(first: usize, n: usize, p: usize) -> usize
     requires { first + n ≤ no_kind }
     ensures { result ≡ within_of first n p }

@@ -5,14 +5,13 @@ ghost use Rattle.grammar.specs.Grammar.{no_kind};
 ghost use Rattle.grammar.specs.Table.{always_table, length_table, most_fields, most_groups, rule_column, sort_table, span_rule};
 
 use crate::field_rules;
-use text::wide;
 
 // The number of fields after the word.
 pub fn fields(kind: usize) -> usize
     requires { kind < no_kind }
     ensures { result ≡ get_or length_table kind 0 }
 {
-    wide(LENGTHS[kind])
+    usize::from(LENGTHS[kind])
 }
 
 // The number of the rule of field j. A table for each field: only the one that is read is made.
@@ -41,7 +40,7 @@ pub fn always(kind: usize) -> usize
     requires { kind < no_kind }
     ensures { result ≡ get_or always_table kind 0 }
 {
-    wide(ALWAYS[kind])
+    usize::from(ALWAYS[kind])
 }
 
 // The sort of the parts of group g.

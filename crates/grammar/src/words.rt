@@ -1,30 +1,32 @@
 // The tables of fourteen words: the word that a field may be is guessed, and tried before the table is looked through.
-ghost use Rattle.std.specs.Prelude.{cond, ◌≡◌, ◌<◌};
+ghost use Rattle.std.specs.Prelude.{◌≡◌};
+ghost use Rattle.std.specs.Bool.{then_some};
 ghost use Rattle.text.specs.Text.{same};
 ghost use Rattle.text.specs.Word.{index_in};
-ghost use Rattle.grammar.specs.Grammar.{bin_ops, Expr, records_for, words_of};
+ghost use Rattle.grammar.specs.Grammar.{bin_ops, Expr, Placed, records_for, words_of};
 
 use crate::ops;
-use text::{index_in, is_word, wide};
+use text::{index_in, is_word};
 
 // A number that differs for the words of each table; it decides only which word is tried first.
 fn guess(field: &[u8]) -> usize {
     if field.len() < 2 {
         return 0;
     }
-    (wide(field[0]) + 6 * wide(field[1]) + 13 * (field.len() % 32)) % 32
+    (usize::from(field[0]) + 6 * usize::from(field[1]) + 13 * (field.len() % 32)) % 32
 }
 
-// The place k where the field is the word; else 14.
-fn index_if(field: &[u8], word: &[u8], k: usize) -> usize
-    ensures { result ≡ cond (same field.now word.now) k 14 }
+// The place k where the field is the word.
+fn index_if(field: &[u8], word: &[u8], k: usize) -> Option<usize>
+    ensures { result ≡ then_some (same field.now word.now) k }
 {
-    if is_word(field, word) { k } else { 14 }
+    is_word(field, word).then_some(k)
 }
 
-// The place of the guessed word of an expression, which is its kind less `kinds::INT`, where the field is that word; else 14.
-fn try_expr(field: &[u8]) -> usize
-    ensures { result < 14 → result ≡ index_in field.now (words_of (records_for Expr)) }
+// The place of the guessed word of an expression, which is its kind less `kinds::INT`, where the field is that word.
+#[tactic(auto, using(crate::proofs::KindLaws::tried_expr))]
+fn try_expr(field: &[u8]) -> Option<usize>
+    ensures { Placed field.now (words_of (records_for Expr)) result }
 {
     match guess(field) {
         4 => index_if(field, b"int", 0),
@@ -41,16 +43,16 @@ fn try_expr(field: &[u8]) -> usize
         29 => index_if(field, b"call", 11),
         14 => index_if(field, b"checked", 12),
         11 => index_if(field, b"wrapping", 13),
-        _ => 14,
+        _ => None,
     }
 }
 
 // The place of a field among the words of the expressions.
+#[tactic(auto, using(crate::proofs::KindLaws::known, crate::proofs::KindLaws::looked_expr))]
 pub fn index_expr(field: &[u8]) -> usize
     ensures { result ≡ index_in field.now (words_of (records_for Expr)) }
 {
-    let k = try_expr(field);
-    if k < 14 {
+    if let Some(k) = try_expr(field) {
         return k;
     }
     index_in(
@@ -59,9 +61,10 @@ pub fn index_expr(field: &[u8]) -> usize
     )
 }
 
-// The place of the guessed operator of `bin`, where the field is that operator; else 14.
-fn try_bin(field: &[u8]) -> usize
-    ensures { result < 14 → result ≡ index_in field.now bin_ops }
+// The place of the guessed operator of `bin`, where the field is that operator.
+#[tactic(auto, using(crate::proofs::KindLaws::tried_bin))]
+fn try_bin(field: &[u8]) -> Option<usize>
+    ensures { Placed field.now bin_ops result }
 {
     match guess(field) {
         21 => index_if(field, b"or", ops::BIN_OR),
@@ -78,16 +81,16 @@ fn try_bin(field: &[u8]) -> usize
         1 => index_if(field, b"div", ops::BIN_DIV),
         23 => index_if(field, b"rem", ops::BIN_REM),
         10 => index_if(field, b"shr", ops::BIN_SHR),
-        _ => 14,
+        _ => None,
     }
 }
 
 // The place of a field among the operators of `bin`.
+#[tactic(auto, using(crate::proofs::KindLaws::known, crate::proofs::KindLaws::looked_bin))]
 pub fn index_bin(field: &[u8]) -> usize
     ensures { result ≡ index_in field.now bin_ops }
 {
-    let k = try_bin(field);
-    if k < 14 {
+    if let Some(k) = try_bin(field) {
         return k;
     }
     index_in(field, b"or and eq ne lt gt le ge add sub mul div rem shr ")

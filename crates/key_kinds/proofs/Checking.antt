@@ -3,16 +3,19 @@ use mathlib.Core.Logic.{◌≢◌}
 use mathlib.Core.Path.{◌≡◌, refl, sym, ap, ◌∙◌}
 use mathlib.Core.List.{List, [], ◌∷◌, ◌++◌}
 use mathlib.Core.Bool.{Bool, true, false, cond, not, ◌&&◌, true≢false}
-use mathlib.Core.Option.{Option, none, some}
+use mathlib.Core.Option.{Option as Maybe, none, some}
 use Prim.Native.Nat.{ℕ, zero, suc, ◌+◌, ◌-◌, ◌<◌, ◌≤◌}
 use native.Mathlib.Numerals.{add-one}
 use native.Mathlib.Omega.{arith}
 use lib.Dec.{eqb}
 use lib.ListN.{replicate, length-replicate, get_or-replicate}
 use borrow.Author.Tests.{eq-eqb, ne_eqb, eqb-true, eqb-false, not-true, not-false}
+use Rattle.std.specs.Prelude.{Option, Some, None, Result, Ok, Err}
 use Rattle.grammar.specs.Grammar as grammar
 use Rattle.sheet.specs.Scratch.{kind_at, end_at, name_at, skip, line_count, call_arg_count, item_count}
+use Rattle.sheet.specs.Records.{Steps}
 use Rattle.sheet.specs.Tree.{Node, take_nodes}
+use Rattle.sheet.specs.declared.records.Records.{Records}
 use Rattle.sheet.proofs.Holds.{all_le, all_most}
 use Rattle.rules.specs.Text.{Name, is_one}
 use Rattle.rules.specs.Ast.{Expr, Exprs, nil, more, span, exprs_of}
@@ -23,17 +26,13 @@ use Rattle.rules.specs.Standing.{node_at, nodes_at, expr_at, exprs_at, named_at,
 use Rattle.rules.specs.Typing.{Dot, ident_of, dot_of}
 use Rattle.rules.proofs.Exprs.{call_at_lem, dot_at_lem, ident_at, is_dot_at}
 use Rattle.rules.proofs.Records.{named}
-use Rattle.rules.proofs.Rows.{records, RowWalk, row_over, row_here, row_found, row_onward}
+use Rattle.rules.proofs.Rows.{records, IterWalk, iter_here, iter_found, iter_onward, iter_over}
 use Rattle.rules.proofs.Standing.{stands, exprs_next, row_first, row_rest, row_nth}
 use Rattle.refusals.specs.Answers.{Answers}
 use Rattle.lookups.specs.Found.{ItemAt}
 use Rattle.lookups.specs.Lines.{FewLines, ExprAt}
 use Rattle.refusals.specs.Refusal.{done_of}
-use Rattle.lookups.specs.declared.model.Found.{Found}
-use Rattle.lookups.specs.declared.model.Found.TheVariants.{At, Nothing}
 use Rattle.refusals.specs.declared.refusal.Refusal.{Refusal}
-use Rattle.refusals.specs.declared.refusal.Done.{Done}
-use Rattle.refusals.specs.declared.refusal.Done.TheVariants.{Fine, Refused}
 use Rattle.lookups.proofs.Fields.{items_at}
 use Rattle.lookups.proofs.Items.{entries_of, entries_next, entries_other}
 use Rattle.key_kinds.specs.Uses.{keyed_at, call_at, names_at, uses_at, entry_uses, item_uses, MapNamed, kind_of, Noted, KeyMarks, Passed, Judged, OneEntry, InEntry}
@@ -45,7 +44,7 @@ use Rattle.sheet.specs.Line.{most_lines}
 -- ------------------------------------------------------------ one call
 
 -- by whether there is no argument, the callee is a dot, its base an `id`, and its name a method's
-here_by : (o : Option Dot) (es : Exprs) (dot : Dot) (x : Name) (key : Expr) (fs : Exprs) (bare is-dot is-id method : Bool) → o ≡ cond is-dot (some dot) none
+here_by : (o : Maybe Dot) (es : Exprs) (dot : Dot) (x : Name) (key : Expr) (fs : Exprs) (bare is-dot is-id method : Bool) → o ≡ cond is-dot (some dot) none
     → es ≡ cond bare nil (more key fs) → (is-dot ≡ true → ident_of dot.base ≡ cond is-id (some x) none)
     → is_one dot.name ("set" ∷ "get" ∷ "contains" ∷ "insert" ∷ "remove" ∷ "credit" ∷ "debit" ∷ []) ≡ method
     → keyed_here o es ≡ cond ((not bare && (is-dot && is-id)) && method) ((x, key) ∷ []) []
@@ -111,7 +110,7 @@ module _ (s S : List ℕ) (e i : ℕ) (h : InEntry s S e i) (b : Bool) (eb : b �
   abbrev d : Loaded s S
   d = h.one.entry.loaded
 
-  pub no_call : (ks : List ℕ) → not b ≡ true → Judged s S ks ks (uses_at s S e i) Fine
+  pub no_call : (ks : List ℕ) → not b ≡ true → Judged s S ks ks (uses_at s S e i) (Ok tt)
   unfolding uses_at uses_of
   no_call ks q = none_judged s S ks _ (rw (call-is d h.within, ← eb, not-true b q) refl)
 
@@ -122,22 +121,22 @@ module _ (s S : List ℕ) (e i : ℕ) (h : InEntry s S e i) (b : Bool) (eb : b �
     pub key_here : (key : ℕ) → key ≡ end_at S (i + 1) → ExprAt s S key
     key_here key ek = rw (ek, add-one i) (record { loaded = d; here = (key_at d h.within (sym eb ∙ q)).0 })
 
-    module _ (x : Name) (ex : x ≡ name_at s S (i + 2)) (r : Found) (n : MapNamed s S x r) where
+    module _ (x : Name) (ex : x ≡ name_at s S (i + 2)) (r : Option ℕ) (n : MapNamed s S x r) where
       two : i + 2 ≡ suc (suc i)
       two = omega arith
 
       the_call : call_at s S i ≡ (x, expr_at s (end_at S (suc i))) ∷ []
       the_call = call-is d h.within ∙ rw (← eb, q, ex, two) refl
 
-      pub no_use : (ks : List ℕ) → r ≡ Nothing → Judged s S ks ks (uses_at s S e i) Fine
+      pub no_use : (ks : List ℕ) → r ≡ None → Judged s S ks ks (uses_at s S e i) (Ok tt)
       unfolding uses_at
       no_use ks z = none_judged s S ks _ (rw the_call (not_used _ _ _ (n.keyed ∙ rw z refl)))
 
-      module _ (f : ℕ) (er : r ≡ At f) where
+      module _ (f : ℕ) (er : r ≡ Some f) where
         pub mark-within : f < most_lines
         mark-within = omega (arith, (n.field f er).kind.0, h.one.lines.few)
 
-        pub use_fits : (ks ls : List ℕ) (key : ℕ) (v : Bool) (a : Done) → key ≡ end_at S (i + 1) → v ≡ is_name_key (names_at s e) (expr_at s key) → Noted ks ls f v (i + 2) key a
+        pub use_fits : (ks ls : List ℕ) (key : ℕ) (v : Bool) (a : Result Unit Refusal) → key ≡ end_at S (i + 1) → v ≡ is_name_key (names_at s e) (expr_at s key) → Noted ks ls f v (i + 2) key a
             → Judged s S ks ls (uses_at s S e i) a
         unfolding uses_at
         use_fits ks ls key v a ek ev t =
@@ -178,7 +177,7 @@ walk_start s S ks e end at h q a =
     })
 
 module _ (s S ks ls : List ℕ) (e end at : ℕ) (w : Walking s S ks ls e end at) where
-  pub walk_over : end ≤ at → Judged s S ks ls (entry_uses s e) Fine
+  pub walk_over : end ≤ at → Judged s S ks ls (entry_uses s e) (Ok tt)
   unfolding left_uses uses_of
   walk_over h = passed_over s S ks ls _ _ w.passed (ap (uses_of (model_in s) (names_at s e)) (calls_none s S at end h))
 
@@ -193,25 +192,25 @@ module _ (s S ks ls : List ℕ) (e end at : ℕ) (w : Walking s S ks ls e end at
     turn =
         ap (uses_of (model_in s) (names_at s e)) (calls_next s S at end h ∙ rw (add-one at) refl) ∙ uses-append (model_in s) (names_at s e) (call_at s S at) (calls s S (at + 1) end)
 
-    module _ (ms : List ℕ) (r : Done) (j : Judged s S ls ms (uses_at s S e at) r) where
-      pub walk_next : r ≡ Fine → Walking s S ks ms e end (at + 1)
+    module _ (ms : List ℕ) (r : Result Unit Refusal) (j : Judged s S ls ms (uses_at s S e at) r) where
+      pub walk_next : r ≡ Ok tt → Walking s S ks ms e end (at + 1)
       walk_next q = record { one = w.one; stop = w.stop; passed = passed_next s S ks ls _ _ w.passed ms _ _ r turn j q }
 
-      pub walk_refused : (why : Refusal) → r ≡ Refused why → Judged s S ks ms (entry_uses s e) (Refused why)
+      pub walk_refused : (why : Refusal) → r ≡ Err why → Judged s S ks ms (entry_uses s e) (Err why)
       walk_refused why q = passed_refused s S ks ls _ _ w.passed ms _ _ r turn j why q
 
 -- ------------------------------------------------------------ items
 
 -- What `check_item` meets: an item of the kind k.
 module _ (s S : List ℕ) (i k : ℕ) (ek : k ≡ kind_at S i) where
-  pub no_entry : (ks : List ℕ) → k ≢ kinds.entry → Judged s S ks ks (item_uses s S i) Fine
+  pub no_entry : (ks : List ℕ) → k ≢ kinds.entry → Judged s S ks ks (item_uses s S i) (Ok tt)
   unfolding item_uses
   no_entry ks q = none_judged s S ks _ (rw (item_uses, ← ek, ne_eqb k kinds.entry q) refl)
 
   pub an_entry : FewLines s S → ItemAt s S i → k ≡ kinds.entry → OneEntry s S i
   an_entry f h q = record { lines = f; entry = record { loaded = f.loaded; within = h.here.within; kind = sym ek ∙ q } }
 
-  pub entry-judged : (ks ls : List ℕ) (r : Done) → k ≡ kinds.entry → Judged s S ks ls (entry_uses s i) r → Judged s S ks ls (item_uses s S i) r
+  pub entry-judged : (ks ls : List ℕ) (r : Result Unit Refusal) → k ≡ kinds.entry → Judged s S ks ls (entry_uses s i) r → Judged s S ks ls (item_uses s S i) r
   unfolding item_uses
   entry-judged ks ls r q j = rw (item_uses, ← ek, eq-eqb k kinds.entry q) j
 
@@ -237,49 +236,51 @@ no_marks {s} {S} f =
     by_cases true = refl
     by_cases false = refl
 
--- the items from line at on are left, which the marks ls are for
-pub record Items (s S ls : List ℕ) (left at : ℕ) : Type 0 where
+-- the items that r gives are left, which the marks ls are for
+pub record Items (s S ls : List ℕ) (r : Records) : Type 0 where
   pub lines : FewLines s S
-  pub walk : RowWalk grammar.Item nodes_at (λ ts. Passed s S (replicate most_lines 0) ls (uses (model_in s) (model_in s).entries) (uses (model_in s) (entries_of ts))) s S left at
+  pub walk : IterWalk grammar.Item nodes_at (λ ts. Passed s S (replicate most_lines 0) ls (uses (model_in s) (model_in s).entries) (uses (model_in s) (entries_of ts))) s S r
 
 -- all of them are judged
-all_items : {s S : List ℕ} (ls : List ℕ) (r : Done) → FewLines s S → Judged s S (replicate most_lines 0) ls (uses (model_in s) (model_in s).entries) r → Answers (check_key_kinds (model_in s)) (done_of s r)
+all_items : {s S : List ℕ} (ls : List ℕ) (r : Result Unit Refusal) → FewLines s S → Judged s S (replicate most_lines 0) ls (uses (model_in s) (model_in s).entries) r → Answers (check_key_kinds (model_in s)) (done_of s r)
 unfolding check_key_kinds
 all_items {s} {S} ls r f j = all_judged s S (replicate most_lines 0) ls _ r (no_marks f) j
 
-pub items_start : (s S : List ℕ) (left : ℕ) → FewLines s S → left ≡ item_count S 0 → Items s S (replicate most_lines 0) left 1
-items_start s S left f e =
+pub items_start : (s S : List ℕ) (r : Records) → FewLines s S → r.lines.now ≡ S → r.left ≡ item_count S 0 → r.at ≡ 1 → Items s S (replicate most_lines 0) r
+items_start s S r f l e a =
     let q = items_at f.loaded in
-    rw e
-    (record {
+    record {
       lines = f;
-      walk = record { loaded = f.loaded; row = q.1; known = passed_start s S _ _ _ (ap (λ m. uses (model_in s) m.entries) q.0) };
-    })
+      walk = record {
+        lines = l;
+        walk = rw (e, a) (record { loaded = f.loaded; row = q.1; known = passed_start s S _ _ _ (ap (λ m. uses (model_in s) m.entries) q.0) });
+      };
+    }
 
-module _ (s S ls : List ℕ) (left at : ℕ) (w : Items s S ls left at) where
-  pub items_over : left ≤ 0 → Answers (check_key_kinds (model_in s)) (done_of s Fine)
+module _ (s S ls : List ℕ) (r : Records) (w : Items s S ls r) where
+  pub items_over : r.left ≡ 0 → Answers (check_key_kinds (model_in s)) (done_of s (Ok tt))
   unfolding uses build
-  items_over h = all_items ls Fine w.lines (passed_over s S _ ls _ _ (row_over records w.walk h) refl)
+  items_over h = all_items ls (Ok tt) w.lines (passed_over s S _ ls _ _ (iter_over records w.walk h) refl)
 
-  module _ (h : 0 < left) where
-    here : Here S grammar.Item at
-    here = row_here w.walk h
+  module _ (t : Records) (i : ℕ) (h : Steps r i t) where
+    here : Here S grammar.Item i
+    here = iter_here h w.walk
 
-    pub item_here : ItemAt s S at
+    pub item_here : ItemAt s S i
     item_here = record { loaded = w.lines.loaded; here = here }
 
-    item_turn : (ts : List Node) → uses (model_in s) (entries_of (node_at s at ∷ ts)) ≡ item_uses s S at ++ uses (model_in s) (entries_of ts)
+    item_turn : (ts : List Node) → uses (model_in s) (entries_of (node_at s i ∷ ts)) ≡ item_uses s S i ++ uses (model_in s) (entries_of ts)
     item_turn = item_next (model_in s) refl w.lines.loaded here
 
-    module _ (ms : List ℕ) (r : Done) (j : Judged s S ls ms (item_uses s S at) r) where
-      pub items_next : (at' : ℕ) → r ≡ Fine → at' ≡ end_at S at → Items s S ms (left - 1) at'
-      items_next at' q a =
+    module _ (ms : List ℕ) (d : Result Unit Refusal) (j : Judged s S ls ms (item_uses s S i) d) where
+      pub items_next : d ≡ Ok tt → Items s S ms t
+      items_next q =
           record {
             lines = w.lines;
-            walk = row_onward records w.walk h at' a (λ ts z. passed_next s S _ ls _ _ z ms _ _ r (item_turn ts) j q);
+            walk = iter_onward h records w.walk (λ ts z. passed_next s S _ ls _ _ z ms _ _ d (item_turn ts) j q);
           }
 
-      pub items_refused : (why : Refusal) → r ≡ Refused why → Answers (check_key_kinds (model_in s)) (done_of s (Refused why))
+      pub items_refused : (why : Refusal) → d ≡ Err why → Answers (check_key_kinds (model_in s)) (done_of s (Err why))
       items_refused why q =
-          row_found records w.walk h
-          (λ ts z. all_items ms (Refused why) w.lines (passed_refused s S _ ls _ _ z ms _ _ r (item_turn ts) j why q))
+          iter_found h records w.walk
+          (λ ts z. all_items ms (Err why) w.lines (passed_refused s S _ ls _ _ z ms _ _ d (item_turn ts) j why q))

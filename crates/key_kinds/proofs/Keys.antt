@@ -3,29 +3,31 @@ use mathlib.Core.Logic.{◌≢◌}
 use mathlib.Core.Path.{◌≡◌, refl, sym, ap, ◌∙◌}
 use mathlib.Core.List.{List, [], ◌∷◌}
 use mathlib.Core.Bool.{Bool, true, false, not, ◌&&◌, ◌||◌}
-use Prim.Native.Nat.{ℕ, suc, ◌+◌, ◌-◌, ◌<◌, ◌≤◌}
+use Prim.Native.Nat.{ℕ, suc, ◌+◌, ◌<◌}
 use native.Mathlib.Numerals.{add-one}
 use native.Mathlib.Omega.{arith}
 use lib.Dec.{eqb, ltb}
 use lib.ListN.{length}
-use borrow.Author.Tests.{eq-eqb, ne_eqb, lt-ltb, le-ltb}
+use borrow.Author.Tests.{eq-eqb, ne_eqb}
 use mir.Val.{Fits}
 use mir.Syntax.{w64}
+use Rattle.std.specs.Bool.{then_some}
+use Rattle.std.specs.Prelude.{Option, Some, None}
 use Rattle.text.specs.Text.{bytes, same, ended}
 use Rattle.text.specs.Word.{index_in, split}
 use Rattle.grammar.specs.Grammar as grammar
-use Rattle.sheet.specs.Scratch.{kind_at, end_at, name_at, line_count, call_arg_count, param_count}
+use Rattle.sheet.specs.Scratch.{kind_at, name_at, line_count, call_arg_count, param_count}
+use Rattle.sheet.specs.Records.{Steps}
+use Rattle.sheet.specs.declared.records.Records.{Records}
 use Rattle.rules.specs.Text.{Name, is, is_one, among}
 use Rattle.rules.specs.Ast.{Param, type_name}
 use Rattle.rules.specs.KeyKinds.{is_keyed, is_name_key, name_params}
 use Rattle.rules.specs.Standing.{expr_at, field_at, param_at, params_at, model_in, Loaded, Here}
 use Rattle.rules.proofs.Exprs.{ident_at}
 use Rattle.rules.proofs.Records.{entry_at_lem, field_at_lem, param_at_lem}
-use Rattle.rules.proofs.Rows.{params, row_here, Seeking, seek_found, seek_next, among_any}
+use Rattle.rules.proofs.Rows.{params, iter_here, Seeking, seek_found, seek_next, among_any}
 use Rattle.lookups.specs.Found.{found_field, FieldNamed}
 use Rattle.lookups.specs.Lines.{EntryAt, ExprAt}
-use Rattle.lookups.specs.declared.model.Found.{Found}
-use Rattle.lookups.specs.declared.model.Found.TheVariants.{At, Nothing}
 use Rattle.lookups.proofs.Tables.{one_place}
 use Rattle.lookups.proofs.Types.{type_name_lem}
 use Rattle.key_kinds.specs.Uses.{keyed_at, names_at, MapNamed}
@@ -73,14 +75,14 @@ module _ (s S : List ℕ) (i k : ℕ) (ek : k ≡ kind_at S i) where
 
 -- ------------------------------------------------------------ maps
 
-module _ (s S : List ℕ) (x : Name) (d : Loaded s S) (r : Found) (n : FieldNamed s S x r) where
-  pub no_field : r ≡ Nothing → MapNamed s S x Nothing
+module _ (s S : List ℕ) (x : Name) (d : Loaded s S) (r : Option ℕ) (n : FieldNamed s S x r) where
+  pub no_field : r ≡ None → MapNamed s S x None
   unfolding is_keyed found_field
   no_field e =
       record { keyed = rw (is_keyed, ← n.found, e) refl; field = λ f q. absurd (let z : ◌≡◌ {A = ℕ} 0 1 = cc in omega arith) }
 
-  module _ (f : ℕ) (e : r ≡ At f) where
-    at : FieldNamed s S x (At f)
+  module _ (f : ℕ) (e : r ≡ Some f) where
+    at : FieldNamed s S x (Some f)
     at = rw e at n
 
     pub behind_fits : length S < 18446744073709551616 → Fits w64 (f + 1)
@@ -94,11 +96,12 @@ module _ (s S : List ℕ) (x : Name) (d : Loaded s S) (r : Found) (n : FieldName
           let q : type_name (field_at s f).ty ≡ y = rw g.0 (sym (ey ∙ ap (name_at s S) (add-one f) ∙ type_name_lem s S (suc f) (record { loaded = d; here = g.1 }))) in
           rw (is_keyed, ← at.found, q, ep) (one_place y ("Map" ∷ "Registry" ∷ []))
 
-      pub is-map : p < 2 → MapNamed s S x (At f)
-      is-map h = record { keyed = keyed ∙ lt-ltb p 2 h; field = λ g q. rw (← q) at }
-
-      pub no_map : 2 ≤ p → MapNamed s S x Nothing
-      no_map h = record { keyed = keyed ∙ le-ltb p 2 h; field = λ g q. absurd (let z : ◌≡◌ {A = ℕ} 0 1 = cc in omega arith) }
+      pub is-map : (b : Bool) (o : Option ℕ) → b ≡ ltb p 2 → o ≡ then_some b f → MapNamed s S x o
+      is-map b o h z = rw z (by_cases b (keyed ∙ sym h))
+        where
+          by_cases : (b : Bool) → is_keyed (model_in s) x ≡ b → MapNamed s S x (then_some b f)
+          by_cases true e = record { keyed = e; field = λ g q. rw (← q) at }
+          by_cases false e = record { keyed = e; field = λ g q. absurd (let z : ◌≡◌ {A = ℕ} 0 1 = cc in omega arith) }
 
 -- ------------------------------------------------------------ keys
 
@@ -121,39 +124,42 @@ module _ (s S : List ℕ) (e key k : ℕ) (h : EntryAt s S e) (g : ExprAt s S ke
 abbrev name_of : Name → Param → Bool
 name_of x p = is (type_name p.ty) "Q_Name" && same x p.name
 
--- the parameters from line at on are left
-abbrev pub Looking : (s S : List ℕ) → (e key : ℕ) → Name → (at left : ℕ) → Type 0
-Looking s S e key x at left = Seeking grammar.Param params_at (name_of x) (is_name_key (names_at s e) (expr_at s key)) s S left at
+-- the parameters that r gives are left
+abbrev pub Looking : (s S : List ℕ) → (e key : ℕ) → Name → Records → Type 0
+Looking s S e key x r = Seeking grammar.Param params_at (name_of x) (is_name_key (names_at s e) (expr_at s key)) s S r
 
-pub look_start : (s S : List ℕ) (e key k at left : ℕ) (x : Name) → EntryAt s S e → ExprAt s S key → k ≡ kind_at S key → k ≡ kinds.id → x ≡ name_at s S key → at ≡ e + 1 → left ≡ param_count S e
-    → Looking s S e key x at left
+pub look_start : (s S : List ℕ) (e key k : ℕ) (x : Name) (r : Records) → EntryAt s S e → ExprAt s S key → k ≡ kind_at S key → k ≡ kinds.id → x ≡ name_at s S key
+    → r.lines.now ≡ S → r.at ≡ e + 1 → r.left ≡ param_count S e → Looking s S e key x r
 unfolding names_at name_params
-look_start s S e key k at left x h g ek q ex ea el =
+look_start s S e key k x r h g ek q ex l ea el =
     let p = entry_at_lem h.loaded h.within h.kind in
-    rw (ea, el, add-one e)
-    (record {
-      loaded = h.loaded;
-      row = p.params;
-      known =
-          its_name s S e key k h g ek q
-          ∙ rw (p.is, ← ex) (among_any (λ p. is (type_name p.ty) "Q_Name") (λ p. p.name) name_params refl (λ p ps. refl) x (params_at s (param_count S e) (suc e)));
-    })
+    record {
+      lines = l;
+      walk = rw (ea, el, add-one e)
+          (record {
+            loaded = h.loaded;
+            row = p.params;
+            known =
+                its_name s S e key k h g ek q
+                ∙ rw (p.is, ← ex) (among_any (λ p. is (type_name p.ty) "Q_Name") (λ p. p.name) name_params refl (λ p ps. refl) x (params_at s (param_count S e) (suc e)));
+          });
+    }
 
-module _ (s S : List ℕ) (e key : ℕ) (x : Name) (at left : ℕ) (l : Looking s S e key x at left) (h : 0 < left) where
-  here : Here S grammar.Param at
-  here = row_here l h
+module _ (s S : List ℕ) (e key : ℕ) (x : Name) (r t : Records) (i : ℕ) (l : Looking s S e key x r) (h : Steps r i t) where
+  here : Here S grammar.Param i
+  here = iter_here h l
 
-  pub look_here : at < line_count S
+  pub look_here : i < line_count S
   look_here = here.within
 
-  module _ (b : Bool) (eb : b ≡ (is (name_at s S (suc at)) "Q_Name" && same x (name_at s S at))) where
-    told : b ≡ name_of x (param_at s at)
+  module _ (b : Bool) (eb : b ≡ (is (name_at s S (suc i)) "Q_Name" && same x (name_at s S i))) where
+    told : b ≡ name_of x (param_at s i)
     told =
-        let p = param_at_lem l.loaded here.within (omega (arith, here.kind.0, here.kind.1)) in
-        eb ∙ rw (p.0, ← type_name_lem s S (suc at) (record { loaded = l.loaded; here = p.1 })) refl
+        let p = param_at_lem l.walk.loaded here.within (omega (arith, here.kind.0, here.kind.1)) in
+        eb ∙ rw (p.0, ← type_name_lem s S (suc i) (record { loaded = l.walk.loaded; here = p.1 })) refl
 
     pub look_found : b ≡ true → true ≡ is_name_key (names_at s e) (expr_at s key)
-    look_found q = seek_found grammar.Param params_at s S _ _ left at l param_at params h b told q
+    look_found q = seek_found grammar.Param params_at s S _ _ r l param_at params i t h b told q
 
-    pub look_next : (at' : ℕ) → b ≡ false → at' ≡ end_at S at → Looking s S e key x at' (left - 1)
-    look_next at' q ea = seek_next grammar.Param params_at s S _ _ left at l param_at params h b told at' q ea
+    pub look_next : b ≡ false → Looking s S e key x t
+    look_next q = seek_next grammar.Param params_at s S _ _ r l param_at params i t h b told q

@@ -9,6 +9,7 @@ use lib.Dec.{eqb}
 use lib.ListN.{get_or, set, length-set}
 use lib.Seq.{get_or-set_same, get_or-set_other}
 use borrow.Author.Tests.{eq-eqb, ne_eqb, eqb-true, eqb-false}
+use Rattle.std.specs.Prelude.{Some, Result, Ok, Err}
 use Rattle.text.specs.Text.{same}
 use Rattle.text.proofs.Words.{same_self, same-is}
 use Rattle.rules.specs.Text.{Name}
@@ -20,11 +21,8 @@ use Rattle.rules.specs.Standing.{expr_at, named_at, Loaded}
 use Rattle.refusals.specs.Answers.{Answers, expected}
 use Rattle.lookups.specs.Found.{FieldNamed}
 use Rattle.refusals.specs.Refusal.{refusal_of, done_of}
-use Rattle.lookups.specs.declared.model.Found.TheVariants.{At}
 use Rattle.refusals.specs.declared.refusal.Refusal.{Refusal}
 use Rattle.refusals.specs.declared.refusal.Refusal.TheVariants.{KeyKinds}
-use Rattle.refusals.specs.declared.refusal.Done.{Done}
-use Rattle.refusals.specs.declared.refusal.Done.TheVariants.{Fine, Refused}
 use Rattle.refusals.proofs.Answers.{gives, passes, refuses}
 use Rattle.lookups.proofs.Fields.{one_line, one_name}
 use Rattle.key_kinds.specs.Uses.{kind_of, Noted, KeyMarks, Passed, Judged}
@@ -34,12 +32,12 @@ use Rattle.sheet.specs.Line.{most_lines}
 
 -- What `note` meets: c is the other mark.
 module _ (ks : List ℕ) (f : ℕ) (b : Bool) (map key c : ℕ) (e : c ≡ kind_of (not b)) where
-  pub note_other : get_or ks f 0 ≡ c → Noted ks ks f b map key (Refused (KeyKinds map key))
+  pub note_other : get_or ks f 0 ≡ c → Noted ks ks f b map key (Err (KeyKinds map key))
   unfolding expected
   note_other q =
       record { answer = rw (← e, eq-eqb (get_or ks f 0) c q) refl; marks = λ z. absurd (let w : ◌≡◌ {A = ℕ} 0 1 = cc in omega arith) }
 
-  pub note_fine : (v : ℕ) → get_or ks f 0 ≢ c → v ≡ kind_of b → Noted ks (set ks f v) f b map key Fine
+  pub note_fine : (v : ℕ) → get_or ks f 0 ≢ c → v ≡ kind_of b → Noted ks (set ks f v) f b map key (Ok tt)
   unfolding expected
   note_fine v q ev = record { answer = rw (← e, ne_eqb (get_or ks f 0) c q) refl; marks = λ z. rw ev refl }
 
@@ -53,17 +51,17 @@ cells true false k e = refl
 cells false true k e = refl
 cells false false k e = e
 
-module _ {s S : List ℕ} (d : Loaded s S) (u : Use) (f : ℕ) (n : FieldNamed s S u.map (At f)) where
+module _ {s S : List ℕ} (d : Loaded s S) (u : Use) (f : ℕ) (n : FieldNamed s S u.map (Some f)) where
   -- two names are the same where their fields are
-  same_field : (x : Name) (g : ℕ) → FieldNamed s S x (At g) → same x u.map ≡ eqb g f
+  same_field : (x : Name) (g : ℕ) → FieldNamed s S x (Some g) → same x u.map ≡ eqb g f
   same_field x g m = by_cases (eqb g f) refl (same x u.map) refl
     where
       by_cases : (t : Bool) → eqb g f ≡ t → (v : Bool) → same x u.map ≡ v → v ≡ t
       by_cases true p v q =
-          let a : FieldNamed s S x (At f) = rw (← eqb-true g f p) m in
+          let a : FieldNamed s S x (Some f) = rw (← eqb-true g f p) m in
           sym q ∙ rw (one_name d a n) (same_self u.map)
       by_cases false p true q =
-          let a : FieldNamed s S u.map (At g) = rw (← same-is x u.map q) m in
+          let a : FieldNamed s S u.map (Some g) = rw (← same-is x u.map q) m in
           absurd (eqb-false g f p (one_line d a n))
       by_cases false p false q = refl
 
@@ -83,19 +81,19 @@ module _ {s S : List ℕ} (d : Loaded s S) (u : Use) (f : ℕ) (n : FieldNamed s
       by_cases v g false q = rw (get_or-set_other ks f g (kind_of u.is_name) 0 (eqb-false g f q)) refl
 
   -- What `check_use` meets: the answer of `note` to this use.
-  module _ (ks ls : List ℕ) (map key : ℕ) (r : Done) (w : Noted ks ls f u.is_name map key r) (h : f < most_lines) (ex : named_at s map ≡ u.map) (ey : span (expr_at s key) ≡ u.at) where
+  module _ (ks ls : List ℕ) (map key : ℕ) (r : Result Unit Refusal) (w : Noted ks ls f u.is_name map key r) (h : f < most_lines) (ex : named_at s map ≡ u.map) (ey : span (expr_at s key) ≡ u.at) where
     abbrev other : Bool
     other = eqb (get_or ks f 0) (kind_of (not u.is_name))
 
-    not_fine : other ≡ true → r ≡ Refused (KeyKinds map key)
+    not_fine : other ≡ true → r ≡ Err (KeyKinds map key)
     unfolding expected
     not_fine q = w.answer ∙ rw q refl
 
-    not_refused : other ≡ false → r ≡ Fine
+    not_refused : other ≡ false → r ≡ Ok tt
     unfolding expected
     not_refused q = w.answer ∙ rw q refl
 
-    fine : r ≡ Fine → Passed s S ks ls (u ∷ []) []
+    fine : r ≡ Ok tt → Passed s S ks ls (u ∷ []) []
     unfolding check_uses
     fine e = by_cases other refl
       where
@@ -107,7 +105,7 @@ module _ {s S : List ℕ} (d : Loaded s S) (u : Use) (f : ℕ) (n : FieldNamed s
               passed = λ seen k. (u ∷ seen, put_use seen ks h k q, λ us r a. passes _ 46 _ _ _ r (rw (k.tells u f n, q) refl) a);
             })
 
-    stops : (why : Refusal) → r ≡ Refused why → (seen us : List Use) → KeyMarks s S seen ks → Answers (check_uses seen (u ∷ us)) (refused (refusal_of s why))
+    stops : (why : Refusal) → r ≡ Err why → (seen us : List Use) → KeyMarks s S seen ks → Answers (check_uses seen (u ∷ us)) (refused (refusal_of s why))
     unfolding check_uses refusal_of
     stops why e seen us k = by_cases other refl
       where
@@ -126,17 +124,17 @@ module _ (s S : List ℕ) where
   pub passed_start : (ks : List ℕ) (all left : List Use) → all ≡ left → Passed s S ks ks all left
   passed_start ks all left e = record { passed = λ seen k. (seen, k, λ us r a. rw e a) }
 
-  pub none_judged : (ks : List ℕ) (all : List Use) → all ≡ [] → Judged s S ks ks all Fine
+  pub none_judged : (ks : List ℕ) (all : List Use) → all ≡ [] → Judged s S ks ks all (Ok tt)
   none_judged ks all e =
       record { fine = λ q. passed_start ks all [] e; stops = λ why q. absurd (let z : ◌≡◌ {A = ℕ} 0 1 = cc in omega arith) }
 
   module _ (ks ls : List ℕ) (all left : List Use) (p : Passed s S ks ls all left) where
-    pub passed_over : left ≡ [] → Judged s S ks ls all Fine
+    pub passed_over : left ≡ [] → Judged s S ks ls all (Ok tt)
     passed_over e =
         record { fine = λ q. rw e at p; stops = λ why q. absurd (let z : ◌≡◌ {A = ℕ} 0 1 = cc in omega arith) }
 
-    module _ (ms : List ℕ) (here rest : List Use) (r : Done) (e : left ≡ here ++ rest) (j : Judged s S ls ms here r) where
-      pub passed_next : r ≡ Fine → Passed s S ks ms all rest
+    module _ (ms : List ℕ) (here rest : List Use) (r : Result Unit Refusal) (e : left ≡ here ++ rest) (j : Judged s S ls ms here r) where
+      pub passed_next : r ≡ Ok tt → Passed s S ks ms all rest
       passed_next q =
           record {
             passed = λ seen k.
@@ -145,7 +143,7 @@ module _ (s S : List ℕ) where
                 (b.0, b.1, λ us x y. a.2 us x (rw (e, append_assoc here rest us) (b.2 (rest ++ us) x y)));
           }
 
-      pub passed_refused : (why : Refusal) → r ≡ Refused why → Judged s S ks ms all (Refused why)
+      pub passed_refused : (why : Refusal) → r ≡ Err why → Judged s S ks ms all (Err why)
       passed_refused why q =
           record {
             fine = λ z. absurd (let w : ◌≡◌ {A = ℕ} 0 1 = cc in omega arith);
@@ -156,8 +154,8 @@ module _ (s S : List ℕ) where
           }
 
   -- all of them
-  pub all_judged : (ks ls : List ℕ) (all : List Use) (r : Done) → KeyMarks s S [] ks → Judged s S ks ls all r → Answers (check_uses [] all) (done_of s r)
+  pub all_judged : (ks ls : List ℕ) (all : List Use) (r : Result Unit Refusal) → KeyMarks s S [] ks → Judged s S ks ls all r → Answers (check_uses [] all) (done_of s r)
   unfolding done_of check_uses
-  all_judged ks ls all Fine k j =
+  all_judged ks ls all (Ok tt) k j =
       rw (← append-nil all) (((j.fine refl).passed [] k).2 [] (ok tt) (gives tt))
-  all_judged ks ls all (Refused why) k j = rw (← append-nil all) (j.stops why refl [] [] k)
+  all_judged ks ls all (Err why) k j = rw (← append-nil all) (j.stops why refl [] [] k)

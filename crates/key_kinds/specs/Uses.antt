@@ -1,5 +1,5 @@
 -- The uses of maps line by line, and the marks that the code keeps of them.
-use Rattle.std.specs.Prelude.{ℕ, suc, ◌<◌, Bool, true, false, cond, not, ◌&&◌, List, [], ◌∷◌, ◌++◌, ◌≡◌, eqb, length, get_or, set}
+use Rattle.std.specs.Prelude.{ℕ, suc, ◌<◌, Bool, true, false, cond, not, ◌&&◌, List, [], ◌∷◌, ◌++◌, ◌≡◌, eqb, length, get_or, set, Option, Some, Result, Ok, Err, is_some}
 use Rattle.sheet.specs.Scratch.{kind_at, end_at, name_at, line_count, call_arg_count}
 use Rattle.rules.specs.Text.{Name, is_one}
 use Rattle.rules.specs.Asking.{Res, refused}
@@ -11,12 +11,8 @@ use Rattle.refusals.specs.Answers.{Answers, expected}
 use Rattle.lookups.specs.Found.{FieldNamed}
 use Rattle.lookups.specs.Lines.{FewLines, EntryAt}
 use Rattle.refusals.specs.Refusal.{refusal_of}
-use Rattle.lookups.specs.declared.model.Found.{Found}
-use Rattle.lookups.specs.declared.model.Found.TheVariants.{At, Nothing}
 use Rattle.refusals.specs.declared.refusal.Refusal.{Refusal}
 use Rattle.refusals.specs.declared.refusal.Refusal.TheVariants.{KeyKinds}
-use Rattle.refusals.specs.declared.refusal.Done.{Done}
-use Rattle.refusals.specs.declared.refusal.Done.TheVariants.{Fine, Refused}
 use Rattle.grammar.specs.Kinds as kinds
 use Rattle.sheet.specs.Line.{most_lines}
 
@@ -46,14 +42,10 @@ entry_uses s e = uses_of (model_in s) (names_at s e) (keyed_in (entry_exprs (ent
 unfoldable pub item_uses : (s S : List ℕ) → ℕ → List Use
 item_uses s S i = cond (eqb (kind_at S i) kinds.entry) (entry_uses s i) []
 
-abbrev pub is_found : Found → Bool
-is_found (At i) = true
-is_found Nothing = false
-
 -- r is the field of the name x where that is a Map or Registry
-pub record MapNamed (s S : List ℕ) (x : Name) (r : Found) : Type 0 where
-  pub keyed : is_keyed (model_in s) x ≡ is_found r
-  pub field : (f : ℕ) → r ≡ At f → FieldNamed s S x (At f)
+pub record MapNamed (s S : List ℕ) (x : Name) (r : Option ℕ) : Type 0 where
+  pub keyed : is_keyed (model_in s) x ≡ is_some r
+  pub field : (f : ℕ) → r ≡ Some f → FieldNamed s S x (Some f)
 
 -- ------------------------------------------------------------ marks
 
@@ -63,14 +55,14 @@ kind_of true = 1
 kind_of false = 2
 
 -- a map of the other mark is refused, else the mark is put
-pub record Noted (ks ls : List ℕ) (f : ℕ) (b : Bool) (map key : ℕ) (r : Done) : Type 0 where
+pub record Noted (ks ls : List ℕ) (f : ℕ) (b : Bool) (map key : ℕ) (r : Result Unit Refusal) : Type 0 where
   pub answer : r ≡ expected (not (eqb (get_or ks f 0) (kind_of (not b)))) (KeyKinds map key)
-  pub marks : r ≡ Fine → ls ≡ set ks f (kind_of b)
+  pub marks : r ≡ Ok tt → ls ≡ set ks f (kind_of b)
 
 -- the marks tell of each map whether a use of the other kind was seen
 pub record KeyMarks (s S : List ℕ) (seen : List Use) (ks : List ℕ) : Type 0 where
   pub size : length ks ≡ most_lines
-  pub tells : (u : Use) (f : ℕ) → FieldNamed s S u.map (At f) → any (differs u) seen ≡ eqb (get_or ks f 0) (kind_of (not u.is_name))
+  pub tells : (u : Use) (f : ℕ) → FieldNamed s S u.map (Some f) → any (differs u) seen ≡ eqb (get_or ks f 0) (kind_of (not u.is_name))
 
 -- with the marks from ks to ls, some uses are fine up to those that are left
 pub record Passed (s S ks ls : List ℕ) (all left : List Use) : Type 0 where
@@ -78,9 +70,9 @@ pub record Passed (s S ks ls : List ℕ) (all left : List Use) : Type 0 where
       → (seen' : List Use) × KeyMarks s S seen' ls × ((us : List Use) (r : Res Unit) → Answers (check_uses seen' (left ++ us)) r → Answers (check_uses seen (all ++ us)) r)
 
 -- the answer to some uses, whatever comes behind them
-pub record Judged (s S ks ls : List ℕ) (all : List Use) (r : Done) : Type 0 where
-  pub fine : r ≡ Fine → Passed s S ks ls all []
-  pub stops : (why : Refusal) → r ≡ Refused why → (seen us : List Use) → KeyMarks s S seen ks → Answers (check_uses seen (all ++ us)) (refused (refusal_of s why))
+pub record Judged (s S ks ls : List ℕ) (all : List Use) (r : Result Unit Refusal) : Type 0 where
+  pub fine : r ≡ Ok tt → Passed s S ks ls all []
+  pub stops : (why : Refusal) → r ≡ Err why → (seen us : List Use) → KeyMarks s S seen ks → Answers (check_uses seen (all ++ us)) (refused (refusal_of s why))
 
 -- ------------------------------------------------------------ what the code asks
 

@@ -3,7 +3,7 @@ ghost use Rattle.std.specs.Prelude.{◌≡◌, ◌<◌};
 ghost use Rattle.key_kinds.specs.Uses.{Noted, kind_of};
 ghost use Rattle.sheet.specs.Line.{most_lines};
 
-use refusals::{Done, Refusal};
+use refusals::Refusal;
 use sheet::limits;
 
 fn kind_of(named: bool) -> u8
@@ -19,13 +19,13 @@ pub fn note(
     named: bool,
     map: usize,
     key: usize,
-) -> Done
+) -> Result<(), Refusal>
     requires { field < most_lines }
     ensures { Noted marks.old marks.new field named map key result }
 {
     if marks[field] == kind_of(!named) {
-        return Done::Refused(Refusal::KeyKinds { map, key });
+        return Err(Refusal::KeyKinds { map, key });
     }
     marks[field] = kind_of(named);
-    Done::Fine
+    Ok(())
 }

@@ -7,6 +7,7 @@ use native.Mathlib.Omega.{arith}
 use mir.Syntax.{w64}
 use mir.Val.{Fits}
 use lib.ListN.{length}
+use Rattle.std.specs.Prelude.{Option, Some}
 use Rattle.grammar.specs.Grammar as grammar
 use Rattle.sheet.specs.Load.{sorts, copies}
 use Rattle.sheet.specs.Scratch.{kind_at, end_at, line_count}
@@ -16,8 +17,6 @@ use Rattle.rules.proofs.Parts.{stop, ◌also◌, pick, parts}
 use Rattle.rules.proofs.Standing.{Stands, stands, nodes_next, parts_behind, row_behind, row_first}
 use Rattle.lookups.specs.Found.{FoundKind}
 use Rattle.lookups.specs.Lines.{TypeAt}
-use Rattle.lookups.specs.declared.model.Found.{Found}
-use Rattle.lookups.specs.declared.model.Found.TheVariants.{At}
 use Rattle.grammar.specs.Kinds as kinds
 
 -- the line behind line i is its type
@@ -45,9 +44,9 @@ type_behind s S i k d h e a b =
     a b (sym t.says.kind ∙ e)
 
 -- a field or parameter that was found
-module _ (k : ℕ) (s S : List ℕ) (d : Loaded s S) (r : Found) (i : ℕ) (e : r ≡ At i) (o : FoundKind S k r) (a : kinds.field ≤ k) (b : k < kinds.type) where
+module _ (k : ℕ) (s S : List ℕ) (d : Loaded s S) (r : Option ℕ) (i : ℕ) (e : r ≡ Some i) (o : FoundKind S k r) (a : kinds.field ≤ k) (b : k < kinds.type) where
   pub behind : TypeBehind s S i
-  behind = let q : FoundKind S k (At i) = rw e at o in type_behind s S i k d q.0 q.1 a b
+  behind = let q : FoundKind S k (Some i) = rw e at o in type_behind s S i k d q.0 q.1 a b
 
   pub found_typed : TypeAt s S (i + 1)
   found_typed = rw (add-one i) behind.typed

@@ -3,23 +3,25 @@ use mathlib.Core.Path.{◌≡◌, refl, sym, ◌∙◌}
 use mathlib.Core.List.{List, [], ◌∷◌, ◌++◌, map}
 use mathlib.Core.Bool.{Bool, true, false, cond, ◌&&◌, and-eq-true_iff}
 use mathlib.Core.Option.{some}
-use Prim.Native.Nat.{ℕ, ◌-◌, ◌<◌, ◌≤◌}
+use Prim.Native.Nat.{ℕ, ◌<◌, ◌≤◌}
 use native.Mathlib.Omega.{arith}
 use lib.Dec.{eqb}
 use borrow.Author.Tests.{eqb-true}
+use Rattle.std.specs.Prelude.{Some, None}
 use Rattle.text.specs.Text.{same}
 use Rattle.grammar.specs.Grammar as grammar
-use Rattle.sheet.specs.Scratch.{kind_at, end_at, name_at, item_count}
+use Rattle.sheet.specs.Scratch.{kind_at, name_at, item_count}
+use Rattle.sheet.specs.Records.{Steps}
+use Rattle.sheet.specs.declared.records.Records.{Records}
 use Rattle.sheet.specs.Tree.{Node, node}
 use Rattle.rules.specs.Text.{Name, first_named}
 use Rattle.rules.specs.Ast.{Event, item_of, event_of}
 use Rattle.rules.specs.Model.{item_model, joined, build, event_named}
 use Rattle.rules.specs.Standing.{node_name, node_at, nodes_at, event_at, model_in, Loaded, Here}
 use Rattle.rules.proofs.Parts.{stop, ◌also◌, pick}
-use Rattle.rules.proofs.Rows.{records, RowWalk, row_over, row_here, row_found, row_onward}
+use Rattle.rules.proofs.Rows.{records, IterWalk, iter_here, iter_found, iter_onward, iter_over}
 use Rattle.rules.proofs.Standing.{stands}
 use Rattle.lookups.specs.Found.{node_kind, of_kind, found_node}
-use Rattle.lookups.specs.declared.model.Found.TheVariants.{At, Nothing}
 use Rattle.lookups.proofs.Fields.{items_at}
 use Rattle.lookups.specs.Event.{found_event, EventNamed}
 use Rattle.grammar.specs.Kinds as kinds
@@ -60,32 +62,33 @@ first_node x ts t = by_cases (eqb (node_kind t) kinds.event) (same x (node_name 
     by_cases true true e f = rw (of_kind, e, first_named, f) refl
     by_cases true false e f = rw (of_kind, e, first_named, f) refl
 
--- no event of the name before line at, with left items to go
-abbrev pub EventsGoing : (s S : List ℕ) → Name → (left at : ℕ) → Type 0
-EventsGoing s S x left at =
-    RowWalk grammar.Item nodes_at
+-- no event of the name before the items that r gives
+abbrev pub EventsGoing : (s S : List ℕ) → Name → Records → Type 0
+EventsGoing s S x r =
+    IterWalk grammar.Item nodes_at
     (λ ts. (event_named (model_in s) x ≡ first_named event_name x (build (map item_of ts)).events)
     × (first_named node_name x (of_kind kinds.event (nodes_at s (item_count S 0) 1)) ≡ first_named node_name x (of_kind kinds.event ts)))
-    s S left at
+    s S r
 
-pub events_start : (s S : List ℕ) (x : Name) (m : ℕ) → Loaded s S → m ≡ item_count S 0 → EventsGoing s S x m 1
+pub events_start : (s S : List ℕ) (x : Name) (r : Records) → Loaded s S → r.lines.now ≡ S → r.left ≡ item_count S 0 → r.at ≡ 1 → EventsGoing s S x r
 unfolding event_named
-events_start s S x m d e = let q = items_at d in rw e (record { loaded = d; row = q.1; known = (rw q.0 refl, refl) })
+events_start s S x r d l e a =
+    let q = items_at d in record { lines = l; walk = rw (e, a) (record { loaded = d; row = q.1; known = (rw q.0 refl, refl) }) }
 
-module _ (s S : List ℕ) (x : Name) (left at : ℕ) (g : EventsGoing s S x left at) where
-  pub events_over : left ≤ 0 → EventNamed s S x Nothing
+module _ (s S : List ℕ) (x : Name) (r : Records) (g : EventsGoing s S x r) where
+  pub events_over : r.left ≡ 0 → EventNamed s S x None
   unfolding build of_kind first_named found_event found_node
   events_over h =
-      let k = row_over records g h in
+      let k = iter_over records g h in
       record { found = sym k.0; node = sym k.1; kind = tt }
 
-  module _ (h : 0 < left) (b : Bool) (q : b ≡ (eqb (kind_at S at) kinds.event && same x (name_at s S at))) where
+  module _ (t : Records) (at : ℕ) (h : Steps r at t) (b : Bool) (q : b ≡ (eqb (kind_at S at) kinds.event && same x (name_at s S at))) where
     item : Here S grammar.Item at
-    item = row_here g h
+    item = iter_here h g
 
     here : (node_kind (node_at s at) ≡ kind_at S at) × (node_name (node_at s at) ≡ name_at s S at)
     unfolding node_kind node_name
-    here = let t = stands g.loaded at item.within in rw t.here (sym t.says.kind, sym t.spells.name)
+    here = let z = stands g.walk.loaded at item.within in rw z.here (sym z.says.kind, sym z.spells.name)
 
     told : (ts : List Node) → first_named event_name x (build (map item_of (node_at s at ∷ ts))).events ≡ cond b (some (event_at s at)) (first_named event_name x (build (map item_of ts)).events)
     unfolding build joined event_at
@@ -97,10 +100,10 @@ module _ (s S : List ℕ) (x : Name) (left at : ℕ) (g : EventsGoing s S x left
     told_node : (ts : List Node) → first_named node_name x (of_kind kinds.event (node_at s at ∷ ts)) ≡ cond b (some (node_at s at)) (first_named node_name x (of_kind kinds.event ts))
     told_node ts = rw (first_node x ts (node_at s at), here.0, here.1, q) refl
 
-    pub events_hit : b ≡ true → EventNamed s S x (At at)
+    pub events_hit : b ≡ true → EventNamed s S x (Some at)
     unfolding found_event found_node
     events_hit e =
-        row_found records g h
+        iter_found h records g
         (λ ts k.
         record {
           found = sym (k.0 ∙ told ts ∙ rw e refl);
@@ -108,5 +111,5 @@ module _ (s S : List ℕ) (x : Name) (left at : ℕ) (g : EventsGoing s S x left
           kind = (item.within, eqb-true (kind_at S at) kinds.event ((and-eq-true_iff (eqb (kind_at S at) kinds.event) (same x (name_at s S at))).0 (sym q ∙ e)).0);
         })
 
-    pub events_turn : (at' : ℕ) → b ≡ false → at' ≡ end_at S at → EventsGoing s S x (left - 1) at'
-    events_turn at' e y = row_onward records g h at' y (λ ts k. (k.0 ∙ told ts ∙ rw e refl, k.1 ∙ told_node ts ∙ rw e refl))
+    pub events_turn : b ≡ false → EventsGoing s S x t
+    events_turn e = iter_onward h records g (λ ts k. (k.0 ∙ told ts ∙ rw e refl, k.1 ∙ told_node ts ∙ rw e refl))

@@ -4,16 +4,20 @@ use mathlib.Core.Path.{◌≡◌, refl, sym, ap, ◌∙◌}
 use mathlib.Core.List.{List, [], ◌∷◌, map, map-append}
 use mathlib.Core.Bool.{Bool, true, false}
 use mathlib.Core.Option
-use mathlib.Core.Option.{Option, none, some}
+use mathlib.Core.Option.{Option as Maybe, none, some}
 use Prim.Native.Nat.{ℕ, suc, ◌+◌, ◌-◌, ◌<◌, ◌≤◌}
 use native.Mathlib.Omega.{arith}
 use lib.Dec.{eqb}
 use borrow.Author.Tests.{eq-eqb, ne_eqb}
+use Rattle.std.specs.Option.{option_or}
+use Rattle.std.specs.Prelude.{Option, Some, None}
 use Rattle.text.specs.Text.{same}
 use Rattle.grammar.specs.Grammar as grammar
 use Rattle.sheet.specs.Held.{Held, held}
 use Rattle.sheet.specs.Held as formed
 use Rattle.sheet.specs.Scratch.{kind_at, end_at, item_count, field_count}
+use Rattle.sheet.specs.Records.{Steps}
+use Rattle.sheet.specs.declared.records.Records.{Records}
 use Rattle.sheet.specs.Tree.{Node, node, nil, more, take_nodes}
 use Rattle.text.proofs.Words.{same-is}
 use Rattle.rules.specs.Text.{Name, last_named, or_else}
@@ -24,12 +28,10 @@ use Rattle.rules.specs.Standing.{node_name, trees_from, drop_lines, node_at, nod
 use Rattle.rules.proofs.Parts.{stop as end, ◌also◌, pick, parts}
 use Rattle.rules.proofs.Lookups.{or_none, last_append}
 use Rattle.rules.proofs.Records.{group}
-use Rattle.rules.proofs.Rows.{records, RowWalk, row_over, row_here, row_onward}
+use Rattle.rules.proofs.Rows.{records, IterWalk, iter_here, iter_onward, iter_over}
 use Rattle.rules.proofs.Standing.{Stands, stands, nodes_next}
 use Rattle.lookups.specs.Found.{node_kind, of_kind, found_node, found_field, item_fields, all_fields, model_at, Stretch, FoundKind, Last, ItemAt, Newest, FieldsNamed, FieldNamed}
 use Rattle.lookups.specs.Lines.{RecordsAt}
-use Rattle.lookups.specs.declared.model.Found.{Found}
-use Rattle.lookups.specs.declared.model.Found.TheVariants.{At, Nothing}
 use Rattle.grammar.specs.Kinds as kinds
 
 -- ------------------------------------------------------------ the last of a name
@@ -40,9 +42,9 @@ unfolding last_named
 last_map g f h x e [] = refl
 last_map {A} {B} g f h x e (a ∷ as') = by_cases (last_named h x as') (same x (h a)) _ _ (last_map g f h x e as') (ap (same x) (e a))
   where
-    by_cases : (l : Option A) (b : Bool) (l' : Option B) (b' : Bool) → l' ≡ Option.map g l → b' ≡ b
-        → ◌≡◌ {A = Option B} (elim l' [ some y ↦ some y | none ↦ elim b' [ true ↦ some (g a) | false ↦ none ] ])
-        (Option.map g (elim l as (λ _. Option A) [ some y ↦ some y | none ↦ elim b [ true ↦ some a | false ↦ none ] ]))
+    by_cases : (l : Maybe A) (b : Bool) (l' : Maybe B) (b' : Bool) → l' ≡ Option.map g l → b' ≡ b
+        → ◌≡◌ {A = Maybe B} (elim l' [ some y ↦ some y | none ↦ elim b' [ true ↦ some (g a) | false ↦ none ] ])
+        (Option.map g (elim l as (λ _. Maybe A) [ some y ↦ some y | none ↦ elim b [ true ↦ some a | false ↦ none ] ]))
     by_cases (some y) b l' b' p q = rw p refl
     by_cases none true l' b' p q = rw (p, q) refl
     by_cases none false l' b' p q = rw (p, q) refl
@@ -130,7 +132,7 @@ module _ (s S : List ℕ) (i : ℕ) (h : ItemAt s S i) (k : ℕ) (e : k ≡ kind
       let b : m ≡ p.0 = c ∙ o.3 in
       rw (z, b) (its_fields t (kind_is ∙ q) ∙ o.0, o.2)
 
-module _ (s S : List ℕ) (x : Name) (i : ℕ) (f : Found) (h : ItemAt s S i) (k : ℕ) (e : k ≡ kind_at S i) where
+module _ (s S : List ℕ) (x : Name) (i : ℕ) (f : Option ℕ) (h : ItemAt s S i) (k : ℕ) (e : k ≡ kind_at S i) where
   pub other : k ≢ kinds.state → Newest s S x i f f
   unfolding last_named or_else
   other q = record { found = rw (not_state s S i h k e q) refl; kind = λ o. o }
@@ -145,21 +147,21 @@ module _ (s S : List ℕ) (x : Name) (i : ℕ) (f : Found) (h : ItemAt s S i) (k
     fields_are : item_fields (node_at s i) ≡ of_kind kinds.field (nodes_at s m j)
     fields_are = g.0 ∙ sym (all_kind kinds.field (λ a b. omega (arith, b.kind.0, b.kind.1)) h.loaded g.1)
 
-    module _ (r : Found) (l : Last s S kinds.field x m j r) where
-      pub newer : (a : ℕ) → r ≡ At a → Newest s S x i f (At a)
+    module _ (r : Option ℕ) (l : Last s S kinds.field x m j r) where
+      pub newer : (o : Option ℕ) → o ≡ option_or r f → Newest s S x i f o
       unfolding found_node or_else
-      newer a z = record { found = rw (fields_are, ← l.found, z) refl; kind = λ o. rw z at l.kind }
-
-      pub older : r ≡ Nothing → Newest s S x i f f
-      unfolding found_node or_else
-      older z = record { found = rw (fields_are, ← l.found, z) refl; kind = λ o. o }
+      newer o z = by_cases r l z
+        where
+          by_cases : (r : Option ℕ) → Last s S kinds.field x m j r → o ≡ option_or r f → Newest s S x i f o
+          by_cases (Some a) l z = record { found = rw (fields_are, ← l.found, z) refl; kind = λ o. rw z l.kind }
+          by_cases None l z = record { found = rw (fields_are, ← l.found, z) refl; kind = λ o. rw z o }
 
 -- ------------------------------------------------------------ item by item
 
-pub as_field : (s : List ℕ) (r : Found) → found_field s r ≡ Option.map field_of (found_node s r)
+pub as_field : (s : List ℕ) (r : Option ℕ) → found_field s r ≡ Option.map field_of (found_node s r)
 unfolding found_field found_node field_at
-as_field s (At i) = refl
-as_field s Nothing = refl
+as_field s (Some i) = refl
+as_field s None = refl
 
 pub field-name : (t : Node) → (field_of t).name ≡ node_name t
 unfolding field_of node_name
@@ -169,38 +171,40 @@ pub param-name : (t : Node) → (param_of t).name ≡ node_name t
 unfolding param_of node_name
 param-name (node i l ps) = refl
 
--- what is found so far, with left items to go from line at on
-pub record FieldsGoing (s S : List ℕ) (x : Name) (m i left at : ℕ) (f : Found) : Type 0 where
+-- what is found so far, before the items that r gives
+pub record FieldsGoing (s S : List ℕ) (x : Name) (m i : ℕ) (r : Records) (f : Option ℕ) : Type 0 where
   pub items : RecordsAt grammar.Item s S m i
-  pub walk : RowWalk grammar.Item nodes_at (λ ts. last_named node_name x (all_fields (nodes_at s m i)) ≡ or_else (last_named node_name x (all_fields ts)) (found_node s f)) s S left at
+  pub walk : IterWalk grammar.Item nodes_at (λ ts. last_named node_name x (all_fields (nodes_at s m i)) ≡ or_else (last_named node_name x (all_fields ts)) (found_node s f)) s S r
   pub kind : FoundKind S kinds.field f
 
-pub fields_start : (s S : List ℕ) (x : Name) (m i : ℕ) → RecordsAt grammar.Item s S m i → FieldsGoing s S x m i m i Nothing
+pub fields_start : (s S : List ℕ) (x : Name) (m i : ℕ) (r : Records) → RecordsAt grammar.Item s S m i → r.lines.now ≡ S → r.left ≡ m → r.at ≡ i → FieldsGoing s S x m i r None
 unfolding found_node
-fields_start s S x m i h = record { items = h; walk = record { loaded = h.loaded; row = h.row; known = sym (or_none _) }; kind = tt }
+fields_start s S x m i r h l e a =
+    record { items = h; walk = record { lines = l; walk = rw (e, a) (record { loaded = h.loaded; row = h.row; known = sym (or_none _) }) }; kind = tt }
 
-module _ (s S : List ℕ) (x : Name) (m i left at : ℕ) (f : Found) (g : FieldsGoing s S x m i left at f) where
-  pub fields_item : 0 < left → ItemAt s S at
-  fields_item h = record { loaded = g.items.loaded; here = row_here g.walk h }
+module _ (s S : List ℕ) (x : Name) (m i : ℕ) (r : Records) (f : Option ℕ) (g : FieldsGoing s S x m i r f) where
+  module _ (t : Records) (at : ℕ) (h : Steps r at t) where
+    pub fields_item : ItemAt s S at
+    fields_item = record { loaded = g.items.loaded; here = iter_here h g.walk }
 
-  pub fields_turn : (at' : ℕ) (f' : Found) → 0 < left → Newest s S x at f f' → at' ≡ end_at S at → FieldsGoing s S x m i (left - 1) at' f'
-  fields_turn at' f' h e q =
-      record {
-        items = g.items;
-        walk =
-            row_onward records g.walk h at' q
-            (λ ts z. z ∙ rw e.found (last_append node_name x (item_fields (node_at s at)) (all_fields ts) (found_node s f)));
-        kind = e.kind g.kind;
-      }
+    pub fields_turn : (f' : Option ℕ) → Newest s S x at f f' → FieldsGoing s S x m i t f'
+    fields_turn f' e =
+        record {
+          items = g.items;
+          walk =
+              iter_onward h records g.walk
+              (λ ts z. z ∙ rw e.found (last_append node_name x (item_fields (node_at s at)) (all_fields ts) (found_node s f)));
+          kind = e.kind g.kind;
+        }
 
-  -- an item that is no state
-  pub fields-skip : (at' k : ℕ) → 0 < left → k ≡ kind_at S at → k ≢ kinds.state → at' ≡ end_at S at → FieldsGoing s S x m i (left - 1) at' f
-  fields-skip at' k h e n q = fields_turn at' f h (other s S x at f (fields_item h) k e n) q
+    -- an item that is no state
+    pub fields-skip : (k : ℕ) → k ≡ kind_at S at → k ≢ kinds.state → FieldsGoing s S x m i t f
+    fields-skip k e n = fields_turn f (other s S x at f fields_item k e n)
 
-  pub fields_over : left ≤ 0 → FieldsNamed s S x m i f
+  pub fields_over : r.left ≡ 0 → FieldsNamed s S x m i f
   unfolding last_named or_else field_named model_at
   fields_over h =
-      let last : found_node s f ≡ last_named node_name x (all_fields (nodes_at s m i)) = sym (row_over records g.walk h) in
+      let last : found_node s f ≡ last_named node_name x (all_fields (nodes_at s m i)) = sym (iter_over records g.walk h) in
       record {
         found =
             as_field s f
@@ -215,7 +219,7 @@ module _ (s S : List ℕ) (x : Name) (m i left at : ℕ) (f : Found) (g : Fields
 pub all_items : (s S : List ℕ) (m : ℕ) → Loaded s S → m ≡ item_count S 0 → RecordsAt grammar.Item s S m 1
 all_items s S m d e = rw e (record { loaded = d; row = (items_at d).1 })
 
-pub all_fields_lem : (s S : List ℕ) (x : Name) (m : ℕ) (r : Found) → Loaded s S → m ≡ item_count S 0 → FieldsNamed s S x m 1 r → FieldNamed s S x r
+pub all_fields_lem : (s S : List ℕ) (x : Name) (m : ℕ) (r : Option ℕ) → Loaded s S → m ≡ item_count S 0 → FieldsNamed s S x m 1 r → FieldNamed s S x r
 unfolding model_at
 all_fields_lem s S x m r d e f = record { found = rw ((items_at d).0, ← e) f.found; node = rw (← e) f.node; kind = f.kind }
 
@@ -226,15 +230,15 @@ unfolding last_named
 last_same f x [] a e = absurd (let z : ◌≡◌ {A = ℕ} 0 1 = cc in omega arith)
 last_same {A} f x (b ∷ as') a e = by_cases (last_named f x as') (same x (f b)) refl (last_same f x as' a) e
   where
-    by_cases : (o : Option A) (t : Bool) → same x (f b) ≡ t → (o ≡ some a → same x (f a) ≡ true)
-        → elim o as (λ _. Option A) [ some y ↦ some y | none ↦ elim t as (λ _. Option A) [ true ↦ some b | false ↦ none ] ] ≡ some a → same x (f a) ≡ true
+    by_cases : (o : Maybe A) (t : Bool) → same x (f b) ≡ t → (o ≡ some a → same x (f a) ≡ true)
+        → elim o as (λ _. Maybe A) [ some y ↦ some y | none ↦ elim t as (λ _. Maybe A) [ true ↦ some b | false ↦ none ] ] ≡ some a → same x (f a) ≡ true
     by_cases (some y) t q h z = h z
     by_cases none true q h z = let w : b ≡ a = cc in rw (← w) q
     by_cases none false q h z = absurd (let w : ◌≡◌ {A = ℕ} 0 1 = cc in omega arith)
 
 module _ {s S : List ℕ} (d : Loaded s S) where
   -- one name, one line
-  pub one_line : {x : Name} {i j : ℕ} → FieldNamed s S x (At i) → FieldNamed s S x (At j) → i ≡ j
+  pub one_line : {x : Name} {i j : ℕ} → FieldNamed s S x (Some i) → FieldNamed s S x (Some j) → i ≡ j
   unfolding found_node
   one_line {x} {i} {j} a b =
       let t = stands d i a.kind.0 in
@@ -243,7 +247,7 @@ module _ {s S : List ℕ} (d : Loaded s S) where
       cc (e, t.here, u.here)
 
   -- one line, one name
-  pub one_name : {x y : Name} {i : ℕ} → FieldNamed s S x (At i) → FieldNamed s S y (At i) → x ≡ y
+  pub one_name : {x y : Name} {i : ℕ} → FieldNamed s S x (Some i) → FieldNamed s S y (Some i) → x ≡ y
   unfolding found_node
   one_name {x} {y} {i} a b =
       same-is x (node_name (node_at s i)) (last_same node_name x _ _ (sym a.node))

@@ -2,24 +2,25 @@
 use mathlib.Core.Path.{◌≡◌, refl, sym, ◌∙◌}
 use mathlib.Core.List.{List, [], ◌∷◌, map}
 use mathlib.Core.Bool.{Bool, true, false, cond, ◌&&◌, and-eq-true_iff}
-use mathlib.Core.Option.{Option, none, some}
-use Prim.Native.Nat.{ℕ, ◌-◌, ◌<◌, ◌≤◌}
+use mathlib.Core.Option.{Option as Maybe, none, some}
+use Prim.Native.Nat.{ℕ, ◌<◌}
 use native.Mathlib.Omega.{arith}
 use lib.Dec.{eqb}
 use borrow.Author.Tests.{eqb-true}
+use Rattle.std.specs.Prelude.{Option, Some, None}
 use Rattle.text.specs.Text.{same}
 use Rattle.grammar.specs.Grammar as grammar
-use Rattle.sheet.specs.Scratch.{kind_at, name_at, end_at, line_count}
+use Rattle.sheet.specs.Scratch.{kind_at, name_at, line_count}
+use Rattle.sheet.specs.Records.{Steps}
+use Rattle.sheet.specs.declared.records.Records.{Records}
 use Rattle.sheet.specs.Tree.{Node}
 use Rattle.rules.specs.Text.{Name, among, last_named, or_else}
 use Rattle.rules.specs.Standing.{node_name, node_at, nodes_at}
 use Rattle.rules.proofs.Lookups.{or_none, last_turn}
-use Rattle.rules.proofs.Rows.{records, RowWalk, row_over, row_here, row_onward}
+use Rattle.rules.proofs.Rows.{records, IterWalk, iter_here, iter_onward, iter_over}
 use Rattle.rules.proofs.Standing.{stands}
 use Rattle.rules.specs.Typing.{is_some}
-use Rattle.lookups.specs.Found.{node_kind, of_kind, found_node, found_at, Stretch, FoundKind, Last}
-use Rattle.lookups.specs.declared.model.Found.{Found}
-use Rattle.lookups.specs.declared.model.Found.TheVariants.{At}
+use Rattle.lookups.specs.Found.{node_kind, of_kind, found_node, Stretch, FoundKind, Last}
 
 -- ------------------------------------------------------------ the last of a name
 
@@ -29,9 +30,9 @@ unfolding among last_named is_some
 among_last f x [] = refl
 among_last {A} f x (a ∷ as') = by_cases (last_named f x as') (same x (f a)) (among_last f x as')
   where
-    by_cases : (o : Option A) (b : Bool) → among x (map f as') ≡ is_some o
+    by_cases : (o : Maybe A) (b : Bool) → among x (map f as') ≡ is_some o
         → ◌≡◌ {A = Bool} (elim b as (λ _. Bool) [ true ↦ true | false ↦ among x (map f as') ])
-        (is_some {A = A} (elim o as (λ _. Option A) [ some y ↦ some y | none ↦ elim b as (λ _. Option A) [ true ↦ some a | false ↦ none ] ]))
+        (is_some {A = A} (elim o as (λ _. Maybe A) [ some y ↦ some y | none ↦ elim b as (λ _. Maybe A) [ true ↦ some a | false ↦ none ] ]))
     by_cases (some y) true h = refl
     by_cases none true h = refl
     by_cases (some y) false h = h
@@ -40,7 +41,7 @@ among_last {A} f x (a ∷ as') = by_cases (last_named f x as') (same x (f a)) (a
 -- ------------------------------------------------------------ line by line
 
 -- ... among those of a kind
-kind_turn : (k : ℕ) (x : Name) (t : Node) (ts : List Node) (o : Option Node)
+kind_turn : (k : ℕ) (x : Name) (t : Node) (ts : List Node) (o : Maybe Node)
     → or_else (last_named node_name x (of_kind k (t ∷ ts))) o
     ≡ or_else (last_named node_name x (of_kind k ts)) (cond (eqb (node_kind t) k) (cond (same x (node_name t)) (some t) o) o)
 unfolding of_kind
@@ -53,70 +54,71 @@ kind_turn k x t ts o = by_cases (eqb (node_kind t) k)
     by_cases false = refl
 
 -- line i where it is a record of kind k with the name x, else what was found before
-unfoldable newest : List ℕ → List ℕ → ℕ → Name → ℕ → Found → Found
-newest s S k x i f = cond (eqb (kind_at S i) k) (cond (same x (name_at s S i)) (At i) f) f
+unfoldable newest : List ℕ → List ℕ → ℕ → Name → ℕ → Option ℕ → Option ℕ
+newest s S k x i f = cond (eqb (kind_at S i) k) (cond (same x (name_at s S i)) (Some i) f) f
 
-newest_node : (s S : List ℕ) (k : ℕ) (x : Name) (i : ℕ) (f : Found)
+newest_node : (s S : List ℕ) (k : ℕ) (x : Name) (i : ℕ) (f : Option ℕ)
     → found_node s (newest s S k x i f) ≡ cond (eqb (kind_at S i) k) (cond (same x (name_at s S i)) (some (node_at s i)) (found_node s f)) (found_node s f)
 unfolding newest found_node
 newest_node s S k x i f = by_cases (eqb (kind_at S i) k) (same x (name_at s S i))
   where
-    by_cases : (b c : Bool) → found_node s (cond b (cond c (At i) f) f) ≡ cond b (cond c (some (node_at s i)) (found_node s f)) (found_node s f)
+    by_cases : (b c : Bool) → found_node s (cond b (cond c (Some i) f) f) ≡ cond b (cond c (some (node_at s i)) (found_node s f)) (found_node s f)
     by_cases true true = refl
     by_cases true false = refl
     by_cases false c = refl
 
-newest_kind : (s S : List ℕ) (k : ℕ) (x : Name) (i : ℕ) (f : Found) → i < line_count S → FoundKind S k f → FoundKind S k (newest s S k x i f)
+newest_kind : (s S : List ℕ) (k : ℕ) (x : Name) (i : ℕ) (f : Option ℕ) → i < line_count S → FoundKind S k f → FoundKind S k (newest s S k x i f)
 unfolding newest
 newest_kind s S k x i f h o = by_cases (eqb (kind_at S i) k) refl (same x (name_at s S i))
   where
-    by_cases : (b : Bool) → eqb (kind_at S i) k ≡ b → (c : Bool) → FoundKind S k (cond b (cond c (At i) f) f)
+    by_cases : (b : Bool) → eqb (kind_at S i) k ≡ b → (c : Bool) → FoundKind S k (cond b (cond c (Some i) f) f)
     by_cases true e true = (h, eqb-true (kind_at S i) k e)
     by_cases true e false = o
     by_cases false e c = o
 
--- what is found so far, with left records to go from line at on
-pub record Going (s S : List ℕ) (k : ℕ) (x : Name) (m i left at : ℕ) (f : Found) : Type 0 where
+-- what is found so far, before the records that r gives
+pub record Going (s S : List ℕ) (k : ℕ) (x : Name) (m i : ℕ) (r : Records) (f : Option ℕ) : Type 0 where
   pub sort : grammar.Sort
-  pub walk : RowWalk sort nodes_at (λ ts. last_named node_name x (of_kind k (nodes_at s m i)) ≡ or_else (last_named node_name x (of_kind k ts)) (found_node s f)) s S left at
+  pub walk : IterWalk sort nodes_at (λ ts. last_named node_name x (of_kind k (nodes_at s m i)) ≡ or_else (last_named node_name x (of_kind k ts)) (found_node s f)) s S r
   pub kind : FoundKind S k f
 
-pub start : (s S : List ℕ) (k : ℕ) (x : Name) (m i : ℕ) → Stretch s S m i → Going s S k x m i m i (found_at false 0)
-unfolding found_node found_at
-start s S k x m i h = record { sort = h.sort; walk = record { loaded = h.loaded; row = h.row; known = sym (or_none _) }; kind = tt }
+pub start : (s S : List ℕ) (k : ℕ) (x : Name) (m i : ℕ) (r : Records) → Stretch s S m i → r.lines.now ≡ S → r.left ≡ m → r.at ≡ i → Going s S k x m i r None
+unfolding found_node
+start s S k x m i r h l e a =
+    record { sort = h.sort; walk = record { lines = l; walk = rw (e, a) (record { loaded = h.loaded; row = h.row; known = sym (or_none _) }) }; kind = tt }
 
-module _ (s S : List ℕ) (k : ℕ) (x : Name) (m i left at : ℕ) (f : Found) (g : Going s S k x m i left at f) where
-  turn : (at' : ℕ) (f' : Found) → 0 < left → f' ≡ newest s S k x at f → at' ≡ end_at S at → Going s S k x m i (left - 1) at' f'
-  unfolding node_name node_kind
-  turn at' f' h e q =
-      let w = (row_here g.walk h).within in
-      let t = stands g.walk.loaded at w in
-      rw e
-      (record {
-        sort = g.sort;
-        walk =
-            row_onward records g.walk h at' q
-            (λ ts z. z ∙ rw (kind_turn k x (node_at s at) ts (found_node s f), newest_node s S k x at f, t.says.kind, t.spells.name, t.here) refl);
-        kind = newest_kind s S k x at f w g.kind;
-      })
-
+module _ (s S : List ℕ) (k : ℕ) (x : Name) (m i : ℕ) (r : Records) (f : Option ℕ) (g : Going s S k x m i r f) where
   -- what `is_named` tells of the line
-  module _ (at' : ℕ) (b : Bool) (h : 0 < left) (e : b ≡ (eqb (kind_at S at) k && same x (name_at s S at))) (q : at' ≡ end_at S at) where
-    pub turn_hit : b ≡ true → Going s S k x m i (left - 1) at' (found_at true at)
-    unfolding newest found_at
-    turn_hit t =
-        let y = (and-eq-true_iff (eqb (kind_at S at) k) (same x (name_at s S at))).0 (sym e ∙ t) in
-        turn at' (At at) h (rw (y.0, y.1) refl) q
+  module _ (t : Records) (at : ℕ) (h : Steps r at t) (b : Bool) (e : b ≡ (eqb (kind_at S at) k && same x (name_at s S at))) where
+    turn : (f' : Option ℕ) → f' ≡ newest s S k x at f → Going s S k x m i t f'
+    unfolding node_name node_kind
+    turn f' q =
+        let w = (iter_here h g.walk).within in
+        let y = stands g.walk.walk.loaded at w in
+        rw q
+        (record {
+          sort = g.sort;
+          walk =
+              iter_onward h records g.walk
+              (λ ts z. z ∙ rw (kind_turn k x (node_at s at) ts (found_node s f), newest_node s S k x at f, y.says.kind, y.spells.name, y.here) refl);
+          kind = newest_kind s S k x at f w g.kind;
+        })
 
-    pub turn_miss : b ≡ false → Going s S k x m i (left - 1) at' f
+    pub turn_hit : b ≡ true → Going s S k x m i t (Some at)
     unfolding newest
-    turn_miss t = turn at' f h (by_cases (eqb (kind_at S at) k) (same x (name_at s S at)) (sym e ∙ t)) q
+    turn_hit q =
+        let y = (and-eq-true_iff (eqb (kind_at S at) k) (same x (name_at s S at))).0 (sym e ∙ q) in
+        turn (Some at) (rw (y.0, y.1) refl)
+
+    pub turn_miss : b ≡ false → Going s S k x m i t f
+    unfolding newest
+    turn_miss q = turn f (by_cases (eqb (kind_at S at) k) (same x (name_at s S at)) (sym e ∙ q))
       where
-        by_cases : (c d : Bool) → (c && d) ≡ false → f ≡ cond c (cond d (At at) f) f
+        by_cases : (c d : Bool) → (c && d) ≡ false → f ≡ cond c (cond d (Some at) f) f
         by_cases true true z = absurd (let w : ◌≡◌ {A = ℕ} 0 1 = cc z in omega arith)
         by_cases true false z = refl
         by_cases false d z = refl
 
-  pub over : (r : Found) → r ≡ f → left ≤ 0 → Last s S k x m i r
+  pub over : (o : Option ℕ) → o ≡ f → r.left ≡ 0 → Last s S k x m i o
   unfolding of_kind last_named or_else
-  over r q h = rw q (record { found = sym (row_over records g.walk h); kind = g.kind })
+  over o q h = rw q (record { found = sym (iter_over records g.walk h); kind = g.kind })

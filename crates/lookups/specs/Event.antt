@@ -1,22 +1,20 @@
 -- What a search for an event finds among loaded lines.
-use Rattle.std.specs.Prelude.{ℕ, List, ◌≡◌}
-use Rattle.std.proofs.Math.Option.{Option, none, some}
+use Rattle.std.specs.Prelude.{ℕ, List, ◌≡◌, Option, Some, None}
+use Rattle.std.proofs.Math.Option.{Option as Maybe, none, some}
 use Rattle.sheet.specs.Scratch.{item_count}
 use Rattle.rules.specs.Text.{Name, first_named}
 use Rattle.rules.specs.Ast.{Event}
 use Rattle.rules.specs.Model.{event_named}
 use Rattle.rules.specs.Standing.{node_name, nodes_at, event_at, model_in}
 use Rattle.lookups.specs.Found.{of_kind, found_node, FoundKind}
-use Rattle.lookups.specs.declared.model.Found.{Found}
-use Rattle.lookups.specs.declared.model.Found.TheVariants.{At, Nothing}
 use Rattle.grammar.specs.Kinds as kinds
 
-unfoldable pub found_event : List ℕ → Found → Option Event
-found_event s (At i) = some (event_at s i)
-found_event s Nothing = none
+unfoldable pub found_event : List ℕ → Option ℕ → Maybe Event
+found_event s (Some i) = some (event_at s i)
+found_event s None = none
 
 -- r is the first event of the name x, and its line is that of the record
-pub record EventNamed (s S : List ℕ) (x : Name) (r : Found) : Type 0 where
+pub record EventNamed (s S : List ℕ) (x : Name) (r : Option ℕ) : Type 0 where
   pub found : found_event s r ≡ event_named (model_in s) x
   pub node : found_node s r ≡ first_named node_name x (of_kind kinds.event (nodes_at s (item_count S 0) 1))
   pub kind : FoundKind S kinds.event r

@@ -1,6 +1,6 @@
 -- What a search by name finds among loaded lines.
-use Rattle.std.specs.Prelude.{ℕ, ◌<◌, Bool, true, false, List, [], ◌∷◌, ◌++◌, map, ◌≡◌, eqb}
-use Rattle.std.proofs.Math.Option.{Option, none, some}
+use Rattle.std.specs.Prelude.{ℕ, ◌<◌, true, false, List, [], ◌∷◌, ◌++◌, map, ◌≡◌, eqb, Option, Some, None}
+use Rattle.std.proofs.Math.Option.{Option as Maybe, none, some}
 use Rattle.grammar.specs.Grammar.{Sort}
 use Rattle.grammar.specs.Grammar as grammar
 use Rattle.sheet.specs.Scratch.{kind_at, line_count, item_count}
@@ -9,8 +9,6 @@ use Rattle.rules.specs.Text.{Name, last_named, or_else}
 use Rattle.rules.specs.Ast.{Field, item_of, nodes}
 use Rattle.rules.specs.Model.{Model, build, field_named}
 use Rattle.rules.specs.Standing.{node_name, node_at, nodes_at, field_at, model_in, Loaded, Here, Row}
-use Rattle.lookups.specs.declared.model.Found.{Found}
-use Rattle.lookups.specs.declared.model.Found.TheVariants.{At, Nothing}
 use Rattle.grammar.specs.Kinds as kinds
 
 unfoldable pub node_kind : Node → ℕ
@@ -20,18 +18,13 @@ unfoldable pub of_kind : ℕ → List Node → List Node
 of_kind k [] = []
 of_kind k (t ∷ ts) = elim (eqb (node_kind t) k) [ true ↦ t ∷ of_kind k ts | false ↦ of_kind k ts ]
 
-unfoldable pub found_node : List ℕ → Found → Option Node
-found_node s (At i) = some (node_at s i)
-found_node s Nothing = none
+unfoldable pub found_node : List ℕ → Option ℕ → Maybe Node
+found_node s (Some i) = some (node_at s i)
+found_node s None = none
 
-unfoldable pub found_field : List ℕ → Found → Option Field
-found_field s (At i) = some (field_at s i)
-found_field s Nothing = none
-
--- a line where there was a hit
-unfoldable pub found_at : (hit : Bool) → ℕ → Found
-found_at true i = At i
-found_at false i = Nothing
+unfoldable pub found_field : List ℕ → Option ℕ → Maybe Field
+found_field s (Some i) = some (field_at s i)
+found_field s None = none
 
 -- m records stand one behind another from line i on
 pub record Stretch (s S : List ℕ) (m i : ℕ) : Type 0 where
@@ -40,12 +33,12 @@ pub record Stretch (s S : List ℕ) (m i : ℕ) : Type 0 where
   pub row : Row S sort m i
 
 -- the line found is one of kind k
-abbrev pub FoundKind : List ℕ → ℕ → Found → Type 0
-FoundKind S k (At i) = (i < line_count S) × (kind_at S i ≡ k)
-FoundKind S k Nothing = Unit
+abbrev pub FoundKind : List ℕ → ℕ → Option ℕ → Type 0
+FoundKind S k (Some i) = (i < line_count S) × (kind_at S i ≡ k)
+FoundKind S k None = Unit
 
 -- r is the last record of kind k with the name x among m records from line i on
-pub record Last (s S : List ℕ) (k : ℕ) (x : Name) (m i : ℕ) (r : Found) : Type 0 where
+pub record Last (s S : List ℕ) (k : ℕ) (x : Name) (m i : ℕ) (r : Option ℕ) : Type 0 where
   pub found : found_node s r ≡ last_named node_name x (of_kind k (nodes_at s m i))
   pub kind : FoundKind S k r
 
@@ -59,7 +52,7 @@ pub record ItemAt (s S : List ℕ) (i : ℕ) : Type 0 where
   pub here : Here S grammar.Item i
 
 -- r is the last field of the name x of the item at line i, or else f
-pub record Newest (s S : List ℕ) (x : Name) (i : ℕ) (f r : Found) : Type 0 where
+pub record Newest (s S : List ℕ) (x : Name) (i : ℕ) (f r : Option ℕ) : Type 0 where
   pub found : found_node s r ≡ or_else (last_named node_name x (item_fields (node_at s i))) (found_node s f)
   pub kind : FoundKind S kinds.field f → FoundKind S kinds.field r
 
@@ -73,13 +66,13 @@ unfoldable pub model_at : List ℕ → ℕ → ℕ → Model
 model_at s m i = build (map item_of (nodes_at s m i))
 
 -- r is the last field of the name x that m items from line i on declare
-pub record FieldsNamed (s S : List ℕ) (x : Name) (m i : ℕ) (r : Found) : Type 0 where
+pub record FieldsNamed (s S : List ℕ) (x : Name) (m i : ℕ) (r : Option ℕ) : Type 0 where
   pub found : found_field s r ≡ field_named (model_at s m i) x
   pub node : found_node s r ≡ last_named node_name x (all_fields (nodes_at s m i))
   pub kind : FoundKind S kinds.field r
 
 -- r is the last state field of the name x, and its line is that of the record
-pub record FieldNamed (s S : List ℕ) (x : Name) (r : Found) : Type 0 where
+pub record FieldNamed (s S : List ℕ) (x : Name) (r : Option ℕ) : Type 0 where
   pub found : found_field s r ≡ field_named (model_in s) x
   pub node : found_node s r ≡ last_named node_name x (all_fields (nodes_at s (item_count S 0) 1))
   pub kind : FoundKind S kinds.field r

@@ -9,10 +9,8 @@ fn after(lines: &[u16], from: usize, count: usize) -> usize
     ensures { result ≡ skip lines.now count from }
 {
     let mut at = from;
-    let mut left = count;
-    while 0 < left {
+    for _ in 0..count {
         at = end(lines, at);
-        left -= 1;
     }
     at
 }

@@ -12,7 +12,7 @@ ghost use Rattle.rules.specs.Kept.{ty_from};
 
 use grammar::kinds;
 use rules::{codes, is_type};
-use sheet::{end, kind, name, type_arg_count};
+use sheet::{LoadedSheet, end, name, type_arg_count};
 use text::{index_in, is_word};
 
 // The type that the name at a place of the table in ty_in_table means, Unknown behind its end.
@@ -100,11 +100,11 @@ fn ty_of_name(name: &[u8]) -> u8
 }
 
 // The type that the `type` record at line i declares.
-pub fn ty_of_decl(sheet: &[u8], lines: &[u16], i: usize) -> u8
-    requires { TypeAt sheet.now lines.now i }
-    ensures { result ≡ code (ty_of_decl (type_at sheet.now i)) }
+pub fn ty_of_decl(sheet: &LoadedSheet<'_>, i: usize) -> u8
+    requires { TypeAt sheet.now.bytes.now sheet.now.lines.now i }
+    ensures { result ≡ code (ty_of_decl (type_at sheet.now.bytes.now i)) }
 {
-    ty_of_name(name(sheet, lines, i))
+    ty_of_name(sheet.name(i))
 }
 
 // The code of the type that a byte tells: Unknown's where the byte is no code.
@@ -159,19 +159,19 @@ fn arg_line(lines: &[u16], ty: usize, index: usize) -> usize
 }
 
 // The type of a declared type's argument, Unknown where it has no such type.
-pub fn declared_arg(sheet: &[u8], lines: &[u16], ty: usize, index: usize) -> u8
-    requires ty_at { TypeAt sheet.now lines.now ty }
+pub fn declared_arg(sheet: &LoadedSheet<'_>, ty: usize, index: usize) -> u8
+    requires ty_at { TypeAt sheet.now.bytes.now sheet.now.lines.now ty }
     requires index_bound { index < 2 }
-    ensures { result ≡ code (declared_arg (type_at sheet.now ty) index) }
+    ensures { result ≡ code (declared_arg (type_at sheet.now.bytes.now ty) index) }
 {
-    if type_arg_count(lines, ty) <= index {
+    if type_arg_count(sheet.lines, ty) <= index {
         return codes::UNKNOWN;
     }
-    let at = arg_line(lines, ty, index);
-    if kind(lines, at) != kinds::TYPE {
+    let at = arg_line(sheet.lines, ty, index);
+    if sheet.kind(at) != kinds::TYPE {
         return codes::UNKNOWN;
     }
-    ty_of_decl(sheet, lines, at)
+    ty_of_decl(sheet, at)
 }
 
 // Whether a byte of a literal's text is a zero or an underscore.
@@ -184,23 +184,16 @@ pub fn zero_digit(b: u8) -> bool
 fn all_zero(text: &[u8]) -> bool
     ensures { result ≡ all zero_digit text.now }
 {
-    let mut i = 0;
-    while i < text.len() {
-        if !zero_digit(text[i]) {
-            return false;
-        }
-        i += 1;
-    }
-    true
+    text.iter().all(|b| zero_digit(*b))
 }
 
 // Whether line i is a literal of value zero.
-pub fn is_zero_literal(sheet: &[u8], lines: &[u16], i: usize) -> bool
-    requires { ExprAt sheet.now lines.now i }
-    ensures { result ≡ is_zero_literal (expr_at sheet.now i) }
+pub fn is_zero_literal(sheet: &LoadedSheet<'_>, i: usize) -> bool
+    requires { ExprAt sheet.now.bytes.now sheet.now.lines.now i }
+    ensures { result ≡ is_zero_literal (expr_at sheet.now.bytes.now i) }
 {
-    if kind(lines, i) != kinds::INT {
+    if sheet.kind(i) != kinds::INT {
         return false;
     }
-    all_zero(name(sheet, lines, i))
+    all_zero(sheet.name(i))
 }

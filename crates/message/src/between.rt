@@ -1,47 +1,43 @@
 // Names, types and descriptions between two fixed texts.
-ghost use Rattle.std.specs.Prelude.{◌++◌, ◌≡◌};
+ghost use Rattle.std.specs.Prelude.{◌++◌};
 ghost use Rattle.text.specs.Text.{bytes};
 ghost use Rattle.rules.specs.Types.{describe};
-ghost use Rattle.rules.specs.Standing.{Loaded, named_at};
+ghost use Rattle.rules.specs.Standing.{named_at};
 ghost use Rattle.refusals.specs.Refusal.{dot_at};
 ghost use Rattle.writing.specs.Writing.{Adds};
 ghost use Rattle.rules.specs.Kept.{ty_from};
 
 use grammar::kinds;
 use rules::codes;
-use sheet::{kind, name};
+use sheet::{LoadedSheet, name};
 use writing::{add, say};
 
 // Adds the name of the record at line i between two texts.
 pub fn say_name(
-    sheet: &[u8],
-    lines: &[u16],
+    sheet: &LoadedSheet<'_>,
     buffer: &mut [u8],
     at: usize,
     before: &[u8],
     i: usize,
     after: &[u8],
 ) -> usize
-    requires { Loaded sheet.now lines.now }
-    ensures { Adds (before.now ++ (named_at sheet.now i ++ after.now)) buffer.old at buffer.new result }
+    ensures { Adds (before.now ++ (named_at sheet.now.bytes.now i ++ after.now)) buffer.old at buffer.new result }
 {
-    say(buffer, at, before, name(sheet, lines, i), after)
+    say(buffer, at, before, sheet.name(i), after)
 }
 
 // Adds the name of the dot at line i between a backtick and a text; no name where there is no dot.
 pub fn say_method(
-    sheet: &[u8],
-    lines: &[u16],
+    sheet: &LoadedSheet<'_>,
     buffer: &mut [u8],
     at: usize,
     i: usize,
     after: &[u8],
 ) -> usize
-    requires { Loaded sheet.now lines.now }
-    ensures { Adds (bytes "`" ++ ((dot_at sheet.now i).name ++ after.now)) buffer.old at buffer.new result }
+    ensures { Adds (bytes "`" ++ ((dot_at sheet.now.bytes.now i).name ++ after.now)) buffer.old at buffer.new result }
 {
-    if kind(lines, i) == kinds::DOT {
-        return say(buffer, at, b"`", name(sheet, lines, i), after);
+    if sheet.kind(i) == kinds::DOT {
+        return say(buffer, at, b"`", sheet.name(i), after);
     }
     say(buffer, at, b"`", b"", after)
 }

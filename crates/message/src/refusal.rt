@@ -1,5 +1,4 @@
 // The message of each refusal.
-ghost use Rattle.rules.specs.Standing.{Loaded};
 ghost use Rattle.rules.specs.Text.{render};
 ghost use Rattle.refusals.specs.Refusal.{refusal_of};
 ghost use Rattle.refusals.specs.Numbers.{From};
@@ -17,46 +16,42 @@ use crate::wording::{
     REACHES_VALUES, RECEIVER, RECIPIENT, WRAPPING_INTO_NARROW,
 };
 use refusals::Refusal;
+use sheet::LoadedSheet;
 use writing::{add, say, type_name_of};
 
 // Adds the message of a refusal.
-pub fn add_message(sheet: &[u8], lines: &[u16], buffer: &mut [u8], at: usize, r: Refusal) -> usize
-    requires { Loaded sheet.now lines.now }
-    ensures { Adds (render (refusal_of sheet.now r).text) buffer.old at buffer.new result }
+pub fn add_message(sheet: &LoadedSheet<'_>, buffer: &mut [u8], at: usize, r: Refusal) -> usize
+    ensures { Adds (render (refusal_of sheet.now.bytes.now r).text) buffer.old at buffer.new result }
 {
     match r {
         Refusal::NameStored(_) => add(buffer, at, &NAME_STORED),
-        Refusal::Arity(ty) => add_arity(sheet, lines, buffer, at, ty),
-        Refusal::OnlyTypes(ty) => say_name(sheet, lines, buffer, at, b"a ", ty, &ONLY_TYPES),
-        Refusal::InnerType { ty, inner, is_key } => add_inner(
-            sheet, lines, buffer, at, ty, inner, is_key,
-        ),
-        Refusal::UnknownType(ty) => add_unknown(sheet, lines, buffer, at, ty),
-        Refusal::NoArguments(ty) => say_name(sheet, lines, buffer, at, b"`", ty, &NO_ARGUMENTS),
-        Refusal::Digest(named) => say_name(sheet, lines, buffer, at, b"`", named, &DIGEST),
+        Refusal::Arity(ty) => add_arity(sheet, buffer, at, ty),
+        Refusal::OnlyTypes(ty) => say_name(sheet, buffer, at, b"a ", ty, &ONLY_TYPES),
+        Refusal::InnerType { ty, inner, is_key } => add_inner(sheet, buffer, at, ty, inner, is_key),
+        Refusal::UnknownType(ty) => add_unknown(sheet, buffer, at, ty),
+        Refusal::NoArguments(ty) => say_name(sheet, buffer, at, b"`", ty, &NO_ARGUMENTS),
+        Refusal::Digest(named) => say_name(sheet, buffer, at, b"`", named, &DIGEST),
         Refusal::Default { field, .. } => say(
             buffer,
             at,
             b"a ",
-            type_name_of(sheet, lines, field),
+            type_name_of(sheet, field),
             &DEFAULT,
         ),
         Refusal::Guardian(_) => add(buffer, at, &GUARDIAN),
-        _ => add_from_21(sheet, lines, buffer, at, r),
+        _ => add_from_21(sheet, buffer, at, r),
     }
 }
 
 // The same from 21 on.
-fn add_from_21(sheet: &[u8], lines: &[u16], buffer: &mut [u8], at: usize, r: Refusal) -> usize
-    requires loaded { Loaded sheet.now lines.now }
+fn add_from_21(sheet: &LoadedSheet<'_>, buffer: &mut [u8], at: usize, r: Refusal) -> usize
     requires from { From 21 r }
-    ensures { Adds (render (refusal_of sheet.now r).text) buffer.old at buffer.new result }
+    ensures { Adds (render (refusal_of sheet.now.bytes.now r).text) buffer.old at buffer.new result }
 {
     match r {
         Refusal::Predicate(_) => add(buffer, at, &PREDICATE),
         Refusal::ReachesField { target, .. } => say_name(
             sheet,
-            lines,
             buffer,
             at,
             &REACHES_FIELD,
@@ -65,7 +60,6 @@ fn add_from_21(sheet: &[u8], lines: &[u16], buffer: &mut [u8], at: usize, r: Ref
         ),
         Refusal::ReachesValues { map, .. } => say_name(
             sheet,
-            lines,
             buffer,
             at,
             &REACHES_VALUES,
@@ -74,7 +68,6 @@ fn add_from_21(sheet: &[u8], lines: &[u16], buffer: &mut [u8], at: usize, r: Ref
         ),
         Refusal::ReachesEvent { emit, .. } => say_name(
             sheet,
-            lines,
             buffer,
             at,
             &REACHES_EVENT,
@@ -83,20 +76,18 @@ fn add_from_21(sheet: &[u8], lines: &[u16], buffer: &mut [u8], at: usize, r: Ref
         ),
         Refusal::CollectionLocal(_) => add(buffer, at, &LOCAL),
         Refusal::AssetSlot(_) => add(buffer, at, &ASSET_SLOT),
-        _ => add_from_25(sheet, lines, buffer, at, r),
+        _ => add_from_25(sheet, buffer, at, r),
     }
 }
 
 // The same from 25 on.
-fn add_from_25(sheet: &[u8], lines: &[u16], buffer: &mut [u8], at: usize, r: Refusal) -> usize
-    requires loaded { Loaded sheet.now lines.now }
+fn add_from_25(sheet: &LoadedSheet<'_>, buffer: &mut [u8], at: usize, r: Refusal) -> usize
     requires from { From 25 r }
-    ensures { Adds (render (refusal_of sheet.now r).text) buffer.old at buffer.new result }
+    ensures { Adds (render (refusal_of sheet.now.bytes.now r).text) buffer.old at buffer.new result }
 {
     match r {
         Refusal::NameIntoAddress { target, .. } => say_name(
             sheet,
-            lines,
             buffer,
             at,
             &NAME_INTO_ADDRESS,
@@ -105,7 +96,6 @@ fn add_from_25(sheet: &[u8], lines: &[u16], buffer: &mut [u8], at: usize, r: Ref
         ),
         Refusal::WrappingIntoNarrow { target, .. } => say_name(
             sheet,
-            lines,
             buffer,
             at,
             &WRAPPING_INTO_NARROW,
@@ -113,57 +103,46 @@ fn add_from_25(sheet: &[u8], lines: &[u16], buffer: &mut [u8], at: usize, r: Ref
             &NARROW,
         ),
         Refusal::LiteralIntoNarrow { target, value, max } => add_too_large(
-            sheet, lines, buffer, at, target, value, max,
+            sheet, buffer, at, target, value, max,
         ),
         Refusal::SlotMismatch { slot, given, .. } => add_slot(buffer, at, slot, given),
         Refusal::Recipient(_) => add(buffer, at, &RECIPIENT),
-        _ => add_from_30(sheet, lines, buffer, at, r),
+        _ => add_from_30(sheet, buffer, at, r),
     }
 }
 
 // The same from 30 on.
-fn add_from_30(sheet: &[u8], lines: &[u16], buffer: &mut [u8], at: usize, r: Refusal) -> usize
-    requires loaded { Loaded sheet.now lines.now }
+fn add_from_30(sheet: &LoadedSheet<'_>, buffer: &mut [u8], at: usize, r: Refusal) -> usize
     requires from { From 30 r }
-    ensures { Adds (render (refusal_of sheet.now r).text) buffer.old at buffer.new result }
+    ensures { Adds (render (refusal_of sheet.now.bytes.now r).text) buffer.old at buffer.new result }
 {
     match r {
-        Refusal::Receiver(callee) => say_method(sheet, lines, buffer, at, callee, &RECEIVER),
-        Refusal::KeyedOp { callee, field } => add_keyed_op(sheet, lines, buffer, at, callee, field),
-        Refusal::Amount { callee, .. } => say_method(sheet, lines, buffer, at, callee, &AMOUNT),
+        Refusal::Receiver(callee) => say_method(sheet, buffer, at, callee, &RECEIVER),
+        Refusal::KeyedOp { callee, field } => add_keyed_op(sheet, buffer, at, callee, field),
+        Refusal::Amount { callee, .. } => say_method(sheet, buffer, at, callee, &AMOUNT),
         Refusal::NameNotParam { field, .. } => say_name(
             sheet,
-            lines,
             buffer,
             at,
             b"`",
             field,
             &NAME_NOT_PARAM,
         ),
-        Refusal::NameWanted { field, .. } => say_name(
-            sheet,
-            lines,
-            buffer,
-            at,
-            b"`",
-            field,
-            &NAME_WANTED,
-        ),
+        Refusal::NameWanted { field, .. } => say_name(sheet, buffer, at, b"`", field, &NAME_WANTED),
         Refusal::Holds {
             field,
             want,
             got,
             ..
-        } => add_holds(sheet, lines, buffer, at, field, want, got),
-        _ => add_from_36(sheet, lines, buffer, at, r),
+        } => add_holds(sheet, buffer, at, field, want, got),
+        _ => add_from_36(sheet, buffer, at, r),
     }
 }
 
 // The same from 36 on.
-fn add_from_36(sheet: &[u8], lines: &[u16], buffer: &mut [u8], at: usize, r: Refusal) -> usize
-    requires loaded { Loaded sheet.now lines.now }
+fn add_from_36(sheet: &LoadedSheet<'_>, buffer: &mut [u8], at: usize, r: Refusal) -> usize
     requires from { From 36 r }
-    ensures { Adds (render (refusal_of sheet.now r).text) buffer.old at buffer.new result }
+    ensures { Adds (render (refusal_of sheet.now.bytes.now r).text) buffer.old at buffer.new result }
 {
     match r {
         Refusal::Not(_) => add(buffer, at, b"`!` needs a boolean"),
@@ -173,12 +152,10 @@ fn add_from_36(sheet: &[u8], lines: &[u16], buffer: &mut [u8], at: usize, r: Ref
         Refusal::Ordering(_) => add(buffer, at, &ORDERING),
         Refusal::NamesCompared(_) => add(buffer, at, &NAMES_COMPARED),
         Refusal::Compared { l, r, .. } => add_compared(buffer, at, l, r),
-        Refusal::EmitField { param, got, .. } => add_emit_field(
-            sheet, lines, buffer, at, param, got,
-        ),
+        Refusal::EmitField { param, got, .. } => add_emit_field(sheet, buffer, at, param, got),
         Refusal::Dropped(_) => add(buffer, at, &DROPPED),
-        Refusal::Overflow(assign) => add_overflow(sheet, lines, buffer, at, assign),
-        Refusal::KeyKinds { map, .. } => say_name(sheet, lines, buffer, at, b"`", map, &KEY_KINDS),
+        Refusal::Overflow(assign) => add_overflow(sheet, buffer, at, assign),
+        Refusal::KeyKinds { map, .. } => say_name(sheet, buffer, at, b"`", map, &KEY_KINDS),
         _ => at,
     }
 }

@@ -2,12 +2,13 @@
 use mathlib.Core.Path.{◌≡◌, refl, sym, ap, ◌∙◌}
 use mathlib.Core.Logic.{◌≢◌}
 use mathlib.Core.List.{List, [], ◌∷◌, ◌++◌, map}
-use mathlib.Core.Option.{Option, none, some}
+use mathlib.Core.Option.{Option as Maybe, none, some}
 use Prim.Native.Nat.{ℕ, zero, suc, ◌+◌, ◌<◌, ◌≤◌}
 use Prim.Native.String.{String}
 use native.Mathlib.Numerals.{add-one}
 use native.Mathlib.Omega.{arith}
 use lib.ListN.{get_or, get_elem?}
+use Rattle.std.specs.Prelude.{Option, Some, None}
 use Rattle.text.specs.Text.{bytes, ended}
 use Rattle.text.specs.Word.{index_in, split}
 use Rattle.sheet.specs.Scratch.{name_at, kind_at, end_at, skip, type_arg_count}
@@ -19,8 +20,6 @@ use Rattle.rules.specs.Assets.{narrow_arg, narrow_values}
 use Rattle.rules.specs.Standing.{type_at, model_in, Loaded}
 use Rattle.lookups.specs.Found.{found_field, FieldNamed}
 use Rattle.lookups.specs.Lines.{TypeAt}
-use Rattle.lookups.specs.declared.model.Found.{Found}
-use Rattle.lookups.specs.declared.model.Found.TheVariants.{At, Nothing}
 use Rattle.lookups.proofs.Behind.{TypeBehind, behind}
 use Rattle.lookups.proofs.Tables.{words_in, values_in, place_most, pick_place}
 use Rattle.lookups.proofs.Types.{type_name_lem, by_kind, arg_of_kind, there, nth_there, nth_beyond, type_there}
@@ -32,10 +31,10 @@ use Rattle.grammar.specs.Kinds as kinds
 abbrev names : String
 names = "bool u8 u16 u32 "
 
-abbrev table : List (String × Option ℕ)
+abbrev table : List (String × Maybe ℕ)
 table = ("bool", some 1) ∷ ("u8", some 255) ∷ ("u16", some 65535) ∷ ("u32", some 4294967295) ∷ []
 
-most_at : (os : List (Option ℕ)) (p : ℕ) → most_of (get_or os p none) ≡ get_or (map most_of os ++ (0 ∷ [])) p 0
+most_at : (os : List (Maybe ℕ)) (p : ℕ) → most_of (get_or os p none) ≡ get_or (map most_of os ++ (0 ∷ [])) p 0
 unfolding most_of
 most_at [] zero = refl
 most_at [] (suc p) = refl
@@ -80,16 +79,16 @@ module _ (s S : List ℕ) (i m : ℕ) (h : TypeAt s S i) (c : m ≡ type_arg_cou
 
 -- ------------------------------------------------------------ state fields
 
-module _ (s S : List ℕ) (x : Name) (d : Loaded s S) (r : Found) (f : FieldNamed s S x r) where
-  pub field_none : r ≡ Nothing → 0 ≡ most_of (narrow_field (model_in s) x)
+module _ (s S : List ℕ) (x : Name) (d : Loaded s S) (r : Option ℕ) (f : FieldNamed s S x r) where
+  pub field_none : r ≡ None → 0 ≡ most_of (narrow_field (model_in s) x)
   unfolding narrow_field found_field most_of
   field_none e = rw (narrow_field, ← f.found, e) refl
 
-  pub values_none : r ≡ Nothing → 0 ≡ most_of (narrow_values (model_in s) x)
+  pub values_none : r ≡ None → 0 ≡ most_of (narrow_values (model_in s) x)
   unfolding narrow_values found_field most_of
   values_none e = rw (narrow_values, ← f.found, e) refl
 
-  module _ (i v : ℕ) (e : r ≡ At i) where
+  module _ (i v : ℕ) (e : r ≡ Some i) where
     its_type : TypeBehind s S i
     its_type = behind kinds.field s S d r i e f.kind (omega arith) (omega arith)
 

@@ -60,18 +60,14 @@ pub fn exceeds(text: &[u8], most: u64) -> bool
         mid: 0,
         low: 0,
     };
-    let mut i = 0;
-    while i < text.len() {
-        let b = text[i];
+    for &b in text {
         if b == b'_' {
-            i += 1;
             continue;
         }
         n = with_digit(n, b);
         if 4294967295 < n.high {
             return false;
         }
-        i += 1;
     }
     above(n, most)
 }

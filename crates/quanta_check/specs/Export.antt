@@ -1,8 +1,8 @@
 -- The answers as C has them.
-use Rattle.sheet.specs.declared.loader.Answer.{Answer}
-use Rattle.sheet.specs.declared.loader.Answer.TheVariants.{Lines, Refused}
+use Rattle.std.specs.Prelude.{ℕ, Result, Ok, Err}
+use Rattle.sheet.specs.declared.refusal.Refused.{Refused}
 use Rattle.quanta_check.specs.declared.load.Load.{Load}
 
-unfoldable pub load_of : Answer → Load
-load_of (Lines n) = record { number = 0; line = 0; lines = n }
-load_of (Refused k i) = record { number = k; line = i; lines = 0 }
+unfoldable pub load_of : Result ℕ Refused → Load
+load_of (Ok n) = record { number = 0; line = 0; lines = n }
+load_of (Err r) = record { number = r.number; line = r.line; lines = 0 }

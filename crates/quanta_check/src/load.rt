@@ -4,9 +4,9 @@ ghost use Rattle.sheet.specs.Load.{load};
 ghost use Rattle.sheet.specs.Promise.{answer, scratch_after};
 ghost use Rattle.quanta_check.specs.Export.{load_of};
 
-use sheet::Answer;
+use sheet::Refused;
 
-// The number of lines of a sheet that is loaded, or a refusal's number and line.
+// The number of lines of a sheet that is loaded, or a refusal's number and line: C has no enum with fields.
 #[repr(C)]
 #[derive(Clone, Copy)]
 pub struct Load {
@@ -21,12 +21,12 @@ pub fn quanta_load(sheet: &[u8], scratch: &mut [u16], types: usize) -> Load
     ensures scratch_after { scratch.new ≡ scratch_after sheet.now types scratch.old }
 {
     match sheet::load(sheet, scratch, types) {
-        Answer::Lines(lines) => Load {
+        Ok(lines) => Load {
             number: 0,
             line: 0,
             lines,
         },
-        Answer::Refused { number, line } => Load {
+        Err(Refused { number, line }) => Load {
             number,
             line,
             lines: 0,

@@ -1,4 +1,5 @@
 // The static library for C and Rust: a slice is a pointer and a length there, and an answer comes back by value.
+// An exported function has clauses of its own, so those of `quanta_check` stand here again.
 #![tactic(auto)]
 
 ghost use Rattle.std.specs.Prelude.{◌≡◌, ◌≤◌, length};

@@ -1,8 +1,9 @@
 -- Rules that ask nothing, one test behind another. Assumes nothing.
-use mathlib.Core.Path.{◌≡◌, refl}
+use mathlib.Core.Path.{◌≡◌, refl, sym}
 use mathlib.Core.List.{List}
-use mathlib.Core.Bool.{Bool, true, false}
+use mathlib.Core.Bool.{Bool, true, false, true≢false}
 use Prim.Native.Nat.{ℕ}
+use Rattle.std.specs.Prelude.{Result, Ok, Err, IsErr, IsErrAnd}
 use Rattle.rules.specs.Text.{Piece}
 use Rattle.rules.specs.Asking.{Refusal as Ruled, Res, ok, refused, Rule, ret, ◌>>=◌, ◌>>◌, expect}
 use Rattle.rules.specs.Kept.{kept}
@@ -10,8 +11,6 @@ use Rattle.rules.proofs.Binding as binding
 use Rattle.refusals.specs.Answers.{Answers, expected}
 use Rattle.refusals.specs.Refusal.{refusal_of, done_of}
 use Rattle.refusals.specs.declared.refusal.Refusal.{Refusal}
-use Rattle.refusals.specs.declared.refusal.Done.{Done}
-use Rattle.refusals.specs.declared.refusal.Done.TheVariants.{Fine, Refused}
 
 pub gives : {A : Type 0} (a : A) → Answers (ret a) (ok a)
 unfolding kept
@@ -27,12 +26,12 @@ unfolding ◌>>◌
 then_refused p q r h = record { answers = λ T. binding.then_refused p (λ _. q) T T r (h.answers T) }
 
 -- ... whose outcome the code tells
-module _ (s : List ℕ) (p q : Rule Unit) (d : Done) (h : Answers p (done_of s d)) where
-  pub answers_then : d ≡ Fine → (r : Done) → Answers q (done_of s r) → Answers (p >>= λ _. q) (done_of s r)
+module _ (s : List ℕ) (p q : Rule Unit) (d : Result Unit Refusal) (h : Answers p (done_of s d)) where
+  pub answers_then : d ≡ Ok tt → (r : Result Unit Refusal) → Answers q (done_of s r) → Answers (p >>= λ _. q) (done_of s r)
   unfolding done_of ◌>>◌
   answers_then e r k = then_fine p q tt (done_of s r) (rw e at h) k
 
-  pub answers_cut : (x : Refusal) → d ≡ Refused x → Answers (p >>= λ _. q) (done_of s (Refused x))
+  pub answers_cut : (x : Refusal) → d ≡ Err x → Answers (p >>= λ _. q) (done_of s (Err x))
   unfolding done_of ◌>>◌
   answers_cut x e = then_refused p q (refusal_of s x) (rw e at h)
 
@@ -48,7 +47,7 @@ unfolding expect kept
 misfits b n at ps e = rw e (record { answers = λ T. refl })
 
 -- ... whose refusal the code names
-pub expects : (s : List ℕ) (b : Bool) (why : Refusal) (r : Done) → r ≡ expected b why
+pub expects : (s : List ℕ) (b : Bool) (why : Refusal) (r : Result Unit Refusal) → r ≡ expected b why
     → Answers (expect b (refusal_of s why).number (refusal_of s why).place (refusal_of s why).text) (done_of s r)
 unfolding done_of expected
 expects s true why r e = rw e (fits true _ _ _ refl)
@@ -61,3 +60,8 @@ passes b n at ps q r e h = then_fine (expect b n at ps) q tt r (fits b n at ps e
 pub refuses : {A : Type 0} (b : Bool) (n at : ℕ) (ps : List Piece) (q : Rule A) → b ≡ false
     → Answers (expect b n at ps >> q) (refused (record { number = n; place = at; text = ps }))
 refuses b n at ps q e = then_refused (expect b n at ps) q _ (misfits b n at ps e)
+
+-- what `?` hands on
+pub handed_on : {A : Type 0} (e : Result A Refusal) (why : Refusal) → IsErr e × IsErrAnd e (λ r. r ≡ why) → e ≡ Err why
+handed_on (Ok a) why h = absurd (true≢false (sym h.0))
+handed_on (Err r) why h = rw h.1 refl

@@ -1,5 +1,5 @@
 -- The number, place and text of each refusal of the code (docs/REFUSALS.md). Lines are those of the sheet s.
-use Rattle.std.specs.Prelude.{ℕ, suc, List, [], ◌∷◌, Bool, cond, eqb}
+use Rattle.std.specs.Prelude.{ℕ, suc, List, [], ◌∷◌, Bool, cond, eqb, Result, Ok, Err}
 use Rattle.std.proofs.Math.Option.{none, some}
 use Rattle.sheet.specs.Tree.{Node, node}
 use Rattle.rules.specs.Text.{Name, lit}
@@ -16,8 +16,6 @@ use Rattle.rules.specs.KeyKinds.{key_kinds_text}
 use Rattle.rules.specs.Check.{local_text, default_text}
 use Rattle.refusals.specs.declared.refusal.Refusal.{Refusal}
 use Rattle.refusals.specs.declared.refusal.Refusal.TheVariants.{NameStored, Arity, OnlyTypes, InnerType, UnknownType, NoArguments, Digest, Default, Guardian, Predicate, ReachesField, ReachesValues, ReachesEvent, CollectionLocal, AssetSlot, NameIntoAddress, WrappingIntoNarrow, LiteralIntoNarrow, SlotMismatch, Recipient, Receiver, KeyedOp, Amount, NameNotParam, NameWanted, Holds, Not, Neg, Logical, Arithmetic, Ordering, NamesCompared, Compared, EmitField, Dropped, Overflow, KeyKinds}
-use Rattle.refusals.specs.declared.refusal.Done.{Done}
-use Rattle.refusals.specs.declared.refusal.Done.TheVariants.{Fine, Refused}
 use Rattle.grammar.specs.Kinds as kinds
 use Rattle.rules.specs.Kept.{ty_from}
 
@@ -94,6 +92,6 @@ refusal_of s (Overflow assign) = record { number = 45; place = place_at s assign
 refusal_of s (KeyKinds map key) = record { number = 46; place = span (expr_at s key); text = key_kinds_text (named_at s map) }
 
 -- what a rule that gives no value answers
-unfoldable pub done_of : List ℕ → Done → Res Unit
-done_of s Fine = ok tt
-done_of s (Refused r) = refused (refusal_of s r)
+unfoldable pub done_of : List ℕ → Result Unit Refusal → Res Unit
+done_of s (Ok tt) = ok tt
+done_of s (Err r) = refused (refusal_of s r)

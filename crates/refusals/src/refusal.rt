@@ -122,10 +122,3 @@ pub enum Refusal {
         key: usize,
     },
 }
-
-// What a rule answers that gives no value.
-#[derive(Clone, Copy)]
-pub enum Done {
-    Fine,
-    Refused(Refusal),
-}

@@ -11,7 +11,7 @@ use lib.Dec.{leb}
 use Rattle.sheet.specs.Line.{Line}
 use Rattle.sheet.specs.Load.{LoadResult, lines, refused as unread, load}
 use Rattle.sheet.specs.Same.{SameRecord}
-use Rattle.sheet.proofs.Refused.{load_one}
+use Rattle.sheet.proofs.FromOne.{load_one}
 use Rattle.rules.specs.Asking.{Res, ok, refused, fresh}
 use Rattle.rules.specs.Check.{check}
 use Rattle.rules.specs.Verdict.{answer_for, model_of, ruled, refused_sheet, judge, verdict}

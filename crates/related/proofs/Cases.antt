@@ -23,7 +23,7 @@ use Rattle.sheet.proofs.Twins.{no_twin, moved}
 use Rattle.rules.specs.Asking.{Res, fresh}
 use Rattle.rules.specs.Check.{check}
 use Rattle.rules.specs.Model.{Model, field_named, event_named}
-use Rattle.rules.specs.Standing.{read_lines}
+use Rattle.sheet.specs.Loaded.{read_lines}
 use Rattle.rules.specs.Computed.{computed}
 use Rattle.rules.specs.Verdict.{model_of, verdict}
 use Rattle.related.specs.Sheets.{results, entries_in, ButOne, Foreign}

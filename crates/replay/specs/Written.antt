@@ -1,13 +1,11 @@
 -- What is written of an answer and of what the lent buffers hold.
-use Rattle.std.specs.Prelude.{ℕ, List, Option, ◌≡◌, ◌-◌, ◌++◌, ◌==◌, min, length, take, codes, decimal}
+use Rattle.std.specs.Prelude.{ℕ, List, ◌-◌, ◌++◌, ◌==◌, min, length, take, replicate, codes, decimal}
 use Rattle.std.specs.List.{join_by, prefix_len, suffix_len}
-use Rattle.std.specs.Io.KnownBytes.{Appends}
-use Rattle.text.specs.Text.{copies}
-use Rattle.frames.specs.Frame.{TakesFrame}
 use Rattle.frames.specs.declared.Lengths.{Lengths}
 use Rattle.verdict.specs.Outcome.{outcome}
 use Rattle.verdict.specs.declared.Answer.{Answer}
 use Rattle.replay.specs.declared.noise.TheConstants.{BYTE, CELL}
+use Rattle.replay.specs.declared.TheConstants.{MOST}
 
 -- how many items hold x up to the end
 abbrev pub noise_len : ℕ → List ℕ → ℕ
@@ -36,15 +34,12 @@ line_of a S T M =
     ++ four_of (prefix_len (λ c. c == 0) S) (noise_len CELL S) (noise_len BYTE T) (noise_len BYTE M)
     ++ held_of (before BYTE T) (before BYTE M)
 
--- the line for the sheet s, judged with lent buffers of so many cells and bytes that are full of noise
-unfoldable pub line_for : (s : List ℕ) (cells types room : ℕ) → List ℕ
-line_for s cells types room =
-    let o = outcome s (copies cells CELL) (copies types BYTE) (copies room BYTE) in
-    line_of o.answer o.scratch o.types o.message
+-- how much is read of a sheet
+abbrev pub sheet_size : Lengths → ℕ
+sheet_size lengths = min lengths.sheet MOST
 
--- a frame was taken from the input, its sheet as far as there was room for it, and the line for it written, with at most so many
--- cells and bytes lent
-abbrev pub AnswersFrame : (input input' out out' : Option (List ℕ)) (bytes cells types room : ℕ) → Type 0
-AnswersFrame input input' out out' bytes cells types room =
-    (lengths : Lengths) × (s : List ℕ) × (length s ≡ min lengths.sheet bytes) × TakesFrame input input' lengths s
-    × Appends out out' (line_for s (min lengths.scratch cells) (min lengths.types types) (min lengths.message room))
+-- the line for the sheet s, judged with lent buffers of so many cells and bytes, at most MOST, that are full of noise
+unfoldable pub line_for : List ℕ → Lengths → List ℕ
+line_for s lengths =
+    let o = outcome s (replicate (min lengths.scratch MOST) CELL) (replicate (min lengths.types MOST) BYTE) (replicate (min lengths.message MOST) BYTE) in
+    line_of o.answer o.scratch o.types o.message

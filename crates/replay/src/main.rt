@@ -9,17 +9,16 @@
 
 mod noise;
 
-ghost use Rattle.std.specs.Prelude.{◌≡◌, ◌≤◌, min, length, IfOk, OnOk};
-ghost use Rattle.std.specs.Io.KnownBytes.{Appends, IsAtEnd, Keeps};
+ghost use Rattle.std.specs.Prelude.{IfOk, OnOk};
+ghost use Rattle.std.specs.Io.KnownBytes.{Appends, Keeps};
 ghost use Rattle.std.specs.Bool.{OnFalse, OnTrue};
-ghost use Rattle.frames.specs.Frame.{TakesSheet};
-ghost use Rattle.replay.specs.Written.{AnswersFrame, four_of, held_of, line_for, line_of, types_of};
+ghost use Rattle.frames.specs.Frame.{AnswersFrame, EndsFrames};
+ghost use Rattle.replay.specs.Written.{sheet_size, four_of, held_of, line_for, line_of, types_of};
 
-use frames::Frame;
-use noise::{BYTE, CELL, before_noise, before_noise_u16, zeros};
+use frames::Lengths;
+use noise::{BYTE, CELL, noise_len, zeros};
 use std::io;
 use std::io::{Read, Write};
-use text::{fill, fill_u16};
 use verdict::Answer;
 
 #[tactic(auto, unfolding(crate::specs::Written::types_of))]
@@ -38,7 +37,7 @@ fn write_types<W: Write>(out: &mut W, types: &[u8]) -> io::Result<()>
 
 // Four numbers parted by commas.
 #[tactic(auto, unfolding(crate::specs::Written::four_of))]
-fn write_four<W: Write>(out: &mut W, a: u64, b: u64, c: u64, d: u64) -> io::Result<()>
+fn write_four<W: Write>(out: &mut W, a: usize, b: usize, c: usize, d: usize) -> io::Result<()>
     ensures { OnOk result (Appends (W.contents out.old) (W.contents out.new) (four_of a b c d)) }
 {
     write!(out, "{a},{b},{c},{d};")
@@ -65,101 +64,63 @@ fn write_line<W: Write>(
     ensures { OnOk result (Appends (W.contents out.old) (W.contents out.new)
         (line_of answer scratch.now types.now message.now)) }
 {
-    let marked = before_noise(types);
-    let length = before_noise(message);
+    let unmarked = noise_len(types, BYTE);
+    let unwritten = noise_len(message, BYTE);
     write_four(
         out,
-        answer.number as u64,
-        answer.place as u64,
-        answer.count as u64,
-        answer.length as u64,
+        answer.number as usize,
+        answer.place as usize,
+        answer.count as usize,
+        answer.length as usize,
     )?;
     write_four(
         out,
-        zeros(scratch) as u64,
-        (scratch.len() - before_noise_u16(scratch)) as u64,
-        (types.len() - marked) as u64,
-        (message.len() - length) as u64,
+        zeros(scratch),
+        noise_len(scratch, CELL),
+        unmarked,
+        unwritten,
     )?;
-    write_held(out, &types[..marked], &message[..length])
+    write_held(
+        out,
+        &types[..types.len() - unmarked],
+        &message[..message.len() - unwritten],
+    )
 }
 
-#[tactic(auto, unfolding(crate::specs::Written::line_for))]
-fn write_answer<W: Write>(
-    out: &mut W,
-    sheet: &[u8],
-    scratch: &mut [u16],
-    types: &mut [u8],
-    message: &mut [u8],
-) -> io::Result<()>
-    ensures { OnOk result (Appends (W.contents out.old) (W.contents out.new)
-        (line_for sheet.now (length scratch.old) (length types.old) (length message.old))) }
+// The most that is read of a sheet, and lent of each buffer.
+const MOST: usize = 32768;
+
+// Lends what the header tells, as far as there is so much.
+fn write_answer<W: Write>(out: &mut W, sheet: &[u8], lengths: Lengths) -> io::Result<()>
+    ensures { OnOk result (Appends (W.contents out.old) (W.contents out.new) (line_for sheet.now lengths)) }
 {
-    fill_u16(scratch, CELL);
-    fill(types, BYTE);
-    fill(message, BYTE);
+    let mut scratch = [CELL; MOST];
+    let mut types = [BYTE; MOST];
+    let mut message = [BYTE; MOST];
+    let scratch = &mut scratch[..lengths.scratch.min(MOST)];
+    let types = &mut types[..lengths.types.min(MOST)];
+    let message = &mut message[..lengths.message.min(MOST)];
     let answer = verdict::verdict(sheet, scratch, types, message);
     write_line(out, answer, scratch, types, message)
 }
 
-// Fills the sheet and writes its answer; whether there was as much.
-fn one<R: Read, W: Write>(
-    input: &mut R,
-    out: &mut W,
-    sheet: &mut [u8],
-    scratch: &mut [u16],
-    types: &mut [u8],
-    message: &mut [u8],
-) -> io::Result<bool>
-    ensures taken { IfOk result (TakesSheet (R.remaining input.old) (R.remaining input.new) sheet.new) }
-    ensures written { IfOk result (λ full. OnTrue full (Appends (W.contents out.old) (W.contents out.new)
-        (line_for sheet.new (length scratch.old) (length types.old) (length message.old)))) }
-    ensures kept { IfOk result (λ full. OnFalse full (Keeps (W.contents out.old) (W.contents out.new))) }
+// One sheet with its header; whether there was one.
+fn turn<R: Read, W: Write>(input: &mut R, out: &mut W) -> io::Result<bool>
+    ensures answered { IfOk result (λ there. OnTrue there (AnswersFrame (R.remaining input.old) (R.remaining input.new)
+        (W.contents out.old) (W.contents out.new) sheet_size line_for)) }
+    ensures ended { IfOk result (λ there. OnFalse there (EndsFrames (R.remaining input.old) (R.remaining input.new) sheet_size)) }
+    ensures kept { IfOk result (λ there. OnFalse there (Keeps (W.contents out.old) (W.contents out.new))) }
 {
+    let Some(lengths) = frames::header(input)? else {
+        return Ok(false);
+    };
+    let mut sheet = [0u8; MOST];
+    let sheet = &mut sheet[..lengths.sheet.min(MOST)];
     if !frames::filled(input, sheet)? {
         return Ok(false);
     }
-    write_answer(out, sheet, scratch, types, message)?;
+    write_answer(out, sheet, lengths)?;
     Ok(true)
-}
-
-fn at_most(n: usize, most: usize) -> usize
-    ensures upper_bound { result ≤ most }
-    ensures value { result ≡ min n most }
-{
-    if most < n { most } else { n }
-}
-
-// One sheet with its header; whether there was one.
-fn turn<R: Read, W: Write>(
-    input: &mut R,
-    out: &mut W,
-    sheet: &mut [u8],
-    scratch: &mut [u16],
-    types: &mut [u8],
-    message: &mut [u8],
-) -> io::Result<bool>
-    ensures answered { IfOk result (λ there. OnTrue there (AnswersFrame (R.remaining input.old) (R.remaining input.new)
-        (W.contents out.old) (W.contents out.new)
-        (length sheet.old) (length scratch.old) (length types.old) (length message.old))) }
-    ensures ended { IfOk result (λ there. OnFalse there (IsAtEnd (R.remaining input.new))) }
-    ensures kept { IfOk result (λ there. OnFalse there (Keeps (W.contents out.old) (W.contents out.new))) }
-{
-    let Frame::Lent(lent) = frames::header(input)? else {
-        return Ok(false);
-    };
-    let bytes = at_most(lent.sheet, sheet.len());
-    let cells = at_most(lent.scratch, scratch.len());
-    let codes = at_most(lent.types, types.len());
-    let room = at_most(lent.message, message.len());
-    one(
-        input,
-        out,
-        &mut sheet[..bytes],
-        &mut scratch[..cells],
-        &mut types[..codes],
-        &mut message[..room],
-    )
 }
 
 // How many sheets are answered at most.
@@ -168,19 +129,8 @@ const MOST_SHEETS: u32 = 1000000;
 fn main(rt: HostRuntime) -> io::Result<()> {
     let mut input = rt.stdin();
     let mut out = rt.stdout();
-    let mut sheet = [0u8; 32768];
-    let mut scratch = [0u16; 32768];
-    let mut types = [0u8; 32768];
-    let mut message = [0u8; 32768];
     for _ in 0..MOST_SHEETS {
-        if !turn(
-            &mut input,
-            &mut out,
-            &mut sheet,
-            &mut scratch,
-            &mut types,
-            &mut message,
-        )? {
+        if !turn(&mut input, &mut out)? {
             break;
         }
     }

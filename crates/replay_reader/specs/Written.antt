@@ -1,16 +1,14 @@
 -- What is written of a sheet that was read.
-use Rattle.std.specs.Prelude.{ℕ, List, Option, ◌⊎◌, ◌≡◌, ◌≤◌, ◌<◌, ◌+◌, ◌++◌, length, take, cond, ltb, count_by, codes, decimal}
+use Rattle.std.specs.Prelude.{ℕ, List, Option, Some, Result, Ok, Err, ◌⊎◌, ◌<◌, ◌+◌, ◌++◌, max, replicate, cond, ltb, count_by, codes, decimal}
 use Rattle.std.specs.List.{join_by, range_with_len}
-use Rattle.std.specs.Io.KnownBytes.{Appends, IsAtEnd}
-use Rattle.frames.specs.Frame.{TakesFrame, TakesHeader}
-use Rattle.frames.specs.declared.Frame.TheVariants.{Lent}
+use Rattle.frames.specs.Frame.{EndsFrames, TakesHeader}
 use Rattle.frames.specs.declared.Lengths.{Lengths}
 use Rattle.sheet.specs.Load.{load}
 use Rattle.sheet.specs.Promise.{answer, scratch_after}
 use Rattle.sheet.specs.Scratch.{end_at}
 use Rattle.sheet.specs.Say.{word_at}
-use Rattle.sheet.specs.declared.loader.Answer.{Answer}
-use Rattle.sheet.specs.declared.loader.Answer.TheVariants.{Lines, Refused}
+use Rattle.sheet.specs.declared.refusal.Refused.{Refused}
+use Rattle.replay_reader.specs.declared.TheConstants.{MOST}
 
 -- a line's number, counted from 1, and 0 of a line that no sheet has
 abbrev pub from_one_of : ℕ → ℕ
@@ -29,22 +27,17 @@ abbrev pub lines_of : (s S : List ℕ) → ℕ → List ℕ
 lines_of s S n = join_by (line_of s S) (codes " ") (range_with_len 0 n)
 
 -- an answer, and the lines if the sheet was read
-abbrev pub answer_of : (s S : List ℕ) → Answer → List ℕ
-answer_of s S (Lines n) = codes "0," ++ decimal n ++ codes ";" ++ lines_of s S n ++ codes "\n"
-answer_of s S (Refused number line) = decimal number ++ codes "," ++ decimal line ++ codes "\n"
+abbrev pub answer_of : (s S : List ℕ) → Result ℕ Refused → List ℕ
+answer_of s S (Ok n) = codes "0," ++ decimal n ++ codes ";" ++ lines_of s S n ++ codes "\n"
+answer_of s S (Err r) = decimal r.number ++ codes "," ++ decimal r.line ++ codes "\n"
 
--- what is written of the sheet s, read with the scratch S and a type table of so many bytes
-unfoldable pub text_for : (s S : List ℕ) (types : ℕ) → List ℕ
-text_for s S types = answer_of s (scratch_after s types S) (answer (load s types (length S)))
+-- what is written of the sheet s, read with a scratch of zeros and with the other buffers that are told
+unfoldable pub text_for : List ℕ → Lengths → List ℕ
+text_for s lengths =
+    answer_of s (scratch_after s lengths.types (replicate lengths.scratch 0)) (answer (load s lengths.types lengths.scratch))
 
--- a frame was taken from the input, and what its sheet gives with the scratch S was written
-abbrev pub AnswersFrame : (input input' out out' : Option (List ℕ)) (S : List ℕ) → Type 0
-AnswersFrame input input' out out' S =
-    (lengths : Lengths) × (s : List ℕ) × (length s ≡ lengths.sheet) × (lengths.scratch ≤ length S) × TakesFrame input input' lengths s
-    × Appends out out' (text_for s (take lengths.scratch S) lengths.types)
-
--- none is left in the input, or the header that was taken asks for more bytes or cells than there are
-abbrev pub EndsFrames : (input input' : Option (List ℕ)) (bytes cells : ℕ) → Type 0
-EndsFrames input input' bytes cells =
-    IsAtEnd input'
-    ⊎ ((lengths : Lengths) × TakesHeader input input' (Lent lengths) × ((bytes < lengths.sheet) ⊎ (cells < lengths.scratch)))
+-- no whole frame was left in the input, or the header that was taken asks for more bytes or cells than there are
+abbrev pub EndsReader : (input input' : Option (List ℕ)) → Type 0
+EndsReader input input' =
+    EndsFrames input input' (λ lengths. lengths.sheet)
+    ⊎ ((lengths : Lengths) × TakesHeader input input' (Some lengths) × (MOST < max lengths.sheet lengths.scratch))

@@ -2,14 +2,14 @@
 // number and place, or the number of lines and each line's word, depth and end.
 #![tactic(auto)]
 
-ghost use Rattle.std.specs.Prelude.{◌≡◌, length, IfOk, OnOk};
+ghost use Rattle.std.specs.Prelude.{◌≡◌, ◌≤◌, IfOk, OnOk};
 ghost use Rattle.std.specs.Bool.{OnFalse, OnTrue};
 ghost use Rattle.std.specs.Io.KnownBytes.{Appends, Keeps};
-ghost use Rattle.frames.specs.Frame.{TakesSheet};
-ghost use Rattle.replay_reader.specs.Written.{answer_of, AnswersFrame, EndsFrames, depth_of, from_one_of, line_of, lines_of, text_for};
+ghost use Rattle.frames.specs.Frame.{AnswersFrame};
+ghost use Rattle.replay_reader.specs.Written.{answer_of, EndsReader, depth_of, from_one_of, line_of, lines_of, text_for};
 
-use frames::Frame;
-use sheet::Answer;
+use frames::Lengths;
+use sheet::Refused;
 use std::io;
 use std::io::{Read, Write};
 
@@ -51,83 +51,57 @@ fn write_lines<W: Write>(out: &mut W, text: &[u8], lines: &[u16], n: usize) -> i
 }
 
 // Where a sheet was read, the lines are its lines.
-fn write_loaded<W: Write>(out: &mut W, text: &[u8], lines: &[u16], answer: Answer) -> io::Result<()>
+fn write_loaded<W: Write>(
+    out: &mut W,
+    text: &[u8],
+    lines: &[u16],
+    answer: Result<usize, Refused>,
+) -> io::Result<()>
     ensures { OnOk result (Appends (W.contents out.old) (W.contents out.new) (answer_of text.now lines.now answer)) }
 {
     match answer {
-        Answer::Lines(n) => {
+        Ok(n) => {
             write!(out, "0,{n};")?;
             write_lines(out, text, lines, n)?;
         }
-        Answer::Refused { number, line } => write!(out, "{number},{line}")?,
+        Err(Refused { number, line }) => write!(out, "{number},{line}")?,
     }
     out.write_all(b"\n")
 }
 
-#[tactic(auto, unfolding(crate::specs::Written::text_for))]
-fn write_answer<W: Write>(
-    out: &mut W,
-    text: &[u8],
-    scratch: &mut [u16],
-    types: usize,
-) -> io::Result<()>
-    ensures { OnOk result (Appends (W.contents out.old) (W.contents out.new) (text_for text.now scratch.old types)) }
+// The most bytes of a sheet, and the most cells that are lent.
+const MOST: usize = 32768;
+
+fn write_answer<W: Write>(out: &mut W, text: &[u8], lengths: Lengths) -> io::Result<()>
+    requires { lengths.scratch ≤ MOST }
+    ensures { OnOk result (Appends (W.contents out.old) (W.contents out.new) (text_for text.now lengths)) }
 {
-    let answer = sheet::load(text, scratch, types);
+    let mut scratch = [0u16; MOST];
+    let scratch = &mut scratch[..lengths.scratch];
+    let answer = sheet::load(text, scratch, lengths.types);
     write_loaded(out, text, scratch, answer)
 }
 
-// Fills the sheet and writes its answer; whether there was as much.
-fn one<R: Read, W: Write>(
-    input: &mut R,
-    out: &mut W,
-    text: &mut [u8],
-    scratch: &mut [u16],
-    types: usize,
-) -> io::Result<bool>
-    ensures taken { IfOk result (TakesSheet (R.remaining input.old) (R.remaining input.new) text.new) }
-    ensures written { IfOk result (λ full. OnTrue full (Appends (W.contents out.old) (W.contents out.new)
-        (text_for text.new scratch.old types))) }
-    ensures kept { IfOk result (λ full. OnFalse full (Keeps (W.contents out.old) (W.contents out.new))) }
+// One sheet with its header; whether it was answered.
+fn turn<R: Read, W: Write>(input: &mut R, out: &mut W) -> io::Result<bool>
+    ensures answered { IfOk result (λ there. OnTrue there (AnswersFrame (R.remaining input.old) (R.remaining input.new)
+        (W.contents out.old) (W.contents out.new) (λ lengths. lengths.sheet) text_for)) }
+    ensures ended { IfOk result (λ there. OnFalse there (EndsReader (R.remaining input.old) (R.remaining input.new))) }
+    ensures kept { IfOk result (λ there. OnFalse there (Keeps (W.contents out.old) (W.contents out.new))) }
 {
+    let Some(lengths) = frames::header(input)? else {
+        return Ok(false);
+    };
+    if MOST < lengths.sheet.max(lengths.scratch) {
+        return Ok(false);
+    }
+    let mut text = [0u8; MOST];
+    let text = &mut text[..lengths.sheet];
     if !frames::filled(input, text)? {
         return Ok(false);
     }
-    write_answer(out, text, scratch, types)?;
+    write_answer(out, text, lengths)?;
     Ok(true)
-}
-
-// One sheet with its header; whether it was answered.
-fn turn<R: Read, W: Write>(
-    input: &mut R,
-    out: &mut W,
-    text: &mut [u8],
-    scratch: &mut [u16],
-) -> io::Result<bool>
-    ensures answered { IfOk result (λ there. OnTrue there (AnswersFrame (R.remaining input.old) (R.remaining input.new)
-        (W.contents out.old) (W.contents out.new) scratch.old)) }
-    ensures ended { IfOk result (λ there. OnFalse there (EndsFrames (R.remaining input.old) (R.remaining input.new)
-        (length text.old) (length scratch.old))) }
-    ensures kept { IfOk result (λ there. OnFalse there (Keeps (W.contents out.old) (W.contents out.new))) }
-{
-    let Frame::Lent(lent) = frames::header(input)? else {
-        return Ok(false);
-    };
-    let bytes = lent.sheet;
-    let cells = lent.scratch;
-    if text.len() < bytes {
-        return Ok(false);
-    }
-    if scratch.len() < cells {
-        return Ok(false);
-    }
-    one(
-        input,
-        out,
-        &mut text[..bytes],
-        &mut scratch[..cells],
-        lent.types,
-    )
 }
 
 // How many sheets are answered at most.
@@ -136,10 +110,8 @@ const MOST_SHEETS: u32 = 100000;
 fn main(rt: HostRuntime) -> io::Result<()> {
     let mut input = rt.stdin();
     let mut out = rt.stdout();
-    let mut text = [0u8; 32768];
-    let mut scratch = [0u16; 32768];
     for _ in 0..MOST_SHEETS {
-        if !turn(&mut input, &mut out, &mut text, &mut scratch)? {
+        if !turn(&mut input, &mut out)? {
             break;
         }
     }

@@ -7,6 +7,8 @@ use native.Mathlib.Omega.{arith}
 use Rattle.text.specs.Text.{same}
 use Rattle.grammar.specs.Grammar as grammar
 use Rattle.sheet.specs.Scratch.{end_at, line_count}
+use Rattle.sheet.specs.Records.{Steps}
+use Rattle.sheet.specs.declared.records.Records.{Records}
 use Rattle.sheet.specs.Tree.{take_nodes}
 use Rattle.rules.specs.Text.{Name, among}
 use Rattle.rules.specs.Ast.{Expr, more, list, exprs_of}
@@ -83,25 +85,53 @@ module _ {A : Type 0} {σ : grammar.Sort} {one : List ℕ → ℕ → A} {all : 
     pub row_onward : {Q : List A → Type 0} (at' : ℕ) → at' ≡ end_at S at → ((as' : List A) → P (one s at ∷ as') → Q as') → RowWalk σ all Q s S (left - 1) at'
     row_onward at' q f = rw q (record { loaded = w.loaded; row = row_rest (row_some h w.row); known = f _ known })
 
+-- The same of the records that the iterator r gives.
+pub record IterWalk {A : Type 0} (σ : grammar.Sort) (all : List ℕ → ℕ → ℕ → List A) (P : List A → Type 0) (s S : List ℕ) (r : Records) : Type 0 where
+  pub lines : r.lines.now ≡ S
+  pub walk : RowWalk σ all P s S r.left r.at
+
+pub iter_start : {A : Type 0} (σ : grammar.Sort) (all : List ℕ → ℕ → ℕ → List A) (P : List A → Type 0) (s S : List ℕ) (left at : ℕ) (r : Records)
+    → RowWalk σ all P s S left at → r.lines.now ≡ S → r.left ≡ left → r.at ≡ at → IterWalk σ all P s S r
+iter_start σ all P s S left at r w e p q = record { lines = e; walk = rw (p, q) w }
+
+pub iter_over : {A : Type 0} {σ : grammar.Sort} {one : List ℕ → ℕ → A} {all : List ℕ → ℕ → ℕ → List A} (l : Listed one all) {P : List A → Type 0} {s S : List ℕ} {r : Records} → IterWalk σ all P s S r → r.left ≡ 0 → P []
+iter_over l w h = row_over l w.walk (omega (arith, h))
+
+module _ {A : Type 0} {σ : grammar.Sort} {all : List ℕ → ℕ → ℕ → List A} {s S : List ℕ} {r t : Records} {i : ℕ} (h : Steps r i t) where
+  pub iter_here : {P : List A → Type 0} → IterWalk σ all P s S r → Here S σ i
+  iter_here w = rw h.here (row_here w.walk (omega (arith, h.left)))
+
+  module _ {one : List ℕ → ℕ → A} (l : Listed one all) {P : List A → Type 0} (w : IterWalk σ all P s S r) where
+    pub iter_found : {B : Type 0} → ((as' : List A) → P (one s i ∷ as') → B) → B
+    iter_found f = row_found l w.walk (omega (arith, h.left)) (rw h.here at f)
+
+    pub iter_onward : {Q : List A → Type 0} → ((as' : List A) → P (one s i ∷ as') → Q as') → IterWalk σ all Q s S t
+    iter_onward f =
+        let n : r.left - 1 ≡ t.left = omega (arith, h.left) in
+        record {
+          lines = h.lines ∙ w.lines;
+          walk = rw n at (row_onward l w.walk (omega (arith, h.left)) t.at (rw w.lines at h.behind) (rw h.here at f));
+        }
+
 -- ------------------------------------------------------------ a search in a row
 
--- whether p of one of the records
-abbrev pub Seeking : {A : Type 0} → grammar.Sort → (List ℕ → ℕ → ℕ → List A) → (A → Bool) → Bool → (s S : List ℕ) → (left at : ℕ) → Type 0
-Seeking σ all p whole s S left at = RowWalk σ all (λ as'. whole ≡ any p as') s S left at
+-- whether p of one of the records that r gives
+abbrev pub Seeking : {A : Type 0} → grammar.Sort → (List ℕ → ℕ → ℕ → List A) → (A → Bool) → Bool → (s S : List ℕ) → Records → Type 0
+Seeking σ all p whole s S r = IterWalk σ all (λ as'. whole ≡ any p as') s S r
 
-module _ {A : Type 0} (σ : grammar.Sort) (all : List ℕ → ℕ → ℕ → List A) (s S : List ℕ) (p : A → Bool) (whole : Bool) (left at : ℕ) (w : Seeking σ all p whole s S left at) (one : List ℕ → ℕ → A) (l : Listed one all) where
-  pub seek_over : left ≤ 0 → false ≡ whole
+module _ {A : Type 0} (σ : grammar.Sort) (all : List ℕ → ℕ → ℕ → List A) (s S : List ℕ) (p : A → Bool) (whole : Bool) (r : Records) (w : Seeking σ all p whole s S r) (one : List ℕ → ℕ → A) (l : Listed one all) where
+  pub seek_over : r.left ≡ 0 → false ≡ whole
   unfolding any
-  seek_over h = sym (row_over l w h)
+  seek_over h = sym (iter_over l w h)
 
-  module _ (h : 0 < left) (b : Bool) (e : b ≡ p (one s at)) where
+  module _ (i : ℕ) (t : Records) (h : Steps r i t) (b : Bool) (e : b ≡ p (one s i)) where
     pub seek_found : b ≡ true → true ≡ whole
     unfolding any
-    seek_found q = row_found l w h (λ as' z. sym (z ∙ rw (← e, q) refl))
+    seek_found q = iter_found h l w (λ as' z. sym (z ∙ rw (← e, q) refl))
 
-    pub seek_next : (at' : ℕ) → b ≡ false → at' ≡ end_at S at → Seeking σ all p whole s S (left - 1) at'
+    pub seek_next : b ≡ false → Seeking σ all p whole s S t
     unfolding any
-    seek_next at' q f = row_onward l w h at' f (λ as' z. z ∙ rw (← e, q) refl)
+    seek_next q = iter_onward h l w (λ as' z. z ∙ rw (← e, q) refl)
 
 -- the names that g takes of a list, where t is true
 pub among_any : {A : Type 0} (t : A → Bool) (name : A → Name) (g : List A → List Name) → g [] ≡ []

@@ -5,20 +5,21 @@ use Prim.Native.Nat.{ℕ, zero, suc, ◌+◌, ◌-◌, ◌*◌, ◌<◌, ◌≤�
 use native.Mathlib.Omega.{arith}
 use mathlib.Core.Option.{some}
 use lib.ListN.{length, get_elem?, take, length-take}
-use Rattle.grammar.specs.Grammar.{Sort}
+use Rattle.grammar.specs.Grammar.{Sort, Contract}
 use Rattle.sheet.specs.Line.{Line}
 use Rattle.sheet.specs.Load.{lines, load, sorts, copies}
 use Rattle.sheet.specs.Tree.{Node, node, Nodes, nil, more, take_nodes, trees, before}
 use Rattle.sheet.specs.Scratch.{end_at, skip, line_count, cells_per_line}
-use Rattle.sheet.specs.Held.{Says, Held, held, HeldAll, no_tree, tree, every, EveryOf, no_more, and_more, Spells, Parted, formed, FormedAll, none_due, one_due}
+use Rattle.sheet.specs.Held.{Says, Held, held, HeldAll, no_tree, tree, Every, every, EveryOf, no_more, and_more, Spells, Parted, Formed, formed, FormedAll, none_due, one_due}
 use Rattle.sheet.specs.Promise.{answer, scratch_after}
 use Rattle.sheet.specs.Scan.{scan_all}
-use Rattle.sheet.specs.declared.loader.Answer.{Answer}
-use Rattle.sheet.specs.declared.loader.Answer.TheVariants.{Lines}
+use Rattle.sheet.specs.declared.refusal.Refused.{Refused}
+use Rattle.std.specs.Prelude.{Result, Ok}
 use Rattle.sheet.proofs.Holds.{all_le}
 use Rattle.sheet.proofs.Loaded.{whole, loaded, left_size, left_few, answer_lines}
 use Rattle.rules.specs.Ast.{more as more_exprs, blank_node, nodes, exprs_of}
-use Rattle.rules.specs.Standing.{read_lines, lines_in, drop_lines, trees_from, node_at, nodes_at, expr_at, exprs_at, Loaded, LoadedIn, Here, Row, stop, next}
+use Rattle.rules.specs.Standing.{drop_lines, trees_from, node_at, nodes_at, expr_at, exprs_at, Loaded, LoadedIn, Here, Row, stop, next}
+use Rattle.sheet.specs.Loaded.{read_lines, lines_in, TreeHeld, TreesHeld, IsLoaded}
 
 -- the trees from line i on: what their records are, where they stand and what they say
 record Trees (s S : List ℕ) (n i : ℕ) (ns : Nodes) : Type 0 where
@@ -260,6 +261,51 @@ unfolding nodes_at take_nodes nodes
 nodes-length d stop = refl
 nodes-length {m = suc m} {i} d (next x r) = rw (nodes_next d m i x.within) (ap suc (nodes-length d r))
 
+-- ------------------------------------------------------------ the two forms of what a loaded sheet is
+
+mutual
+  unfolding TreeHeld TreesHeld
+
+  tree_told : {s S : List ℕ} {n i : ℕ} {σ : Sort} (t : Node) → TreeHeld s S n σ i t → Formed σ t × Held S n i t × Every (Spells s S) t
+  tree_told (node j l ps) (h, r) =
+      let q = trees_told ps r in
+      (formed h.among h.parted q.0, rw h.at (held h.within h.says q.1), rw h.at (every h.spells q.2))
+
+  trees_told : {s S : List ℕ} {n i k : ℕ} {ss : List Sort} (ns : Nodes) → TreesHeld s S n ss i k ns → FormedAll ss ns × HeldAll S n i k ns × EveryOf (Spells s S) ns
+  trees_told {ss = []} nil e = (none_due, rw e no_tree, no_more)
+  trees_told {ss = []} (more t ns) x = absurd x
+  trees_told {ss = σ ∷ ss} nil x = absurd x
+  trees_told {ss = σ ∷ ss} (more t ns) (h, r) =
+      let p = tree_told t h in
+      let q = trees_told ns r in
+      (one_due p.0 q.0, tree p.1 q.1, and_more p.2 q.2)
+
+mutual
+  unfolding TreeHeld TreesHeld
+
+  tree_held : {s S : List ℕ} {n i : ℕ} {σ : Sort} {t : Node} → Formed σ t → Held S n i t → Every (Spells s S) t → TreeHeld s S n σ i t
+  tree_held (formed a p fs) (held h y r) (every e es) =
+      (record { at = refl; within = h; among = a; parted = p; says = y; spells = e }, trees_held fs r es)
+
+  trees_held : {s S : List ℕ} {n i k : ℕ} {ss : List Sort} {ns : Nodes} → FormedAll ss ns → HeldAll S n i k ns → EveryOf (Spells s S) ns → TreesHeld s S n ss i k ns
+  trees_held none_due no_tree no_more = refl
+  trees_held (one_due f fs) (tree h r) (and_more e es) = (tree_held f h e, trees_held fs r es)
+
+pub loaded_sheet : {s S : List ℕ} → IsLoaded s S → Loaded s S
+unfolding IsLoaded TreesHeld
+loaded_sheet {s} {S} h = by_cases (trees 0 (lines_in s)) refl h
+  where
+    by_cases : (ns : Nodes) → trees 0 (lines_in s) ≡ ns → TreesHeld s S (line_count S) (Contract ∷ []) 0 (line_count S) ns → Loaded s S
+    by_cases nil e x = absurd x
+    by_cases (more t nil) e x =
+        let q = tree_told t x.0 in
+        record { root = t; one = e; holding = record { formed = q.0; held = q.1; all = x.1; spells = q.2 } }
+    by_cases (more t (more u ns)) e x = absurd x.1
+
+pub is_loaded : {s S : List ℕ} → Loaded s S → IsLoaded s S
+unfolding IsLoaded TreesHeld
+is_loaded d = rw d.one (tree_held d.holding.formed d.holding.held d.holding.spells, d.holding.all)
+
 -- ------------------------------------------------------------ the loader
 
 lines_in_lem : (s : List ℕ) (ls : List Line) → scan_all s ≡ lines ls → lines_in s ≡ ls
@@ -274,7 +320,7 @@ by_load s types S ls e =
     record { root = d.0; one = rw (lines_in_lem s ls (whole s types S ls e).1) d.1; holding = rw c d.2 }
 
 -- ... where it answers that there are n lines, and leaves U for S
-pub by_answer : (s S U : List ℕ) (types n : ℕ) (r : Answer) → r ≡ answer (load s types (length S)) → r ≡ Lines n → U ≡ scratch_after s types S → LoadedIn s U n
+pub by_answer : (s S U : List ℕ) (types n : ℕ) (r : Result ℕ Refused) → r ≡ answer (load s types (length S)) → r ≡ Ok n → U ≡ scratch_after s types S → LoadedIn s U n
 by_answer s S U types n r a e u =
     let l = answer_lines (load s types (length S)) (sym e ∙ a) in
     let X = scratch_after s types S in

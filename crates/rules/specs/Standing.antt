@@ -1,25 +1,16 @@
 -- What stands at a line of a sheet: the tree of its record, told from the sheet's bytes alone. At the end what the code asks of the
 -- scratch: that it holds the sheet's lines, and that records of a sort stand there.
-use Rattle.std.specs.Prelude.{ℕ, zero, suc, ◌*◌, ◌<◌, ◌≤◌, List, [], map, ◌≡◌, length, take}
+use Rattle.std.specs.Prelude.{ℕ, zero, suc, ◌*◌, ◌<◌, ◌≤◌, List, map, ◌≡◌, length, take}
 use Rattle.grammar.specs.Grammar.{Sort}
 use Rattle.sheet.specs.Held.{Among, Holding}
-use Rattle.sheet.specs.Line.{Line, most_lines}
-use Rattle.sheet.specs.Load.{LoadResult as Read, lines, refused}
-use Rattle.sheet.specs.Scan.{scan_all}
+use Rattle.sheet.specs.Line.{most_lines}
+use Rattle.sheet.specs.Loaded.{lines_in}
 use Rattle.sheet.specs.Scratch.{kind_at, end_at, line_count, cells_per_line}
 use Rattle.sheet.specs.Tree.{Node, node, Nodes, nil, more, take_nodes, trees, before}
 use Rattle.rules.specs.Ast.{Type', Arg, Expr, Exprs, Field, Param, Clause, Stmt, Entry, Event, blank_node, nodes, span_of, arg_of, type_of, expr_of, exprs_of, field_of, param_of, clause_of, stmt_of, entry_of, event_of}
 use Rattle.rules.specs.Text.{Name}
 use Rattle.rules.specs.Model.{Model}
 use Rattle.rules.specs.Verdict.{model_of}
-
--- the lines of a sheet, none where it is refused
-unfoldable pub read_lines : Read → List Line
-read_lines (lines ls) = ls
-read_lines (refused n i) = []
-
-unfoldable pub lines_in : List ℕ → List Line
-lines_in s = read_lines (scan_all s)
 
 unfoldable pub model_in : List ℕ → Model
 model_in s = model_of (lines_in s)

@@ -64,11 +64,10 @@ puts_last (p ∷ ps) S i m g h =
     puts_last ps (put S i p.0 p.1) i m (rw length-put g) h
     ∙ ap (last_put ps m) (put_last S i p.0 p.1 m (eqb p.0 m) refl g h)
 
--- a turn of `skip`: a is the line after the tree at line j
-pub skip_more : (S : List ℕ) (k j a : ℕ) → 0 < k → a ≡ end_at S j → skip S k j ≡ skip S (k - 1) a
+-- a turn of `skip`: a is the line after the tree at line j, and m trees are left
+pub skip_more : (S : List ℕ) (k m j a : ℕ) → k ≡ suc m → a ≡ end_at S j → skip S k j ≡ skip S m a
 unfolding skip
-skip_more S zero j a h e = absurd (omega arith)
-skip_more S (suc k) j a h e = rw (e, let p : suc k - 1 ≡ k = omega arith in p)
+skip_more S k m j a h e = rw (h, e)
 
 pub skip_none : (S : List ℕ) (k j : ℕ) → k ≤ 0 → skip S k j ≡ j
 unfolding skip

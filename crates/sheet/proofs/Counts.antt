@@ -7,26 +7,27 @@ use native.Mathlib.Omega.{arith}
 use lib.Dec.{eqb}
 use lib.ListN.{get_or}
 use borrow.Author.Tests.{eq-eqb, ne_eqb, lt-ltb, le-ltb}
-use Rattle.sheet.specs.Open.{settled, group_at, next_sort}
+use Rattle.sheet.specs.Open.{due_at, settled, group_at, next_sort}
+use Rattle.sheet.specs.declared.open.Due.{Due}
 use Rattle.sheet.specs.Scratch.{cell, kind_at, first_count, second_count, third_count, kind_cell, kind_range}
 use Rattle.grammar.specs.Table.{most_groups, sort_table}
 use Rattle.grammar.specs.Grammar.{no_kind}
 
 -- the deepest of the depths, with the others
-settled_top : (ds : List ℕ) (n : ℕ) → 0 < n → settled ds n ≡ cond (eqb (get_or ds (n - 1) 0) 0) (settled ds (n - 1)) n
+settled_top : (ds : List Due) (n : ℕ) → 0 < n → settled ds n ≡ cond (eqb (due_at ds (n - 1)).left 0) (settled ds (n - 1)) n
 unfolding settled
-settled_top ds n h = ap (settled ds) e ∙ ap (λ k. cond (eqb (get_or ds (n - 1) 0) 0) (settled ds (n - 1)) k) (sym e)
+settled_top ds n h = ap (settled ds) e ∙ ap (λ k. cond (eqb (due_at ds (n - 1)).left 0) (settled ds (n - 1)) k) (sym e)
   where
     e : n ≡ suc (n - 1)
     e = omega arith
 
 -- A turn of `settle`: r is the answer, and n the depths of the turn.
-module _ (ds : List ℕ) (n r : ℕ) (e : r ≡ settled ds n) where
-  pub settle_stop : 0 < n → (get_or ds (n - 1) 0 ≡ 0 → ⊥) → n ≡ r
-  settle_stop h z = sym (e ∙ settled_top ds n h ∙ rw (ne_eqb (get_or ds (n - 1) 0) 0 z))
+module _ (ds : List Due) (n r : ℕ) (e : r ≡ settled ds n) where
+  pub settle_stop : 0 < n → ((due_at ds (n - 1)).left ≡ 0 → ⊥) → n ≡ r
+  settle_stop h z = sym (e ∙ settled_top ds n h ∙ rw (ne_eqb (due_at ds (n - 1)).left 0 z))
 
-  pub settle_more : 0 < n → get_or ds (n - 1) 0 ≡ 0 → r ≡ settled ds (n - 1)
-  settle_more h z = e ∙ settled_top ds n h ∙ rw (eq-eqb (get_or ds (n - 1) 0) 0 z)
+  pub settle_more : 0 < n → (due_at ds (n - 1)).left ≡ 0 → r ≡ settled ds (n - 1)
+  settle_more h z = e ∙ settled_top ds n h ∙ rw (eq-eqb (due_at ds (n - 1)).left 0 z)
 
   pub settle_over : n ≤ 0 → n ≡ r
   unfolding settled

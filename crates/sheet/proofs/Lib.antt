@@ -1,6 +1,4 @@
 pub mod Cases
-pub mod Reading
-pub mod Steps
 pub mod Turns
 pub mod Told
 pub mod ReadAs
@@ -19,6 +17,7 @@ pub mod Paired
 pub mod Twins
 pub mod Trees
 pub mod Rereading
-pub mod Refused
+pub mod FromOne
 pub mod Joining
 pub mod Bytes
+pub mod Starts

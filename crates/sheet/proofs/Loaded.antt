@@ -19,7 +19,7 @@ use Rattle.sheet.specs.Say.{number_at, span_at, nspan_at}
 use Rattle.sheet.specs.Held.{Says, Held, held, HeldAll, no_tree, tree, Sound, Each, no_line, one, Every, every, EveryOf, no_more, and_more, Spells, Holding}
 use Rattle.sheet.specs.Scan.{Whole, lines_from, scan_all}
 use Rattle.sheet.specs.Promise.{answer, laid, scratch_after}
-use Rattle.sheet.specs.declared.loader.Answer.TheVariants.{Lines}
+use Rattle.std.specs.Prelude.{Ok}
 use Rattle.sheet.proofs.ReadAs.{ReadAs, read_sound, sound_small, piece_within, stands_within, SpanAt}
 use Rattle.sheet.proofs.Holds.{judged_lines, scan-due, holds, all_first, all_none, length-put_lines, length-closed}
 use Rattle.sheet.proofs.Trees.{tree_of}
@@ -154,7 +154,7 @@ module _ (s : List ℕ) (types : ℕ) (S : List ℕ) (ls : List Line) (e : load 
       (q.0, q.1, rw left (record { formed = q.2; held = h.0; all = all_none h.1; spells = spelt h.0 (every_first (rw q.1 at (built r))).0 }))
 
 -- where the answer is the number of lines, there are lines
-pub answer_lines : {n : ℕ} (r : Read) → Lines n ≡ answer r → (ls : List Line) × (r ≡ lines ls) × (n ≡ length ls)
+pub answer_lines : {n : ℕ} (r : Read) → Ok n ≡ answer r → (ls : List Line) × (r ≡ lines ls) × (n ≡ length ls)
 unfolding answer
 answer_lines (lines ls) e = (ls, refl, cc)
 answer_lines (refused m i) e = absurd (let z : ◌≡◌ {A = ℕ} 0 1 = cc in omega arith)

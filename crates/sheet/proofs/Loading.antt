@@ -13,11 +13,9 @@ use Rattle.sheet.specs.Line.{Line, Read as ReadLine, good, bad, most_bytes, most
 use Rattle.sheet.specs.Load.{LoadResult, lines, refused, lines_of, after, copies, judged, scan, unended, first_true, tests, early, load_from, load}
 use Rattle.sheet.specs.Scratch.{closed, line_count, cells_per_line}
 use Rattle.sheet.specs.Scan.{Whole, Scans, scan_all, scanned}
-use Rattle.sheet.specs.Promise.{answer, laid, scratch_from, scratch_after}
-use Rattle.sheet.specs.declared.loader.Answer.{Answer}
-use Rattle.sheet.specs.declared.loader.Answer.TheVariants.{Lines, Refused}
-use Rattle.sheet.specs.declared.scan.Scanned.{Scanned}
-use Rattle.sheet.specs.declared.scan.Scanned.TheVariants.{Read, Fault}
+use Rattle.sheet.specs.Promise.{answer, passed as passes, laid, scratch_from, scratch_after}
+use Rattle.sheet.specs.declared.refusal.Refused.{Refused}
+use Rattle.std.specs.Prelude.{Result, Ok, Err}
 use Rattle.sheet.proofs.Holds.{judged_lines, length-closed}
 
 -- an empty sheet is unended
@@ -34,24 +32,24 @@ scan-length (l ∷ ls) i at [] xs e = absurd (let z : ◌≡◌ {A = ℕ} 0 1 = 
 scan-length (l ∷ ls) i at (d ∷ ds) xs e = let r = judged_lines _ _ i _ xs e in rw r.4 (ap suc (scan-length ls _ _ _ _ r.3))
 
 -- All lines are read: `scan` left the cells T, and `close` then U.
-pub read_all : (s S T U : List ℕ) (r : Scanned) → r ≡ Read → Whole s S → Scans s S T r → U ≡ closed (line_count T) T
-    → (Lines (line_count U) ≡ answer (scan_all s)) × (U ≡ laid (scan_all s) S)
+pub read_all : (s S T U : List ℕ) (r : Result Unit Refused) → r ≡ Ok tt → Whole s S → Scans s S T r → U ≡ closed (line_count T) T
+    → (Ok (line_count U) ≡ answer (scan_all s)) × (U ≡ laid (scan_all s) S)
 unfolding answer laid scanned
 read_all s S T U r a w h u = by_cases (scan_all s) refl (sym a ∙ h.answer)
   where
-    by_cases : (r : LoadResult) → scan_all s ≡ r → Read ≡ scanned r → (Lines (line_count U) ≡ answer (scan_all s)) × (U ≡ laid (scan_all s) S)
+    by_cases : (r : LoadResult) → scan_all s ≡ r → Ok tt ≡ scanned r → (Ok (line_count U) ≡ answer (scan_all s)) × (U ≡ laid (scan_all s) S)
     by_cases (lines ls) e a =
         let n : line_count T ≡ length ls = omega (arith, h.size, w.cells, scan-length (lines_of s) 1 0 _ ls e) in
         rw (e, u, length-closed (line_count T) T, n) (refl, ap (closed (length ls)) (h.left ls e))
     by_cases (refused m i) e a = absurd (let z : ◌≡◌ {A = ℕ} 0 1 = cc in omega arith)
 
 -- A line is refused, and the cells are cleared.
-pub read_none : (s S T U : List ℕ) (r : Scanned) (m i : ℕ) → r ≡ Fault m i → Scans s S T r → U ≡ copies (length T) 0
-    → (Refused m i ≡ answer (scan_all s)) × (U ≡ laid (scan_all s) S)
+pub read_none : (s S T U : List ℕ) (r : Result Unit Refused) (f : Refused) → r ≡ Err f → Scans s S T r → U ≡ copies (length T) 0
+    → (Err f ≡ answer (scan_all s)) × (U ≡ laid (scan_all s) S)
 unfolding answer laid scanned
-read_none s S T U r m i a h u = by_cases (scan_all s) refl (sym a ∙ h.answer)
+read_none s S T U r f a h u = by_cases (scan_all s) refl (sym a ∙ h.answer)
   where
-    by_cases : (r : LoadResult) → scan_all s ≡ r → Fault m i ≡ scanned r → (Refused m i ≡ answer (scan_all s)) × (U ≡ laid (scan_all s) S)
+    by_cases : (r : LoadResult) → scan_all s ≡ r → Err f ≡ scanned r → (Err f ≡ answer (scan_all s)) × (U ≡ laid (scan_all s) S)
     by_cases (lines ls) e a = absurd (let z : ◌≡◌ {A = ℕ} 0 1 = cc in omega arith)
     by_cases (refused n j) e a = rw (e, u, h.size) (cc, refl)
 
@@ -103,33 +101,42 @@ module _ (s : List ℕ) (types : ℕ) (S : List ℕ) (k m : ℕ) (e : k ≡ earl
         cells = length-take-le (cells_per_line * m) S room ∙ ap (λ n. cells_per_line * n) l;
       }
 
-  pub loads : (r : Answer) (T : List ℕ) → r ≡ answer (scan_all s) → T ≡ laid (scan_all s) (take (cells_per_line * m) S)
+  pub loads : (r : Result ℕ Refused) (T : List ℕ) → r ≡ answer (scan_all s) → T ≡ laid (scan_all s) (take (cells_per_line * m) S)
       → (r ≡ answer (load s types (length S))) × (T ++ drop (cells_per_line * m) S ≡ scratch_after s types S)
   unfolding load load_from scratch_after scratch_from
   loads r T a t = rw (a, t, l, ← e, z) (refl, refl)
 
--- The same as `load` knows it: j is what the first two tests gave, and k what the last three gave, both 0.
-module _ (s : List ℕ) (types : ℕ) (S : List ℕ) (j m k : ℕ) (e : j ≡ first_true 1 (ltb most_bytes (length s) ∷ unended s ∷ [])) (z : j ≡ 0) (l : m ≡ length (lines_of s))
-    (f : k ≡ first_true 3 (ltb most_lines m ∷ ltb types m ∷ ltb (length S) (cells_per_line * m) ∷ [])) (n : k ≡ 0) where
-  tested : k ≡ early s types (length S)
-  tested = early_room s types (length S) j e m k z l f
+-- what an early refusal, or none, was made of
+pub passes_err : (k : ℕ) (r : Result Unit Refused) (f : Refused) → r ≡ passes k → r ≡ Err f → (k ≡ 0 → ⊥) × (f ≡ record { number = k; line = 0 })
+unfolding passes
+passes_err zero r f e q = absurd (let z : ◌≡◌ {A = ℕ} 0 1 = cc in omega arith)
+passes_err (suc k) r f e q = (λ z. omega arith, cc)
+
+pub passes_ok : (k : ℕ) (r : Result Unit Refused) (u : Unit) → r ≡ passes k → r ≡ Ok u → k ≡ 0
+unfolding passes
+passes_ok zero r u e q = refl
+passes_ok (suc k) r u e q = absurd (let z : ◌≡◌ {A = ℕ} 0 1 = cc in omega arith)
+
+-- The same as `load` knows it: r and t are what the first two tests gave, and the last three.
+module _ (s : List ℕ) (types : ℕ) (S : List ℕ) (m : ℕ) (r t : Result Unit Refused) (u v : Unit)
+    (e : r ≡ passes (first_true 1 (ltb most_bytes (length s) ∷ unended s ∷ []))) (z : r ≡ Ok u) (l : m ≡ length (lines_of s))
+    (f : t ≡ passes (first_true 3 (ltb most_lines m ∷ ltb types m ∷ ltb (length S) (cells_per_line * m) ∷ []))) (n : t ≡ Ok v) where
+  tested : 0 ≡ early s types (length S)
+  tested = early_room s types (length S) _ refl m 0 (passes_ok _ r u e z) l (sym (passes_ok _ t v f n))
 
   pub late_room : cells_per_line * m ≤ length S
-  late_room = room s types S k m tested n l
+  late_room = room s types S 0 m tested refl l
 
   pub late_passed : Whole s (take (cells_per_line * m) S)
-  late_passed = passed s types S k m tested n l
+  late_passed = passed s types S 0 m tested refl l
 
-  module _ (r : Answer) (T : List ℕ) (a : r ≡ answer (scan_all s)) (t : T ≡ laid (scan_all s) (take (cells_per_line * m) S)) where
-    pub late_answer : r ≡ answer (load s types (length S))
-    late_answer = (loads s types S k m tested n l r T a t).0
-
-    pub late_left : T ++ drop (cells_per_line * m) S ≡ scratch_after s types S
-    late_left = (loads s types S k m tested n l r T a t).1
+  pub loads_late : (a : Result ℕ Refused) (T : List ℕ) → a ≡ answer (scan_all s) → T ≡ laid (scan_all s) (take (cells_per_line * m) S)
+      → (a ≡ answer (load s types (length S))) × (T ++ drop (cells_per_line * m) S ≡ scratch_after s types S)
+  loads_late = loads s types S 0 m tested refl l
 
 -- refusals 1 to 5
 pub refuses : (s : List ℕ) (types : ℕ) (S : List ℕ) (k : ℕ) → k ≡ early s types (length S) → (k ≡ 0 → ⊥)
-    → (Refused k 0 ≡ answer (load s types (length S))) × (S ≡ scratch_after s types S)
+    → (Err (record { number = k; line = 0 }) ≡ answer (load s types (length S))) × (S ≡ scratch_after s types S)
 unfolding load load_from scratch_after scratch_from answer
 refuses s types S zero e ne = absurd (ne refl)
 refuses s types S (suc k) e ne = rw (← e) (refl, refl)

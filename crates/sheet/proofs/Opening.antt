@@ -14,8 +14,8 @@ use Rattle.grammar.specs.Grammar.{Expr, no_kind}
 use Rattle.sheet.specs.Load.{copies, due}
 use Rattle.grammar.specs.Table.{sort_of}
 use Rattle.sheet.specs.Scratch.{cell, kind_at, parts_at, first_count, second_count, third_count, cells_per_line, kind_cell, first_cell, second_cell, third_cell}
-use Rattle.sheet.specs.Open.{group_sort, group_at, next_sort, sorts_at, left_at, opened, settled, spent, Owned, Open}
-use Rattle.sheet.specs.Scan.{sort_due}
+use Rattle.sheet.specs.Open.{group_sort, group_at, next_sort, sorts_at, no_due, due_at, left_at, opened, sort_due, settled, spent, Owned, Open}
+use Rattle.sheet.specs.declared.open.Due.{Due}
 use Rattle.sheet.proofs.Due.{length-copies}
 
 -- an element of a list of one element, many times, and one past it
@@ -59,185 +59,184 @@ unfolding next_sort group_at
 next_sort-is S i n h g = sort_of_lem S i (parts_at S i - n) _ _ (omega arith) refl refl
 
 -- Where nothing is due at a depth, nothing is left there.
-left_none : (S ds os : List ℕ) (d : ℕ) → get_or ds d 0 ≡ 0 → left_at S ds os d ≡ []
+left_none : (S : List ℕ) (ds : List Due) (d : ℕ) → (due_at ds d).left ≡ 0 → left_at S ds d ≡ []
 unfolding left_at copies
-left_none S ds os zero h = rw h
-left_none S ds os (suc d) h =
-    let i = get_or os (suc d) 0 in
-    let g : length (sorts_at S i) ≤ parts_at S i - get_or ds (suc d) 0 = omega (arith, sorts-length S i) in
-    drop_of_length-le (sorts_at S i) g
+left_none S ds zero h = rw h
+left_none S ds (suc d) h =
+    let e = due_at ds (suc d) in
+    let g : length (sorts_at S e.owner) ≤ parts_at S e.owner - e.left = omega (arith, sorts-length S e.owner) in
+    drop_of_length-le (sorts_at S e.owner) g
 
 -- what is due goes by what is left at each depth
-opened-same : (S T ds es os ps : List ℕ) (n : ℕ) → ((d : ℕ) → d < n → left_at S ds os d ≡ left_at T es ps d) → opened S ds os n ≡ opened T es ps n
+opened-same : (S T : List ℕ) (ds es : List Due) (n : ℕ) → ((d : ℕ) → d < n → left_at S ds d ≡ left_at T es d) → opened S ds n ≡ opened T es n
 unfolding opened
-opened-same S T ds es os ps zero f = refl
-opened-same S T ds es os ps (suc n) f = rw (f n (omega arith), opened-same S T ds es os ps n (λ d h. f d (omega arith)))
+opened-same S T ds es zero f = refl
+opened-same S T ds es (suc n) f = rw (f n (omega arith), opened-same S T ds es n (λ d h. f d (omega arith)))
 
 -- a depth where nothing is due changes nothing
-pub opened-settled : (S ds os : List ℕ) (n : ℕ) → opened S ds os (settled ds n) ≡ opened S ds os n
+pub opened-settled : (S : List ℕ) (ds : List Due) (n : ℕ) → opened S ds (settled ds n) ≡ opened S ds n
 unfolding settled opened due
-opened-settled S ds os zero = refl
-opened-settled S ds os (suc n) = by_cases (eqb (get_or ds n 0) 0) refl (opened-settled S ds os n)
+opened-settled S ds zero = refl
+opened-settled S ds (suc n) = by_cases (eqb (due_at ds n).left 0) refl (opened-settled S ds n)
   where
-    by_cases : (b : Bool) → eqb (get_or ds n 0) 0 ≡ b → opened S ds os (settled ds n) ≡ opened S ds os n
-        → opened S ds os (cond b (settled ds n) (suc n)) ≡ due n (left_at S ds os n) ++ opened S ds os n
-    by_cases true e h = h ∙ rw (left_none S ds os n (eqb-true _ _ e))
+    by_cases : (b : Bool) → eqb (due_at ds n).left 0 ≡ b → opened S ds (settled ds n) ≡ opened S ds n
+        → opened S ds (cond b (settled ds n) (suc n)) ≡ due n (left_at S ds n) ++ opened S ds n
+    by_cases true e h = h ∙ rw (left_none S ds n (eqb-true _ _ e))
     by_cases false e h = refl
 
-pub settled_most : (ds : List ℕ) (n : ℕ) → settled ds n ≤ n
+pub settled_most : (ds : List Due) (n : ℕ) → settled ds n ≤ n
 unfolding settled
 settled_most ds zero = omega arith
-settled_most ds (suc n) = by_cases (eqb (get_or ds n 0) 0) (settled_most ds n)
+settled_most ds (suc n) = by_cases (eqb (due_at ds n).left 0) (settled_most ds n)
   where
     by_cases : (b : Bool) → settled ds n ≤ n → cond b (settled ds n) (suc n) ≤ suc n
     by_cases true h = omega arith
     by_cases false h = omega arith
 
 -- something is due at the deepest of the depths that are left
-settled-due : (ds : List ℕ) (n : ℕ) → 0 < settled ds n → 0 < get_or ds (settled ds n - 1) 0
+settled-due : (ds : List Due) (n : ℕ) → 0 < settled ds n → 0 < (due_at ds (settled ds n - 1)).left
 unfolding settled
 settled-due ds zero h = absurd (omega arith)
-settled-due ds (suc n) h = by_cases (eqb (get_or ds n 0) 0) refl (settled-due ds n) h
+settled-due ds (suc n) h = by_cases (eqb (due_at ds n).left 0) refl (settled-due ds n) h
   where
-    by_cases : (b : Bool) → eqb (get_or ds n 0) 0 ≡ b → (0 < settled ds n → 0 < get_or ds (settled ds n - 1) 0) → 0 < cond b (settled ds n) (suc n)
-        → 0 < get_or ds (cond b (settled ds n) (suc n) - 1) 0
+    by_cases : (b : Bool) → eqb (due_at ds n).left 0 ≡ b → (0 < settled ds n → 0 < (due_at ds (settled ds n - 1)).left) → 0 < cond b (settled ds n) (suc n)
+        → 0 < (due_at ds (cond b (settled ds n) (suc n) - 1)).left
     by_cases true e f g = f g
-    by_cases false e f g = rw (let q : suc n - 1 ≡ n = omega arith in q) (omega (arith, eqb-false (get_or ds n 0) 0 e))
+    by_cases false e f g = rw (let q : suc n - 1 ≡ n = omega arith in q) (omega (arith, eqb-false (due_at ds n).left 0 e))
 
 -- Of a depth above the deepest nothing is spent.
-spent_below : (ds : List ℕ) (n d : ℕ) → d < n - 1 → get_or (spent ds n) d 0 ≡ get_or ds d 0
-spent_below ds n d h = get_or-set_other ds (n - 1) d (get_or ds (n - 1) 0 - 1) 0 (λ e. omega arith)
+spent_below : (ds : List Due) (n d : ℕ) → d < n - 1 → due_at (spent ds n) d ≡ due_at ds d
+spent_below ds n d h = get_or-set_other ds (n - 1) d _ no_due (λ e. omega arith)
 
-spent_top : (ds : List ℕ) (n : ℕ) → n - 1 < length ds → get_or (spent ds n) (n - 1) 0 ≡ get_or ds (n - 1) 0 - 1
-spent_top ds n h = get_or-set_same ds (n - 1) (get_or ds (n - 1) 0 - 1) 0 h
+spent_top : (ds : List Due) (n : ℕ) → n - 1 < length ds → due_at (spent ds n) (n - 1) ≡ record { left = (due_at ds (n - 1)).left - 1; owner = (due_at ds (n - 1)).owner }
+spent_top ds n h = get_or-set_same ds (n - 1) _ no_due h
 
-spent_most : (ds : List ℕ) (n d : ℕ) → d < n → n ≤ length ds → get_or (spent ds n) d 0 ≤ get_or ds d 0
+-- at any depth less is due, of the same line
+spent_most : (ds : List Due) (n d : ℕ) → d < n → n ≤ length ds → ((due_at (spent ds n) d).left ≤ (due_at ds d).left) × ((due_at (spent ds n) d).owner ≡ (due_at ds d).owner)
 spent_most ds n d h g = by_cases (eqb d (n - 1)) refl
   where
-    by_cases : (b : Bool) → eqb d (n - 1) ≡ b → get_or (spent ds n) d 0 ≤ get_or ds d 0
-    by_cases true e = rw (eqb-true d (n - 1) e, spent_top ds n (omega arith)) (omega arith)
-    by_cases false e = rw (spent_below ds n d (let z = eqb-false d (n - 1) e in omega arith)) (omega arith)
+    by_cases : (b : Bool) → eqb d (n - 1) ≡ b → ((due_at (spent ds n) d).left ≤ (due_at ds d).left) × ((due_at (spent ds n) d).owner ≡ (due_at ds d).owner)
+    by_cases true e = rw (eqb-true d (n - 1) e, spent_top ds n (omega arith)) (omega arith, refl)
+    by_cases false e = rw (spent_below ds n d (let z = eqb-false d (n - 1) e in omega arith)) (omega arith, refl)
 
--- what is left goes by the count, and the cells of the line that it belongs to
-left_same : (S T ds es os ps : List ℕ) (d : ℕ) → get_or ds d 0 ≡ get_or es d 0 → (0 < d → get_or os d 0 ≡ get_or ps d 0)
-    → (0 < d → (k : ℕ) → k < cells_per_line → cell S (get_or os d 0) k ≡ cell T (get_or os d 0) k) → left_at S ds os d ≡ left_at T es ps d
+-- what is left goes by what is due, and the cells of the line that it belongs to
+left_same : (S T : List ℕ) (ds es : List Due) (d : ℕ) → due_at ds d ≡ due_at es d
+    → (0 < d → (k : ℕ) → k < cells_per_line → cell S (due_at ds d).owner k ≡ cell T (due_at ds d).owner k) → left_at S ds d ≡ left_at T es d
 unfolding left_at sorts_at kind_at
-left_same S T ds es os ps zero p q r = rw p
-left_same S T ds es os ps (suc d) p q r =
+left_same S T ds es zero p r = rw p
+left_same S T ds es (suc d) p r =
     let e = r (omega arith) in
-    rw (← q (omega arith), ← p, ← e kind_cell (omega arith), ← e first_cell (omega arith), ← e second_cell (omega arith), ← e third_cell (omega arith))
+    rw (← p, ← e kind_cell (omega arith), ← e first_cell (omega arith), ← e second_cell (omega arith), ← e third_cell (omega arith))
 
 -- the first that is left at the deepest depth, and the others
-left_head : (S ds os : List ℕ) (i n : ℕ) → Open S ds os i n → 0 < n → left_at S ds os (n - 1) ≡ sort_of (sort_due S ds os n) ∷ left_at S (spent ds n) os (n - 1)
+left_head : (S : List ℕ) (ds : List Due) (i n : ℕ) → Open S ds i n → 0 < n → left_at S ds (n - 1) ≡ sort_of (sort_due S ds n) ∷ left_at S (spent ds n) (n - 1)
 unfolding left_at sort_due copies
-left_head S ds os i zero o h = absurd (omega arith)
-left_head S ds os i (suc zero) o h =
+left_head S ds i zero o h = absurd (omega arith)
+left_head S ds i (suc zero) o h =
     let t = o.top h in
-    let e : get_or ds 0 0 ≡ 1 = omega (arith, o.first) in
+    let e : (due_at ds 0).left ≡ 1 = omega (arith, o.first) in
     rw (spent_top ds 1 (omega (arith, o.counts)), e)
-left_head S ds os i (suc (suc d)) o h =
+left_head S ds i (suc (suc d)) o h =
     let m : suc (suc d) - 1 ≡ suc d = omega arith in
     let w = (o.owned (suc d) (omega arith) (omega arith)).next.some in
-    let t : 0 < get_or ds (suc d) 0 = rw m at (o.top h) in
-    let j = get_or os (suc d) 0 in
-    let c = get_or ds (suc d) 0 in
+    let t : 0 < (due_at ds (suc d)).left = rw m at (o.top h) in
+    let j = (due_at ds (suc d)).owner in
+    let c = (due_at ds (suc d)).left in
     let p : parts_at S j - c < length (sorts_at S j) = omega (arith, sorts-length S j) in
     let q : suc (parts_at S j - c) ≡ parts_at S j - (c - 1) = omega arith in
-    let e : get_or (set ds (suc d) (c - 1)) (suc d) 0 ≡ c - 1 = get_or-set_same ds (suc d) (c - 1) 0 (omega (arith, o.counts, o.depth)) in
+    let e : due_at (set ds (suc d) (record { left = c - 1; owner = j })) (suc d) ≡ record { left = c - 1; owner = j } =
+    get_or-set_same ds (suc d) _ no_due (omega (arith, o.counts, o.depth))
+    in
     rw (m, lt-leb (suc (suc d)) 1 (omega arith), e)
     (drop-cons (sorts_at S j) (parts_at S j - c) Expr p ∙ rw (next_sort-is S j c w t, q))
 
 -- What is due: the record that is next, and what is due once it is read.
-pub opened_head : (S ds os : List ℕ) (i n : ℕ) → Open S ds os i n → 0 < n → opened S ds os n ≡ (n - 1, sort_of (sort_due S ds os n)) ∷ opened S (spent ds n) os n
+pub opened_head : (S : List ℕ) (ds : List Due) (i n : ℕ) → Open S ds i n → 0 < n → opened S ds n ≡ (n - 1, sort_of (sort_due S ds n)) ∷ opened S (spent ds n) n
 unfolding opened due
-opened_head S ds os i n o h = top S ds os n h ∙ rw (left_head S ds os i n o h, opened-same S S ds (spent ds n) os os (n - 1) below) (sym (ap (λ l. (n - 1, sort_of (sort_due S ds os n)) ∷ l) (top S (spent ds n) os n h)))
+opened_head S ds i n o h = top S ds n h ∙ rw (left_head S ds i n o h, opened-same S S ds (spent ds n) (n - 1) below) (sym (ap (λ l. (n - 1, sort_of (sort_due S ds n)) ∷ l) (top S (spent ds n) n h)))
   where
-    top : (S ds os : List ℕ) (n : ℕ) → 0 < n → opened S ds os n ≡ due (n - 1) (left_at S ds os (n - 1)) ++ opened S ds os (n - 1)
-    top S ds os zero h = absurd (omega arith)
-    top S ds os (suc n) h = rw (let q : suc n - 1 ≡ n = omega arith in q)
+    top : (S : List ℕ) (ds : List Due) (n : ℕ) → 0 < n → opened S ds n ≡ due (n - 1) (left_at S ds (n - 1)) ++ opened S ds (n - 1)
+    top S ds zero h = absurd (omega arith)
+    top S ds (suc n) h = rw (let q : suc n - 1 ≡ n = omega arith in q)
 
-    below : (d : ℕ) → d < n - 1 → left_at S ds os d ≡ left_at S (spent ds n) os d
-    below d g = left_same S S ds (spent ds n) os os d (sym (spent_below ds n d g)) (λ z. refl) (λ z k l. refl)
+    below : (d : ℕ) → d < n - 1 → left_at S ds d ≡ left_at S (spent ds n) d
+    below d g = left_same S S ds (spent ds n) d (sym (spent_below ds n d g)) (λ z k l. refl)
 
 -- all parts of a line are left at the depth that they are put to
-left_new : (T ds os : List ℕ) (n i parts : ℕ) → 0 < n → n < length ds → n < length os → parts ≡ parts_at T i → left_at T (set ds n parts) (set os n i) n ≡ sorts_at T i
+left_new : (T : List ℕ) (ds : List Due) (n i parts : ℕ) → 0 < n → n < length ds → parts ≡ parts_at T i → left_at T (set ds n (record { left = parts; owner = i })) n ≡ sorts_at T i
 unfolding left_at
-left_new T ds os zero i parts h g f e = absurd (omega arith)
-left_new T ds os (suc n) i parts h g f e = rw (get_or-set_same os (suc n) i 0 f, get_or-set_same ds (suc n) parts 0 g, e, sub_self)
+left_new T ds zero i parts h g e = absurd (omega arith)
+left_new T ds (suc n) i parts h g e = rw (get_or-set_same ds (suc n) _ no_due g, e, sub_self)
 
 -- Line i is read at the deepest of n depths, and written: T has its cells, and those of the lines before it.
-module _ (S T ds os : List ℕ) (i n : ℕ) (o : Open S ds os i n) (some : 0 < n) (same : (j k : ℕ) → j < i → k < cells_per_line → cell S j k ≡ cell T j k) where
+module _ (S T : List ℕ) (ds : List Due) (i n : ℕ) (o : Open S ds i n) (some : 0 < n) (same : (j k : ℕ) → j < i → k < cells_per_line → cell S j k ≡ cell T j k) where
+  less : (d : ℕ) → d < n → ((due_at (spent ds n) d).left ≤ (due_at ds d).left) × ((due_at (spent ds n) d).owner ≡ (due_at ds d).owner)
+  less d h = spent_most ds n d h (omega (arith, o.counts, o.depth))
+
   -- what was due before, without that line
-  before : (es ps : List ℕ) → ((d : ℕ) → d < n → get_or es d 0 ≡ get_or (spent ds n) d 0) → ((d : ℕ) → d < n → get_or ps d 0 ≡ get_or os d 0)
-      → opened T es ps n ≡ opened S (spent ds n) os n
-  before es ps f g =
+  before : (es : List Due) → ((d : ℕ) → d < n → due_at es d ≡ due_at (spent ds n) d) → opened T es n ≡ opened S (spent ds n) n
+  before es f =
       sym
-      (opened-same S T (spent ds n) es os ps n
-      (λ d h. left_same S T (spent ds n) es os ps d (sym (f d h)) (λ z. sym (g d h)) (λ z k l. same _ k (o.owned d z h).above l)))
+      (opened-same S T (spent ds n) es n
+      (λ d h. left_same S T (spent ds n) es d (sym (f d h)) (λ z k l. same _ k (rw (less d h).1 (o.owned d z h).above) l)))
 
   -- it has no parts
-  pub after_none : opened T (spent ds n) os (settled (spent ds n) n) ≡ opened S (spent ds n) os n
-  after_none = opened-settled T (spent ds n) os n ∙ before (spent ds n) os (λ d h. refl) (λ d h. refl)
+  pub after_none : opened T (spent ds n) (settled (spent ds n) n) ≡ opened S (spent ds n) n
+  after_none = opened-settled T (spent ds n) n ∙ before (spent ds n) (λ d h. refl)
 
   -- it has parts, which are due at the next depth
   pub after_some : (parts : ℕ) → n < 65 → parts ≡ parts_at T i
-      → opened T (set (spent ds n) n parts) (set os n i) (n + 1) ≡ due n (sorts_at T i) ++ opened S (spent ds n) os n
+      → opened T (set (spent ds n) n (record { left = parts; owner = i })) (n + 1) ≡ due n (sorts_at T i) ++ opened S (spent ds n) n
   unfolding opened
   after_some parts h e =
-      let b = before (set (spent ds n) n parts) (set os n i) (λ d g. get_or-set_other (spent ds n) n d parts 0 (λ z. omega arith)) (λ d g. get_or-set_other os n d i 0 (λ z. omega arith)) in
-      let l = left_new T (spent ds n) os n i parts some (rw length-set (omega (arith, o.counts))) (omega (arith, o.owners)) e in
+      let b = before (set (spent ds n) n (record { left = parts; owner = i })) (λ d g. get_or-set_other (spent ds n) n d _ no_due (λ z. omega arith)) in
+      let l = left_new T (spent ds n) n i parts some (rw length-set (omega (arith, o.counts))) e in
       rw (add-one n, b, l)
 
-  owned_after : (es ps : List ℕ) (d : ℕ) → 0 < d → d < n → get_or es d 0 ≤ get_or ds d 0 → get_or ps d 0 ≡ get_or os d 0 → Owned T es ps (suc i) d
+  owned_after : (es : List Due) (d : ℕ) → 0 < d → d < n → due_at es d ≡ due_at (spent ds n) d → Owned T es (suc i) d
   unfolding kind_at
-  owned_after es ps d z h f g =
+  owned_after es d z h f =
       let w = o.owned d z h in
-      let e : (k : ℕ) → k < cells_per_line → cell S (get_or os d 0) k ≡ cell T (get_or os d 0) k = λ k l. same (get_or os d 0) k w.above l in
+      let m = less d h in
+      let e : (k : ℕ) → k < cells_per_line → cell S (due_at ds d).owner k ≡ cell T (due_at ds d).owner k = λ k l. same (due_at ds d).owner k w.above l in
       let first = e first_cell (omega arith) in
       let second = e second_cell (omega arith) in
       let third = e third_cell (omega arith) in
       let some = w.next.some in
       let small = w.next.small in
       record {
-        above = rw g (let a = w.above in omega arith);
-        next = rw g (record { kind = rw (← e kind_cell (omega arith)) w.next.kind; some = omega arith; small = omega arith });
+        above = rw (f, m.1) (let a = w.above in omega arith);
+        next = rw (f, m.1) (record { kind = rw (← e kind_cell (omega arith)) w.next.kind; some = omega arith; small = omega arith });
       }
 
-  pub open_none : Open T (spent ds n) os (suc i) (settled (spent ds n) n)
+  pub open_none : Open T (spent ds n) (suc i) (settled (spent ds n) n)
   open_none =
       let m = settled_most (spent ds n) n in
       record {
         counts = length-set ds (n - 1) _ ∙ o.counts;
-        owners = o.owners;
         depth = omega (arith, o.depth);
-        first = let f = o.first in let g = spent_most ds n 0 some (omega (arith, o.counts, o.depth)) in omega arith;
-        owned = λ d z h. owned_after (spent ds n) os d z (omega arith) (spent_most ds n d (omega arith) (omega (arith, o.counts, o.depth))) refl;
+        first = let f = o.first in let g = (less 0 some).0 in omega arith;
+        owned = λ d z h. owned_after (spent ds n) d z (omega arith) refl;
         top = settled-due (spent ds n) n;
       }
 
-  pub open_some : (parts : ℕ) → 0 < parts → n < 65 → kind_at T i < no_kind → parts ≡ parts_at T i → parts < 65536 → Open T (set (spent ds n) n parts) (set os n i) (suc i) (n + 1)
+  pub open_some : (parts : ℕ) → 0 < parts → n < 65 → kind_at T i < no_kind → parts ≡ parts_at T i → parts < 65536
+      → Open T (set (spent ds n) n (record { left = parts; owner = i })) (suc i) (n + 1)
   open_some parts p h k e r =
       record {
-        counts = length-set (spent ds n) n parts ∙ length-set ds (n - 1) _ ∙ o.counts;
-        owners = length-set os n i ∙ o.owners;
+        counts = length-set (spent ds n) n _ ∙ length-set ds (n - 1) _ ∙ o.counts;
         depth = omega arith;
-        first = rw (get_or-set_other (spent ds n) n 0 parts 0 (λ z. omega arith)) (let f = o.first in let g = spent_most ds n 0 some (omega (arith, o.counts, o.depth)) in omega arith);
+        first = rw (get_or-set_other (spent ds n) n 0 (record { left = parts; owner = i }) no_due (λ z. omega arith)) (let f = o.first in let g = (less 0 some).0 in omega arith);
         owned = λ d z l. at d z l (eqb d n) refl;
-        top = λ z. rw (let q : n + 1 - 1 ≡ n = omega arith in q, get_or-set_same (spent ds n) n parts 0 (rw length-set (omega (arith, o.counts)))) p;
+        top = λ z. rw (let q : n + 1 - 1 ≡ n = omega arith in q, new) p;
       }
     where
-      at : (d : ℕ) → 0 < d → d < n + 1 → (b : Bool) → eqb d n ≡ b → Owned T (set (spent ds n) n parts) (set os n i) (suc i) d
-      at d z l true q =
-          rw (eqb-true d n q)
-          (record {
-            above = rw (get_or-set_same os n i 0 (omega (arith, o.owners))) (omega arith);
-            next =
-                rw (get_or-set_same os n i 0 (omega (arith, o.owners)), get_or-set_same (spent ds n) n parts 0 (rw length-set (omega (arith, o.counts))))
-                (record { kind = k; some = omega arith; small = omega arith });
-          })
+      new : due_at (set (spent ds n) n (record { left = parts; owner = i })) n ≡ record { left = parts; owner = i }
+      new = get_or-set_same (spent ds n) n _ no_due (rw length-set (omega (arith, o.counts)))
+
+      at : (d : ℕ) → 0 < d → d < n + 1 → (b : Bool) → eqb d n ≡ b → Owned T (set (spent ds n) n (record { left = parts; owner = i })) (suc i) d
+      at d z l true q = rw (eqb-true d n q) (record { above = rw new (omega arith); next = rw new (record { kind = k; some = omega arith; small = omega arith }) })
       at d z l false q =
           let ne = eqb-false d n q in
           let m : d < n = omega (arith, ne) in
-          owned_after (set (spent ds n) n parts) (set os n i) d z m
-          (rw (get_or-set_other (spent ds n) n d parts 0 (λ v. omega arith)) (spent_most ds n d m (omega (arith, o.counts, o.depth))))
-          (get_or-set_other os n d i 0 (λ v. omega arith))
+          owned_after (set (spent ds n) n (record { left = parts; owner = i })) d z m (get_or-set_other (spent ds n) n d _ no_due (λ v. omega arith))

@@ -13,9 +13,8 @@ use lib.ListN.{length, get_or, take, drop, length-append, length-drop}
 use lib.Seq.{drop-drop, drop-append-le}
 use Rattle.text.specs.Text.{either, upto, ended}
 use Rattle.text.specs.Word.{index_in}
-use Rattle.text.specs.Field.{number_of}
-use Rattle.text.specs.declared.field.Number.{Number}
-use Rattle.text.specs.declared.field.Number.TheVariants.{Is, Bad}
+use Rattle.text.specs.Field.{Number, number_of}
+use Rattle.std.specs.Prelude.{Some, None}
 use Rattle.text.proofs.Fields.{number_most}
 use Rattle.text.proofs.Pieces.{upto_front, piece_first}
 use Rattle.sheet.specs.Field.{piece_at}
@@ -88,10 +87,10 @@ Like at y k ss rs l =
 
 -- a field that is read, and then the others
 pub on_number_lem : (x : Number) (g : ℕ → Line) (F : Line → Option Line) (m : Line) (C : Type 0)
-    → and_then (on_number x g) F ≡ some m → ((v : ℕ) → x ≡ Is v → F (g v) ≡ some m → C) → C
+    → and_then (on_number x g) F ≡ some m → ((v : ℕ) → x ≡ Some v → F (g v) ≡ some m → C) → C
 unfolding and_then on_number
-on_number_lem (Is v) g F m C e k = k v refl e
-on_number_lem Bad g F m C e k = absurd (let z : ◌≡◌ {A = ℕ} 0 1 = cc in omega arith)
+on_number_lem (Some v) g F m C e k = k v refl e
+on_number_lem None g F m C e k = absurd (let z : ◌≡◌ {A = ℕ} 0 1 = cc in omega arith)
 
 pub on_test : (b : Bool) (l : Line) (F : Line → Option Line) (m : Line) (C : Type 0) → and_then (when b l) F ≡ some m → (b ≡ true → F l ≡ some m → C) → C
 unfolding and_then when
@@ -162,7 +161,7 @@ parts_kept (flag s ∷ rs) a (f ∷ fs) l m e =
 module _ (at : ℕ) (y : List ℕ) where
   -- the SPAN v starts at a
   abbrev pub SpanAt : ℕ → ℕ → Type 0
-  SpanAt a v = (f : List ℕ) × Piece at y a f × (number_of most_span f ≡ Is v)
+  SpanAt a v = (f : List ℕ) × Piece at y a f × (number_of most_span f ≡ Some v)
 
   span_first_lem : (rs : List Rule) (a : ℕ) (fs : List (List ℕ)) (k : ℕ) (m : Line)
       → Stand at y a fs → read_fields (span ∷ rs) a fs (begun k at) ≡ some m → SpanAt a (get_or m.spans 0 0)

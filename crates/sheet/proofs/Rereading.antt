@@ -12,9 +12,8 @@ use lib.Dec.{eqb, ltb}
 use lib.ListN.{length}
 use Rattle.text.specs.Text.{bytes, same}
 use Rattle.text.specs.Word.{index_in}
-use Rattle.text.specs.Field.{is_text, number_of}
-use Rattle.text.specs.declared.field.Number.{Number}
-use Rattle.text.specs.declared.field.Number.TheVariants.{Is, Bad}
+use Rattle.text.specs.Field.{Number, is_text, number_of}
+use Rattle.std.specs.Prelude.{Some, None}
 use Rattle.grammar.specs.Grammar.{Sort, Contract, Item, Field, Param, Ty, Arg, Clause, Stmt, Expr, Rule, span, name, text, assign_op, un_op, bin_op, count, flag, record_of, no_kind, kind_for}
 use Rattle.sheet.specs.Line.{Line, begun, with_span, with_op, with_name, with_parts, when, on_number, read_field, and_then, read_fields, Read, good, bad, or_ten, read_as, fields_of, read_pieces, read_line, most_span}
 use Rattle.sheet.specs.Load.{LoadResult, lines, sorts, due, scan}
@@ -37,8 +36,8 @@ module _ {Free : Type 0} where
 
   number_same : (v : Number) (f g : ℕ → Line) → ((n : ℕ) → SameRecord Free (f n) (g n)) → Opt (SameRecord Free) (on_number v f) (on_number v g)
   unfolding on_number
-  number_same (Is v) f g h = o_some (h v)
-  number_same Bad f g h = o_none
+  number_same (Some v) f g h = o_some (h v)
+  number_same None f g h = o_none
 
   module _ {l k : Line} (h : SameRecord Free l k) where
     span_same : (v : ℕ) → SameRecord Free (with_span l v) (with_span k v)
@@ -145,7 +144,7 @@ record SaysInt (v : Number) (x : Line) : Type 0 where
   kind : x.kind ≡ kinds.int
   op : x.op ≡ 0
   parts : x.parts ≡ []
-  spans : (n : ℕ) × (v ≡ Is n) × (x.spans ≡ n ∷ [])
+  spans : (n : ℕ) × (v ≡ Some n) × (x.spans ≡ n ∷ [])
 
 int_says : (s : Sort) (at : ℕ) (sp t : List ℕ) (x : Line) → read_pieces s at (bytes "int" ∷ sp ∷ t ∷ []) ≡ good x → SaysInt (number_of most_span sp) x
 unfolding read_pieces read_as kind_for index_in same read_fields read_field or_ten and_then on_number when
@@ -163,9 +162,9 @@ int_says Expr at sp t x e = by_cases (number_of most_span sp) (is_text t) e
     from l v b a = or_ten (and_then (on_number v (with_span l)) (λ l. and_then (when b (with_name l a t)) (λ m. some m)))
 
     by_cases : (v : Number) (b : Bool) → from (begun kinds.int at) v b (at + 3 + 1 + length sp + 1) ≡ good x → SaysInt v x
-    by_cases (Is n) true e = let q : with_name (with_span (begun kinds.int at) n) (at + 3 + 1 + length sp + 1) t ≡ x = cc in rw (← q) (record { kind = refl; op = refl; parts = refl; spans = (n, refl, refl) })
-    by_cases (Is n) false e = absurd (let z : ◌≡◌ {A = ℕ} 0 1 = cc in omega arith)
-    by_cases Bad b e = absurd (let z : ◌≡◌ {A = ℕ} 0 1 = cc in omega arith)
+    by_cases (Some n) true e = let q : with_name (with_span (begun kinds.int at) n) (at + 3 + 1 + length sp + 1) t ≡ x = cc in rw (← q) (record { kind = refl; op = refl; parts = refl; spans = (n, refl, refl) })
+    by_cases (Some n) false e = absurd (let z : ◌≡◌ {A = ℕ} 0 1 = cc in omega arith)
+    by_cases None b e = absurd (let z : ◌≡◌ {A = ℕ} 0 1 = cc in omega arith)
 
 ints_but_text : {v : Number} {x y : Line} → SaysInt v x → SaysInt v y → SameButText x y
 ints_but_text h k =

@@ -9,10 +9,9 @@ use lib.Dec.{eqb}
 use lib.ListN.{length, get_or, take, drop, length-drop, drop_of_length-le, get_or-eq_default}
 use lib.Seq.{take-nil, take_all}
 use borrow.Author.Tests.{lt-ltb, le-ltb, not-true, not-false}
+use Rattle.std.specs.Option.{unwrap_or}
 use Rattle.text.specs.Text.{either}
-use Rattle.text.specs.Field.{number_of}
-use Rattle.text.specs.declared.field.Number.{Number}
-use Rattle.text.specs.declared.field.Number.TheVariants.{Is, Bad}
+use Rattle.text.specs.Field.{Number, number_of}
 use Rattle.text.proofs.Pieces.{upto_between}
 use Rattle.grammar.specs.Grammar.{records, no_kind}
 use Rattle.grammar.specs.Table.{rule_column, span_rule}
@@ -41,13 +40,9 @@ module _ (s : List ℕ) (a end : ℕ) (e : end ≡ a + length (piece_at s a)) wh
   unfolding cut
   cut_piece = upto_between (either 44 10) s a end e
 
-  pub number_is : (p : List ℕ) (r : Number) (v : ℕ) → p ≡ cut s a (end - a) → r ≡ number_of most_span p → r ≡ Is v → v ≡ number_at s a
+  pub number_read : (p : List ℕ) (r : Number) → p ≡ cut s a (end - a) → r ≡ number_of most_span p → unwrap_or r 0 ≡ number_at s a
   unfolding number_at
-  number_is p r v c q i = rw (← cut_piece, ← c, ← q, i)
-
-  pub number_none : (p : List ℕ) (r : Number) → p ≡ cut s a (end - a) → r ≡ number_of most_span p → r ≡ Bad → 0 ≡ number_at s a
-  unfolding number_at
-  number_none p r c q i = rw (← cut_piece, ← c, ← q, i)
+  number_read p r c q = rw (← cut_piece, ← c, ← q)
 
 -- a line that isn't there has no word
 pub word_none : (s S : List ℕ) (i : ℕ) → line_count S ≤ i → [] ≡ word_at s S i

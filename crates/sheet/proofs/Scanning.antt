@@ -1,15 +1,15 @@
 -- Laws of the scan: each way that a turn of its loop ends. Assumes nothing.
 use mathlib.Core.Path.{◌≡◌, refl, sym, ap, ◌∙◌}
-use mathlib.Core.Bool.{Bool, true, false, not, ◌||◌}
+use mathlib.Core.Bool.{Bool, true, false, cond, not, ◌||◌}
 use mathlib.Core.List.{List, [], ◌∷◌, ◌++◌, append-nil}
 use Prim.Native.Nat.{ℕ, suc, ◌+◌, ◌-◌, ◌≤◌, ◌<◌}
 use native.Mathlib.Omega.{arith}
 use native.Mathlib.Nat.{zero-add}
 use native.Mathlib.Numerals.{add-one}
-use lib.Dec.{eqb, ltb}
-use lib.ListN.{length, get_or, set, take, drop, length-append, length-drop, drop_of_length-le}
+use lib.Dec.{eqb, leb, ltb}
+use lib.ListN.{length, get_or, take, drop, length-append, length-drop, drop_of_length-le}
 use lib.Seq.{take-suc, get_or-drop}
-use borrow.Author.Tests.{eqb-true, eqb-false, ne_eqb, le-ltb, lt-ltb, ltb-true, ltb-false}
+use borrow.Author.Tests.{eqb-true, eqb-false, ne_eqb, le-ltb, lt-ltb, ltb-true, ltb-false, leb-true, leb-false}
 use Rattle.text.specs.Text.{either, upto, ended}
 use Rattle.text.proofs.Pieces.{upto_front, upto_most, upto_stop, piece_next}
 use Rattle.grammar.specs.Grammar.{Sort, Contract, Item, Field, Param, Ty, Arg, Clause, Stmt, Expr, record_of, no_kind}
@@ -19,28 +19,28 @@ use Rattle.grammar.specs.Table.{sort_of, sort_number, sort_numbers, sorts_in, gr
 use Rattle.sheet.specs.Step.{code_line, code_read}
 use Rattle.sheet.specs.Scratch.{cell, parts_at, put_line, put_lines, Small, line_count, cells_per_line}
 use Rattle.sheet.specs.Held.{Says}
-use Rattle.sheet.specs.Open.{Open, Top, Took, opened, left_at, settled, spent, sorts_at, due_after, owner_after, depth_after}
-use Rattle.sheet.specs.Scan.{sort_due, Whole, Going, Scans, lines_from, scan_all, scanned, after_all, too_deep}
+use Rattle.sheet.specs.Open.{Begun, Open, Top, opened, left_at, settled, spent, sort_due, sort_or, sorts_at, due_after, depth_after}
+use Rattle.sheet.specs.Scan.{Whole, Going, Scans, lines_from, scan_all, scanned, after_all}
+use Rattle.sheet.specs.declared.open.Due.{Due}
+use Rattle.sheet.specs.declared.open.Depths.{Depths}
 use Rattle.sheet.specs.declared.line.Line.{Line as CodeLine}
-use Rattle.sheet.specs.declared.line.LineRead.{LineRead}
-use Rattle.sheet.specs.declared.line.LineRead.TheVariants.{Good, Bad as BadLine}
-use Rattle.sheet.specs.declared.scan.Scanned.{Scanned}
-use Rattle.sheet.specs.declared.scan.Scanned.TheVariants.{Read as AllRead, Fault}
+use Rattle.sheet.specs.declared.refusal.Refused.{Refused}
+use Rattle.std.specs.Prelude.{Result, Ok, Err}
 use Rattle.sheet.proofs.ReadAs.{ReadAs, read_sound, sound_small}
 use Rattle.grammar.proofs.TableLaws.{sort_at}
 use Rattle.sheet.proofs.Holds.{line_says, line_below, length-line}
 use Rattle.sheet.proofs.Opening.{sorts-length, settled_most, opened_head, after_none, after_some, open_none, open_some}
 
 -- what the code's reading of a line tells of the line
-pub told_bad : (r : Read) (m : ℕ) → code_read r ≡ BadLine m → r ≡ bad m
+pub told_bad : (i : ℕ) (r : Read) (f : Refused) → code_read i r ≡ Err f → (r ≡ bad f.number) × (f ≡ record { number = f.number; line = i })
 unfolding code_read
-told_bad (good l) m e = absurd (let z : ◌≡◌ {A = ℕ} 0 1 = cc in omega arith)
-told_bad (bad n) m e = cc
+told_bad i (good l) f e = absurd (let z : ◌≡◌ {A = ℕ} 0 1 = cc in omega arith)
+told_bad i (bad n) f e = let q : record { number = n; line = i } ≡ f = cc in rw (← q) (refl, refl)
 
-pub told_good : (r : Read) (l : CodeLine) → code_read r ≡ Good l → (x : Line) × (r ≡ good x) × (l ≡ code_line x)
+pub told_good : (i : ℕ) (r : Read) (l : CodeLine) → code_read i r ≡ Ok l → (x : Line) × (r ≡ good x) × (l ≡ code_line x)
 unfolding code_read
-told_good (good x) l e = (x, refl, cc)
-told_good (bad n) l e = absurd (let z : ◌≡◌ {A = ℕ} 0 1 = cc in omega arith)
+told_good i (good x) l e = (x, refl, cc)
+told_good i (bad n) l e = absurd (let z : ◌≡◌ {A = ℕ} 0 1 = cc in omega arith)
 
 -- one line of the scan
 scan_bad : (i at d m : ℕ) (s : Sort) (ds : List (ℕ × Sort)) (l : List ℕ) (ls : List (List ℕ)) → d ≤ 64 → read_line s at l ≡ bad m
@@ -143,48 +143,21 @@ sorts_told T i x y k e h =
     (three-sorts x.parts h)
 
 -- a refusal is the answer, whatever the cells then hold
-pub scans_refused : (s S T : List ℕ) (r : Scanned) (m j : ℕ) → r ≡ Fault m j → scan_all s ≡ refused m j → length T ≡ length S → Scans s S T r
+pub scans_refused : (s S T : List ℕ) (f : Refused) → scan_all s ≡ refused f.number f.line → length T ≡ length S → Scans s S T (Err f)
 unfolding scanned
-scans_refused s S T r m j e q z =
-    record { answer = e ∙ rw q; left = λ ls f. absurd (let z : ◌≡◌ {A = ℕ} 0 1 = cc in omega arith); size = z }
-
-pub scans_deep : (s S T : List ℕ) (r : Scanned) (b : Bool) (j : ℕ) → r ≡ too_deep b j → scanned (scan_all s) ≡ too_deep b j → length T ≡ length S → Scans s S T r
-unfolding scanned
-scans_deep s S T r b j e q z = record { answer = e ∙ sym q; left = λ ls f. absurd (never b (sym (ap scanned f) ∙ q)); size = z }
-  where
-    never : (b : Bool) → AllRead ≡ too_deep b j → ⊥
-    never true e = let z : ◌≡◌ {A = ℕ} 0 1 = cc in omega arith
-    never false e = let z : ◌≡◌ {A = ℕ} 0 1 = cc in omega arith
+scans_refused s S T f q z = record { answer = rw q; left = λ ls e. absurd (let z : ◌≡◌ {A = ℕ} 0 1 = cc in omega arith); size = z }
 
 none_left : {A : Type 0} (l : List A) → length l ≡ 0 → l ≡ []
 none_left [] e = refl
 none_left (x ∷ l) e = absurd (omega arith)
 
 -- past the end there are no lines
-no_lines : (s : List ℕ) (at : ℕ) → length s ≤ at → lines_from s at ≡ []
+pub no_lines : (s : List ℕ) (at : ℕ) → length s ≤ at → lines_from s at ≡ []
 unfolding ended
 no_lines s at h = rw (drop_of_length-le s h)
 
--- a record is due too deep: its line is refused, or missing
-scan_deep : (s : List ℕ) (i at d : ℕ) (ss : List Sort) (ds : List (ℕ × Sort)) → 64 < d → 0 < length ss → unended s ≡ false
-    → scanned (scan i at (due d ss ++ ds) (lines_from s at)) ≡ too_deep (ltb at (length s)) i
-unfolding scan due judged scanned
-scan_deep s i at d [] ds t h u = absurd (omega arith)
-scan_deep s i at d (x ∷ ss) ds t h u = by_cases (ltb at (length s)) refl
-  where
-    by_cases : (b : Bool) → ltb at (length s) ≡ b → scanned (scan i at ((d, x) ∷ (due d ss ++ ds)) (lines_from s at)) ≡ too_deep b i
-    by_cases true e = rw (piece_next (either 10 10) s at (line_ends s at u (ltb-true _ _ e)), lt-ltb 64 d t)
-    by_cases false e = rw (no_lines s at (ltb-false _ _ e))
-
--- lines that were read before do not change that
-deep_after : (ls : List Line) (x : Line) (r : LoadResult) (b : Bool) (j : ℕ) → scanned r ≡ too_deep b j → scanned (after_all ls (after x r)) ≡ too_deep b j
-unfolding scanned
-deep_after ls x (lines xs) true j e = absurd (let z : ◌≡◌ {A = ℕ} 0 1 = cc in omega arith)
-deep_after ls x (lines xs) false j e = absurd (let z : ◌≡◌ {A = ℕ} 0 1 = cc in omega arith)
-deep_after ls x (refused a c) b j e = rw (after-refused ls a c) e
-
 -- A turn of the loop, before the line at `at`.
-module _ (s S T ds os : List ℕ) (n at i : ℕ) (w : Whole s S) (g : Going s S T ds os n at i) (h : at < length s) where
+module _ (s S T : List ℕ) (ds : List Due) (n at i : ℕ) (w : Whole s S) (g : Going s S T ds n at i) (h : at < length s) where
   abbrev here : List ℕ
   here = upto (either 10 10) (drop at s)
 
@@ -198,26 +171,53 @@ module _ (s S T ds os : List ℕ) (n at i : ℕ) (w : Whole s S) (g : Going s S 
   pub turn_line : i + 1 ≤ most_lines
   turn_line = omega (arith, fewer, w.few)
 
-  -- nothing is due any more
-  pub turn_complete : n ≡ 0 → scan_all s ≡ refused 6 (i + 1)
-  unfolding opened scan
-  turn_complete z = g.whole ∙ rw (z, there, add-one i) (after-refused g.read 6 (suc i))
-
   -- what the code reads of the line
-  pub turn_read : (σ f : ℕ) (r : LineRead) → f ≡ at + length here → r ≡ code_read (read_pieces (sort_of σ) at (ended (either 44 10) [] (take (f + 1 - at) (drop at s))))
-      → r ≡ code_read (read_line (sort_of σ) at here)
+  pub turn_read : (σ f : ℕ) (r : Result CodeLine Refused) → f ≡ at + length here → r ≡ code_read (i + 1) (read_pieces (sort_of σ) at (ended (either 44 10) [] (take (f + 1 - at) (drop at s))))
+      → r ≡ code_read (i + 1) (read_line (sort_of σ) at here)
   unfolding read_line fields_of
   turn_read σ f r e q = q ∙ rw (line_part s at w.terminated h (f + 1) (ap (λ k. k + 1) e))
 
-  module _ (some : n ≡ 0 → ⊥) (σ : ℕ) (p : σ ≡ sort_due T ds os n) where
+  -- the sort of record that is due, unless it is refused
+  pub turn_sort : (r : Result ℕ Refused) (σ : ℕ) → r ≡ sort_or (i + 1) T ds n → r ≡ Ok σ → (n ≡ 0 → ⊥) × (n ≤ 65) × (σ ≡ sort_due T ds n)
+  unfolding sort_or
+  turn_sort r σ e q = by_cases (eqb n 0) (ltb 65 n) refl refl (sym e ∙ q)
+    where
+      by_cases : (a b : Bool) → eqb n 0 ≡ a → ltb 65 n ≡ b
+          → cond {A = Result ℕ Refused} a (Err (record { number = 6; line = i + 1 })) (cond b (Err (record { number = 7; line = i + 1 })) (Ok (sort_due T ds n))) ≡ Ok σ
+          → (n ≡ 0 → ⊥) × (n ≤ 65) × (σ ≡ sort_due T ds n)
+      by_cases true b a d e = absurd (let z : ◌≡◌ {A = ℕ} 0 1 = cc in omega arith)
+      by_cases false true a d e = absurd (let z : ◌≡◌ {A = ℕ} 0 1 = cc in omega arith)
+      by_cases false false a d e = (eqb-false n 0 a, ltb-false 65 n d, cc)
+
+  -- nothing is due, or a record too deep
+  pub turn_sortless : (r : Result ℕ Refused) (f : Refused) → r ≡ sort_or (i + 1) T ds n → r ≡ Err f → scan_all s ≡ refused f.number f.line
+  unfolding sort_or opened scan judged
+  turn_sortless r f e q = by_cases (eqb n 0) (ltb 65 n) refl refl (sym e ∙ q)
+    where
+      by_cases : (a b : Bool) → eqb n 0 ≡ a → ltb 65 n ≡ b
+          → cond {A = Result ℕ Refused} a (Err (record { number = 6; line = i + 1 })) (cond b (Err (record { number = 7; line = i + 1 })) (Ok (sort_due T ds n))) ≡ Err f
+          → scan_all s ≡ refused f.number f.line
+      by_cases true b a d e =
+          let k : record { number = 6; line = i + 1 } ≡ f = cc in
+          rw (← k) (g.whole ∙ rw ((g.counts (omega (arith, eqb-true n 0 a))).1, eqb-true n 0 a, there, add-one i) (after-refused g.read 6 (suc i)))
+      by_cases false true a d e =
+          let k : record { number = 7; line = i + 1 } ≡ f = cc in
+          let q = g.deep (ltb-true 65 n d) in
+          rw (← k) (g.whole ∙ rw (there, q.2, add-one i) (after-refused g.read 7 (suc i)))
+      by_cases false false a d e = absurd (let z : ◌≡◌ {A = ℕ} 0 1 = cc in omega arith)
+
+  module _ (some : n ≡ 0 → ⊥) (few : n ≤ 65) (σ : ℕ) (p : σ ≡ sort_due T ds n) where
+    counted : Open T ds i n
+    counted = (g.counts few).0
+
     whole : scan_all s
-        ≡ after_all g.read (scan (suc i) at ((n - 1, sort_of σ) ∷ opened T (spent ds n) os n) (here ∷ lines_from s (at + length here + 1)))
-    whole = g.whole ∙ rw (there, opened_head T ds os i n g.counts (omega (arith, some)), ← p)
+        ≡ after_all g.read (scan (suc i) at ((n - 1, sort_of σ) ∷ opened T (spent ds n) n) (here ∷ lines_from s (at + length here + 1)))
+    whole = g.whole ∙ rw ((g.counts few).1, there, opened_head T ds i n counted (omega (arith, some)), ← p)
 
     pub turn_bad : (m : ℕ) → read_line (sort_of σ) at here ≡ bad m → scan_all s ≡ refused m (i + 1)
     turn_bad m b =
         whole
-        ∙ rw (scan_bad (suc i) at (n - 1) m (sort_of σ) _ here _ (omega (arith, g.counts.depth)) b, add-one i)
+        ∙ rw (scan_bad (suc i) at (n - 1) m (sort_of σ) _ here _ (omega arith) b, add-one i)
         (after-refused g.read m (suc i))
 
     -- the line is read: x is what it says, and l what the code makes of it
@@ -242,7 +242,7 @@ module _ (s S T ds os : List ℕ) (n at i : ℕ) (w : Whole s S) (g : Going s S 
 
       pub turn_top : Top ds n i parts
       turn_top =
-          record { depths = (omega (arith, some), g.counts.depth); some = g.counts.top (omega (arith, some)); line = omega (arith, fewer, w.few); room = omega (arith, turn_few) }
+          record { depths = (omega (arith, some), few); some = counted.top (omega (arith, some)); line = omega (arith, fewer, w.few); room = omega (arith, turn_few) }
 
       module _ (U : List ℕ) (u : U ≡ put_line T i l) where
         says : Says U i x
@@ -255,103 +255,102 @@ module _ (s S T ds os : List ℕ) (n at i : ℕ) (w : Whole s S) (g : Going s S 
         same j k p q = rw (u, t) (sym (line_below T i x j k p q))
 
         abbrev rest : LoadResult
-        rest = scan (suc (suc i)) (at + length here + 1) (due n (sorts_at U i) ++ opened T (spent ds n) os n) (lines_from s (at + length here + 1))
+        rest = scan (suc (suc i)) (at + length here + 1) (due n (sorts_at U i) ++ opened T (spent ds n) n) (lines_from s (at + length here + 1))
 
         -- what is due after the line
         later : scan_all s ≡ after_all g.read (after x rest)
         later =
             whole
-            ∙ rw (scan_good (suc i) at (n - 1) (sort_of σ) _ here _ x (omega (arith, g.counts.depth)) c, let m : suc (n - 1) ≡ n = omega (arith, some) in m, ← sorts_told U i x says sound.known sound.parted.sorts sound.groups)
+            ∙ rw (scan_good (suc i) at (n - 1) (sort_of σ) _ here _ x (omega arith) c, let m : suc (n - 1) ≡ n = omega (arith, some) in m, ← sorts_told U i x says sound.known sound.parted.sorts sound.groups)
 
-        took_none : (es ps : List ℕ) (m : ℕ) → Took ds os es ps n i parts m → parts ≡ 0
-            → (opened U es ps m ≡ due n (sorts_at U i) ++ opened T (spent ds n) os n) × Open U es ps (suc i) m
-        unfolding due_after owner_after depth_after due
-        took_none es ps m k z =
-            let a : m ≡ settled (spent ds n) n = k.depth ∙ rw z in
-            let b : es ≡ spent ds n = k.due ∙ rw z in
-            let d : ps ≡ os = k.owner ∙ rw z in
+        abbrev due_next : List (ℕ × Sort)
+        due_next = due n (sorts_at U i) ++ opened T (spent ds n) n
+
+        took_none : parts ≡ 0 → Open U (due_after ds n i parts) (suc i) (depth_after ds n parts) × (due_next ≡ opened U (due_after ds n i parts) (depth_after ds n parts))
+        unfolding due_after depth_after due
+        took_none z =
             let v = none_left (sorts_at U i) (sorts-length U i ∙ sym all ∙ z) in
-            rw (a, b, d, v) (after_none T U ds os i n g.counts (omega (arith, some)) same, open_none T U ds os i n g.counts (omega (arith, some)) same)
+            rw (z, v) (open_none T U ds i n counted (omega (arith, some)) same, sym (after_none T U ds i n counted (omega (arith, some)) same))
 
-        took_some : (es ps : List ℕ) (m : ℕ) → Took ds os es ps n i parts m → (parts ≡ 0 → ⊥) → n < 65
-            → (opened U es ps m ≡ due n (sorts_at U i) ++ opened T (spent ds n) os n) × Open U es ps (suc i) m
-        unfolding due_after owner_after depth_after
-        took_some es ps m k z v =
-            let y = ne_eqb parts 0 z in
-            let q = ne_eqb n 65 (λ e. omega arith) in
-            let a : m ≡ n + 1 = k.depth ∙ rw y in
-            let b : es ≡ set (spent ds n) n parts = k.due ∙ rw (y, q) in
-            let d : ps ≡ set os n i = k.owner ∙ rw (y, q) in
-            let f = after_some T U ds os i n g.counts (omega (arith, some)) same parts v all in
-            let o = open_some T U ds os i n g.counts (omega (arith, some)) same parts (omega (arith, z)) v (rw says.kind sound.known) all (omega (arith, turn_few)) in
-            rw (a, b, d) (f, o)
+        took_some : (parts ≡ 0 → ⊥) → n < 65 → Open U (due_after ds n i parts) (suc i) (depth_after ds n parts) × (due_next ≡ opened U (due_after ds n i parts) (depth_after ds n parts))
+        unfolding due_after depth_after
+        took_some z h =
+            let f = after_some T U ds i n counted (omega (arith, some)) same parts h all in
+            let o = open_some T U ds i n counted (omega (arith, some)) same parts (omega (arith, z)) h (rw says.kind sound.known) all (omega (arith, turn_few)) in
+            rw (ne_eqb parts 0 z, lt-ltb n 65 h) (o, sym f)
 
         pub turn_size : length U ≡ length S
         turn_size = ap length u ∙ rw t (length-line T i x ∙ g.size)
 
         -- the loop goes on behind the line
-        pub turn_next : (es ps : List ℕ) (m f : ℕ) → Took ds os es ps n i parts m → (m ≡ 66 → ⊥) → f ≡ at + length here → Going s S U es ps m (f + 1) (i + 1)
-        unfolding depth_after
-        turn_next es ps m f k z e =
-            let v = took (eqb parts 0) refl in
+        pub turn_next : (f : ℕ) → f ≡ at + length here → Going s S U (due_after ds n i parts) (depth_after ds n parts) (f + 1) (i + 1)
+        unfolding depth_after due
+        turn_next f e =
             let q = ap length there in
             record {
               read = g.read ++ (x ∷ []);
-              whole = later ∙ after_last g.read x rest ∙ rw (v.0, add-one i, e);
+              left = due_next;
+              whole = later ∙ after_last g.read x rest ∙ rw (add-one i, e);
               cells = u ∙ rw (t, put_lines_last g.read x 0 S, ← g.cells, g.count, zero-add);
               count = rw (length-append g.read (x ∷ [])) (omega (arith, g.count));
               size = turn_size;
               lines = rw (e) (omega (arith, g.lines));
-              counts = rw (add-one i) v.1;
+              counts = λ h. rw (add-one i) (took (eqb parts 0) refl h);
+              deep = λ h. deep (eqb parts 0) refl h;
               within = omega (arith, line_ends s at w.terminated h);
             }
           where
-            took : (b : Bool) → eqb parts 0 ≡ b → (opened U es ps m ≡ due n (sorts_at U i) ++ opened T (spent ds n) os n) × Open U es ps (suc i) m
-            took true y = took_none es ps m k (eqb-true _ _ y)
-            took false y =
-                let a : m ≡ n + 1 = k.depth ∙ rw y in
-                took_some es ps m k (eqb-false _ _ y) (omega (arith, z, g.counts.depth))
+            took : (b : Bool) → eqb parts 0 ≡ b → depth_after ds n parts ≤ 65
+                → Open U (due_after ds n i parts) (suc i) (depth_after ds n parts) × (due_next ≡ opened U (due_after ds n i parts) (depth_after ds n parts))
+            took true y h = took_none (eqb-true _ _ y)
+            took false y h = took_some (eqb-false _ _ y) (let k : depth_after ds n parts ≡ n + 1 = rw y in omega arith)
 
-        -- the line's parts would stand too deep
-        pub turn_deep : (es ps : List ℕ) (m f : ℕ) → Took ds os es ps n i parts m → m ≡ 66 → f ≡ at + length here → scanned (scan_all s) ≡ too_deep (ltb (f + 1) (length s)) (i + 1 + 1)
-        unfolding depth_after
-        turn_deep es ps m f k z e = deep (eqb parts 0) refl
-          where
-            deep : (b : Bool) → eqb parts 0 ≡ b → scanned (scan_all s) ≡ too_deep (ltb (f + 1) (length s)) (i + 1 + 1)
-            deep true y = absurd (let a : m ≡ settled (spent ds n) n = k.depth ∙ rw y in omega (arith, settled_most (spent ds n) n, g.counts.depth))
-            deep false y =
-                let a : m ≡ n + 1 = k.depth ∙ rw y in
-                let q = eqb-false parts 0 y in
-                let v : 0 < length (sorts_at U i) = rw (sorts-length U i, ← all) (omega (arith, q)) in
-                let c : scanned rest ≡ too_deep (ltb (f + 1) (length s)) (i + 1 + 1) =
-                rw (e, add-one (i + 1), add-one i) (scan_deep s (suc (suc i)) (at + length here + 1) n (sorts_at U i) (opened T (spent ds n) os n) (omega arith) v w.terminated)
-                in
-                rw later (deep_after g.read x rest (ltb (f + 1) (length s)) (i + 1 + 1) c)
+            first : (ss : List Sort) → 0 < length ss → n ≡ 65 → (x : Sort) × (xs : List (ℕ × Sort)) × (due n ss ++ opened T (spent ds n) n ≡ (65, x) ∷ xs)
+            first [] h m = absurd (omega arith)
+            first (s ∷ ss) h m = (s, due n ss ++ opened T (spent ds n) n, ap (λ k. (k, s) ∷ (due n ss ++ opened T (spent ds n) n)) m)
+
+            deep : (b : Bool) → eqb parts 0 ≡ b → 65 < depth_after ds n parts → (x : Sort) × (xs : List (ℕ × Sort)) × (due_next ≡ (65, x) ∷ xs)
+            deep true y h = absurd (let k : depth_after ds n parts ≡ settled (spent ds n) n = rw y in omega (arith, settled_most (spent ds n) n))
+            deep false y h =
+                let k : depth_after ds n parts ≡ n + 1 = rw y in
+                let m : n ≡ 65 = omega arith in
+                first (sorts_at U i) (rw (sorts-length U i, ← all) (omega (arith, eqb-false parts 0 y))) m
 
 -- Before the first line a contract is due.
-pub going_start : (s S ds os : List ℕ) → length ds ≡ 65 → length os ≡ 65 → get_or ds 0 0 ≡ 1 → Going s S S ds os 1 0 0
+pub going_start : (s S : List ℕ) (d : Depths) → Begun d → Going s S S d.due d.count 0 0
 unfolding after_all opened left_at due copies put_lines
-going_start s S ds os c d e =
+going_start s S d b =
+    let c = b.depth in
+    let e = b.first in
     record {
       read = [];
-      whole = rw e;
+      left = (0, Contract) ∷ [];
+      whole = refl;
       cells = refl;
       count = refl;
       size = refl;
       lines = zero-add _;
-      counts = record { counts = c; owners = d; depth = omega arith; first = omega arith; owned = λ k z h. absurd (omega arith); top = λ z. omega arith };
+      counts = λ h. rw c (record { counts = b.counts; depth = omega arith; first = omega arith; owned = λ k z h. absurd (omega arith); top = λ z. omega arith }, rw e);
+      deep = λ h. absurd (omega arith);
       within = omega arith;
     }
 
 -- All lines are read.
-module _ (s S T ds os : List ℕ) (n at i : ℕ) (g : Going s S T ds os n at i) (h : length s ≤ at) where
-  pub end_complete : n ≡ 0 → Scans s S T AllRead
+module _ (s S T : List ℕ) (ds : List Due) (n at i : ℕ) (g : Going s S T ds n at i) (h : length s ≤ at) where
+  pub end_complete : n ≡ 0 → Scans s S T (Ok tt)
   unfolding opened scan scanned
   end_complete z =
-      let e : scan_all s ≡ lines g.read = g.whole ∙ rw (z, no_lines s at h) (after_lines g.read) in
+      let e : scan_all s ≡ lines g.read = g.whole ∙ rw ((g.counts (omega arith)).1, z, no_lines s at h) (after_lines g.read) in
       record { answer = rw e; left = λ ls f. g.cells ∙ ap (λ l. put_lines 0 l S) (let q : g.read ≡ ls = cc in q); size = g.size }
 
   pub end_missing : (n ≡ 0 → ⊥) → scan_all s ≡ refused 11 (i + 1)
   unfolding scan
-  end_missing z =
-      g.whole ∙ rw (no_lines s at h, opened_head T ds os i n g.counts (omega (arith, z)), add-one i) (after-refused g.read 11 (suc i))
+  end_missing z = by_cases (leb n 65) refl
+    where
+      by_cases : (b : Bool) → leb n 65 ≡ b → scan_all s ≡ refused 11 (i + 1)
+      by_cases true e =
+          let o = g.counts (leb-true n 65 e) in
+          g.whole ∙ rw (o.1, no_lines s at h, opened_head T ds i n o.0 (omega (arith, z)), add-one i) (after-refused g.read 11 (suc i))
+      by_cases false e =
+          let q = g.deep (leb-false n 65 e) in
+          g.whole ∙ rw (q.2, no_lines s at h, add-one i) (after-refused g.read 11 (suc i))

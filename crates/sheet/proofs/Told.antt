@@ -3,7 +3,8 @@ use mathlib.Core.Logic.{◌≢◌}
 use mathlib.Core.Path.{◌≡◌, refl, ap, ◌∙◌}
 use mathlib.Core.Bool.{Bool, true, false}
 use mathlib.Core.List.{List, [], ◌∷◌}
-use mathlib.Core.Option.{Option, none as nothing, some}
+use mathlib.Core.Option as read
+use mathlib.Core.Option.{none as nothing, some}
 use Prim.Native.Nat.{ℕ, suc, ◌+◌, ◌-◌, ◌≤◌, ◌<◌}
 use native.Mathlib.Numerals.{add-one}
 use native.Mathlib.Omega.{arith}
@@ -12,9 +13,9 @@ use lib.ListN.{length, get_or, take, drop, length-append}
 use lib.Seq.{length-take-le}
 use Rattle.text.specs.Text.{either, ended}
 use Rattle.text.proofs.Pieces.{upto_front, ended_none, piece_next}
-use Rattle.text.specs.declared.field.Number.{Number}
-use Rattle.text.specs.declared.field.Number.TheVariants.{Is, Bad}
-use Rattle.text.specs.Field.{number_of}
+use Rattle.std.specs.Prelude.{Option, Some, None, Result, Err, ok_or, option_map, option_and_then}
+use Rattle.std.specs.Bool.{then_some}
+use Rattle.text.specs.Field.{Number, number_of}
 use Rattle.grammar.specs.Grammar.{Sort, Rule, span, name, text, assign_op, un_op, bin_op, count, flag, no_kind, record_of, kind_for}
 use Rattle.sheet.specs.Line as line
 use Rattle.sheet.specs.Line.{begun, with_parts, when, on_number, and_then, read_field, read_fields, read_as, read_pieces, most_count}
@@ -23,24 +24,23 @@ use Rattle.sheet.specs.Step as step
 use Rattle.sheet.specs.Step.{code_line, code_read, parts_step, step_of, step_all}
 use Rattle.sheet.specs.Field.{piece_at, piece_end}
 use Rattle.sheet.specs.declared.line.Line.{Line}
-use Rattle.sheet.specs.declared.line.LineRead.{LineRead}
-use Rattle.sheet.specs.declared.line.LineRead.TheVariants.{Bad as BadLine}
+use Rattle.sheet.specs.declared.refusal.Refused.{Refused}
 use Rattle.grammar.proofs.KindLaws.{kind_known}
 use Rattle.grammar.proofs.TableLaws.{number_at_lem, fields_at, few_always, few_parts}
 
-unfoldable pub map_told : Option line.Line → Option Line
-map_told (some l) = some (code_line l)
-map_told nothing = nothing
+unfoldable pub map_told : read.Option line.Line → Option Line
+map_told (some l) = Some (code_line l)
+map_told nothing = None
 
 -- A field and those after it, which are read by F, and by G as the code does.
-module _ (F : line.Line → Option line.Line) (G : Line → Option Line) where
+module _ (F : line.Line → read.Option line.Line) (G : Line → Option Line) where
   then_number : (x : Number) (f : ℕ → line.Line) (g : ℕ → Line) → ((v : ℕ) → g v ≡ code_line (f v)) → ((v : ℕ) → G (code_line (f v)) ≡ map_told (F (f v)))
-      → and_then (on_number x g) G ≡ map_told (and_then (on_number x f) F)
+      → option_and_then G (option_map g x) ≡ map_told (and_then (on_number x f) F)
   unfolding map_told and_then on_number
-  then_number (Is v) f g e h = rw (e v) (h v)
-  then_number Bad f g e h = refl
+  then_number (Some v) f g e h = rw (e v) (h v)
+  then_number None f g e h = refl
 
-  then_when : (b : Bool) (l : line.Line) → G (code_line l) ≡ map_told (F l) → and_then (when b (code_line l)) G ≡ map_told (and_then (when b l) F)
+  then_when : (b : Bool) (l : line.Line) → G (code_line l) ≡ map_told (F l) → option_and_then G (then_some b (code_line l)) ≡ map_told (and_then (when b l) F)
   unfolding map_told and_then when
   then_when true l h = h
   then_when false l h = refl
@@ -53,9 +53,9 @@ parts_told l n s (p ∷ []) e h = rw e
 parts_told l n s (p ∷ q ∷ []) e h = rw e
 parts_told l n s (p ∷ q ∷ r ∷ ps) e h = absurd (omega arith)
 
-then_parts : (F : line.Line → Option line.Line) (G : Line → Option Line) (o : Option Line) (most g : ℕ) (f : List ℕ) (l : line.Line) (s : Sort)
+then_parts : (F : line.Line → read.Option line.Line) (G : Line → Option Line) (o : Option Line) (most g : ℕ) (f : List ℕ) (l : line.Line) (s : Sort)
     → o ≡ parts_step most g f (code_line l) → length l.parts ≡ g → g < 3 → ((v : ℕ) → G (code_line (with_parts l v s)) ≡ map_told (F (with_parts l v s)))
-    → and_then o G ≡ map_told (and_then (on_number (number_of most f) (λ n. with_parts l n s)) F)
+    → option_and_then G o ≡ map_told (and_then (on_number (number_of most f) (λ n. with_parts l n s)) F)
 then_parts F G o most g f l s p e h k =
     rw p (then_number F G (number_of most f) (λ n. with_parts l n s) _ (λ v. rw (← e) (parts_told l v s l.parts refl (omega arith))) k)
 
@@ -94,10 +94,10 @@ all_told (count s ∷ rs) g a (f ∷ fs) l e h =
 all_told (flag s ∷ rs) g a (f ∷ fs) l e h =
     then_parts _ _ _ 1 g f l s (flag_step g a f (code_line l)) e (omega arith) (λ v. all_told rs (suc g) _ fs _ (one_more l v s g e) (omega arith))
 
-or_ten_told : (o : Option line.Line) → step.or_ten (map_told o) ≡ code_read (line.or_ten o)
-unfolding map_told step.or_ten line.or_ten code_read
-or_ten_told (some l) = refl
-or_ten_told nothing = refl
+or_ten_told : (i : ℕ) (o : read.Option line.Line) → ok_or (map_told o) (record { number = 10; line = i }) ≡ code_read i (line.or_ten o)
+unfolding map_told line.or_ten code_read
+or_ten_told i (some l) = refl
+or_ten_told i nothing = refl
 
 -- the line that the code begins with, whose record always has parts of one sort at most
 begun_told : (k at n : ℕ) (ps : List (ℕ × Sort)) → (record_of k).always ≡ ps → length ps ≤ 1 → n ≡ get_or (numbers_in (record_of k).always) 0 0
@@ -107,13 +107,13 @@ begun_told k at n (p ∷ []) e h f = rw (f, e)
 begun_told k at n (p ∷ q ∷ ps) e h f = absurd (omega arith)
 
 -- A line y, whose record's word ends at `end`.
-module _ (s : Sort) (y : List ℕ) (end : ℕ) (e : end ≡ piece_end y 0) where
-  abbrev answer : ℕ → LineRead
-  answer at = code_read (read_pieces s at (ended (either 44 10) [] y))
+module _ (s : Sort) (i : ℕ) (y : List ℕ) (end : ℕ) (e : end ≡ piece_end y 0) where
+  abbrev answer : ℕ → Result Line Refused
+  answer at = code_read i (read_pieces s at (ended (either 44 10) [] y))
 
-  pub line_empty : (at : ℕ) → length y ≤ end → BadLine 8 ≡ answer at
+  pub line_empty : (at : ℕ) {f : Refused} → f ≡ record { number = 8; line = i } → length y ≤ end → Err f ≡ answer at
   unfolding read_pieces code_read
-  line_empty at h = rw (ended_none (either 44 10) [] y (omega arith))
+  line_empty at g h = rw (g, ended_none (either 44 10) [] y (omega arith))
 
   module _ (ends : end < length y) (k : ℕ) (is : k ≡ kind_for s (take end y)) where
     abbrev left : List (List ℕ)
@@ -125,9 +125,9 @@ module _ (s : Sort) (y : List ℕ) (end : ℕ) (e : end ≡ piece_end y 0) where
     opened : ended (either 44 10) [] y ≡ take end y ∷ left
     opened = rw (word, e) (piece_next (either 44 10) y 0 (omega arith))
 
-    pub line-unknown : (at : ℕ) → k ≡ no_kind → BadLine 8 ≡ answer at
+    pub line-unknown : (at : ℕ) {f : Refused} → f ≡ record { number = 8; line = i } → k ≡ no_kind → Err f ≡ answer at
     unfolding read_pieces read_as code_read
-    line-unknown at h = rw (opened, ← is, h)
+    line-unknown at g h = rw (g, opened, ← is, h)
 
     module _ (known : k ≢ no_kind) (n m : ℕ) (pieces : n ≡ length (ended (either 44 10) [] y)) (fields : m ≡ get_or length_table k 0) where
       below : k < no_kind
@@ -140,17 +140,19 @@ module _ (s : Sort) (y : List ℕ) (end : ℕ) (e : end ≡ piece_end y 0) where
       pub line_left : n ≡ m + 1 → length left ≡ m
       line_left h = omega (arith, ap length opened)
 
-      pub line-fields : (at : ℕ) → (n ≡ m + 1 → ⊥) → BadLine 9 ≡ answer at
+      pub line-fields : (at : ℕ) {f : Refused} → f ≡ record { number = 9; line = i } → (n ≡ m + 1 → ⊥) → Err f ≡ answer at
       unfolding read_pieces read_as code_read
-      line-fields at h =
-          rw (opened, ← is, ne_eqb k no_kind known, ne_eqb (length left) (length (record_of k).rules) (λ q. h (omega (arith, ap length opened, rules))))
+      line-fields at g h =
+          rw (g, opened, ← is, ne_eqb k no_kind known, ne_eqb (length left) (length (record_of k).rules) (λ q. h (omega (arith, ap length opened, rules))))
 
-      pub line_read : (at : ℕ) → n ≡ m + 1 → (r : LineRead) (a : ℕ) → a ≡ get_or always_table k 0
-          → r ≡ step.or_ten (step_all (numbers_of k) (at + (end + 1)) left (record { kind = k; op = 0; at = at; start = 0; len = 0; first = a; second = 0; third = 0 }))
-          → r ≡ answer at
+      pub line_read : (at : ℕ) → n ≡ m + 1 → (r : Option Line) (a : ℕ) → a ≡ get_or always_table k 0
+          → r ≡ step_all (numbers_of k) (at + (end + 1)) left (record { kind = k; op = 0; at = at; start = 0; len = 0; first = a; second = 0; third = 0 })
+          → {f : Refused} → f ≡ record { number = 10; line = i } → ok_or r f ≡ answer at
       unfolding read_pieces read_as
-      line_read at h r a f g =
+      line_read at h r a f g t =
           let first = begun_told k at a (record_of k).always refl (few_always k below) (f ∙ number_at_lem (λ r. get_or (numbers_in r.always) 0 0) k below) in
           let from : at + (end + 1) ≡ at + length (take end y) + 1 = omega (arith, length-take-le end y (omega arith)) in
-          rw (opened, ← is, ne_eqb k no_kind known, eq-eqb (length left) (length (record_of k).rules) (line_left h ∙ rules))
-          (g ∙ rw (← first, from) (ap step.or_ten (all_told (record_of k).rules _ _ left (begun k at) refl (few_parts k below)) ∙ or_ten_told _))
+          let told : r ≡ map_told (read_fields (record_of k).rules (at + length (take end y) + 1) left (begun k at)) =
+          g ∙ rw (← first, from) (all_told (record_of k).rules _ _ left (begun k at) refl (few_parts k below))
+          in
+          rw (opened, ← is, ne_eqb k no_kind known, eq-eqb (length left) (length (record_of k).rules) (line_left h ∙ rules), told, t) (or_ten_told i _)

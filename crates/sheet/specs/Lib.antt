@@ -11,3 +11,7 @@ pub mod Say
 pub mod Open
 pub mod Scan
 pub mod Promise
+pub mod Loaded
+pub mod Once
+pub mod Starts
+pub mod Records

@@ -3,9 +3,8 @@ use Rattle.std.specs.Prelude.{ℕ, ◌+◌, Bool, true, false, cond, List, [], �
 use Rattle.std.proofs.Math.Option.{Option, none as nothing, some}
 use Rattle.text.specs.Text.{either, ended}
 use Rattle.text.specs.Word.{index_in}
-use Rattle.text.specs.Field.{is_name, is_text, number_of}
-use Rattle.text.specs.declared.field.Number.{Number}
-use Rattle.text.specs.declared.field.Number.TheVariants.{Is, Bad}
+use Rattle.text.specs.Field.{Number, is_name, is_text, number_of}
+use Rattle.std.specs.Prelude.{Some, None}
 use Rattle.grammar.specs.Grammar.{Sort, Rule, span, name, text, assign_op, un_op, bin_op, count, flag, assign_ops, un_ops, bin_ops, record_of, no_kind, kind_for}
 
 -- how many bytes and lines a sheet has at most
@@ -58,8 +57,8 @@ when true a = some a
 when false a = nothing
 
 unfoldable pub on_number : {A : Type 0} → Number → (ℕ → A) → Option A
-on_number (Is v) f = some (f v)
-on_number Bad f = nothing
+on_number (Some v) f = some (f v)
+on_number None f = nothing
 
 unfoldable pub and_then : {A : Type 0} → Option A → (A → Option A) → Option A
 and_then (some a) f = f a

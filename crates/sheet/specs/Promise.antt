@@ -1,15 +1,19 @@
 -- What `load` answers and what it leaves in the scratch.
-use Rattle.std.specs.Prelude.{ℕ, zero, suc, ◌*◌, List, ◌++◌, length, take, drop}
+use Rattle.std.specs.Prelude.{ℕ, zero, suc, ◌*◌, List, ◌++◌, length, take, drop, Result, Ok, Err}
 use Rattle.sheet.specs.Load.{LoadResult, lines, refused, lines_of, copies, early}
 use Rattle.sheet.specs.Scan.{scan_all}
 use Rattle.sheet.specs.Scratch.{put_lines, closed, cells_per_line}
-use Rattle.sheet.specs.declared.loader.Answer.{Answer}
-use Rattle.sheet.specs.declared.loader.Answer.TheVariants.{Lines, Refused}
+use Rattle.sheet.specs.declared.refusal.Refused.{Refused}
 
 -- the number of lines, or the refusal's number and place
-unfoldable pub answer : LoadResult → Answer
-answer (lines ls) = Lines (length ls)
-answer (refused n i) = Refused n i
+unfoldable pub answer : LoadResult → Result ℕ Refused
+answer (lines ls) = Ok (length ls)
+answer (refused n i) = Err (record { number = n; line = i })
+
+-- an early refusal, or 0 for none
+unfoldable pub passed : ℕ → Result Unit Refused
+passed zero = Ok tt
+passed (suc k) = Err (record { number = suc k; line = 0 })
 
 -- the cells of the lines that a sheet has, zeros where it is refused
 unfoldable pub laid : LoadResult → List ℕ → List ℕ

@@ -1,8 +1,7 @@
 -- What is read of a loaded line in the sheet itself: its word and its spans.
 use Rattle.std.specs.Prelude.{ℕ, ◌+◌, Bool, cond, List, [], eqb, ltb, length, get_or, take, drop}
+use Rattle.std.specs.Option.{unwrap_or}
 use Rattle.text.specs.Field.{number_of}
-use Rattle.text.specs.declared.field.Number.{Number}
-use Rattle.text.specs.declared.field.Number.TheVariants.{Is, Bad}
 use Rattle.grammar.specs.Table.{numbers_of, span_rule}
 use Rattle.sheet.specs.Field.{piece_at}
 use Rattle.sheet.specs.Scratch.{cell, kind_at, line_count, start_cell, name_cell, length_cell}
@@ -12,12 +11,8 @@ use Rattle.sheet.specs.Line.{most_span}
 unfoldable pub cut : List ℕ → ℕ → ℕ → List ℕ
 cut s a n = take n (drop a s)
 
-abbrev pub or_zero : Number → ℕ
-or_zero (Is v) = v
-or_zero Bad = 0
-
 unfoldable pub number_at : List ℕ → ℕ → ℕ
-number_at s a = or_zero (number_of most_span (piece_at s a))
+number_at s a = unwrap_or (number_of most_span (piece_at s a)) 0
 
 -- nothing where the scratch has no such line
 unfoldable pub word_at : List ℕ → List ℕ → ℕ → List ℕ

@@ -1,12 +1,14 @@
 // The sheet reader: from the bytes of a sheet to loaded lines, or a refusal from 1 to 11.
 #![tactic(auto)]
 
-mod cursor;
 pub mod limits;
 mod line;
 mod lines;
+mod loaded_sheet;
 mod loader;
 mod open;
+mod records;
+mod refusal;
 mod scan;
 mod scratch;
 
@@ -15,5 +17,8 @@ pub use lines::{
     from_count, genesis_count, item_count, kind, name, nspan, op, param_count, span, target_count,
     type_arg_count, word,
 };
-pub use loader::{Answer, load};
+pub use loaded_sheet::LoadedSheet;
+pub use loader::load;
+pub use records::Records;
+pub use refusal::Refused;
 pub use scratch::{CELLS_PER_LINE, line_count};

@@ -7,7 +7,7 @@ ghost use Rattle.sheet.specs.Say.{number_at, nspan_at, span_at, span_first, word
 use crate::scratch::cell;
 use crate::{limits, scratch};
 use grammar::{kinds, starts_with_span};
-use text::{Number, find, number_of};
+use text::{find, number_of};
 
 // Its record's kind.
 pub fn kind(lines: &[u16], i: usize) -> usize
@@ -154,10 +154,7 @@ fn number_at(sheet: &[u8], at: usize) -> u32
     ensures { result ≡ number_at sheet.now at }
 {
     let end = find(sheet, at, b',', b'\n');
-    match number_of(cut(sheet, at, end - at), limits::MOST_SPAN) {
-        Number::Is(v) => v,
-        Number::Bad => 0,
-    }
+    number_of(cut(sheet, at, end - at), limits::MOST_SPAN).unwrap_or(0)
 }
 
 // Whether the first field of a record of kind k is a SPAN or NSPAN.

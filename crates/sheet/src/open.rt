@@ -1,10 +1,25 @@
-// The records still due at each depth while lines are read.
-ghost use Rattle.std.specs.Prelude.{◌≡◌, ◌+◌, ◌-◌, ◌<◌, ◌≤◌};
-ghost use Rattle.sheet.specs.Open.{Next, next_sort, settled, Took, Top};
+// The records still due while lines are read.
+ghost use Rattle.std.specs.Prelude.{◌≡◌, ◌≤◌};
+ghost use Rattle.sheet.specs.Open.{Begun, Deepest, Next, next_sort, settled, sort_or, taken, Top};
 
+use crate::refusal::{Refused, refuse};
 use crate::scratch;
 use crate::scratch::cell;
-use grammar::part_sort;
+use grammar::{part_sort, sorts};
+
+// The records due at a depth: how many are left, and the line whose parts they are.
+#[derive(Clone, Copy)]
+pub struct Due {
+    left: u16,
+    owner: u16,
+}
+
+// The depths at which records are due, the deepest last. Of a 66th nothing is kept: a record there is too deep.
+#[derive(Clone, Copy)]
+pub struct Depths {
+    due: [Due; 65],
+    pub count: usize,
+}
 
 // The number of the sort of the next part of line i, where n parts are still due.
 pub fn next_sort(lines: &[u16], i: usize, n: usize) -> u8
@@ -24,38 +39,64 @@ pub fn next_sort(lines: &[u16], i: usize, n: usize) -> u8
     part_sort(kind, 2)
 }
 
-// The depths that are left where nothing is due at the deepest ones.
-fn settle(due: &[u16; 65], depth: u64) -> u64
-    requires { depth ≤ 65 }
-    ensures { result ≡ settled due.now depth }
-{
-    let mut n = depth;
-    while 0 < n {
-        let top = n - 1;
-        if due[top as usize] != 0 {
-            return n;
+impl Depths {
+    // A contract is due.
+    pub fn new() -> Depths
+        ensures { Begun result }
+    {
+        Depths {
+            due: [Due { left: 1, owner: 0 }; 65],
+            count: 1,
         }
-        n = top;
     }
-    n
-}
 
-// Line i is read: one record less is due at the deepest of n depths, and its parts are due behind it. 66 where they would
-// stand at depth 65.
-pub fn take(due: &mut [u16; 65], owner: &mut [u16; 65], n: u64, i: usize, parts: usize) -> u64
-    requires { Top due.old n i parts }
-    ensures { Took due.old owner.old due.new owner.new n i parts result }
-{
-    let top = (n - 1) as usize;
-    due[top] -= 1;
-    if parts == 0 {
-        return settle(due, n);
+    // The number of the sort of the record that is due at the deepest depth, or refusal 6 or 7.
+    pub fn sort_due(&self, lines: &[u16], place: usize) -> Result<u8, Refused>
+        requires { Deepest lines.now self.now.due self.now.count }
+        ensures { result ≡ sort_or place lines.now self.now.due self.now.count }
+    {
+        if self.count == 0 {
+            return Err(refuse(6, place));
+        }
+        if 65 < self.count {
+            return Err(refuse(7, place));
+        }
+        if self.count == 1 {
+            return Ok(sorts::CONTRACT);
+        }
+        let top = self.due[self.count - 1];
+        Ok(next_sort(lines, usize::from(top.owner), usize::from(top.left)))
     }
-    if n == 65 {
-        return 66;
+
+    // Closes the deepest depths at which nothing is due. A while: what it counts down is what it changes.
+    fn settle(&mut self)
+        requires { self.old.count ≤ 65 }
+        ensures { self.new ≡ record { due = self.old.due; count = settled self.old.due self.old.count } }
+    {
+        while 0 < self.count {
+            if self.due[self.count - 1].left != 0 {
+                return;
+            }
+            self.count -= 1;
+        }
     }
-    let next = n as usize;
-    due[next] = parts as u16;
-    owner[next] = i as u16;
-    n + 1
+
+    // Line i is read: one record less is due at the deepest depth, and its parts are due behind it.
+    pub fn take(&mut self, i: usize, parts: usize)
+        requires { Top self.old.due self.old.count i parts }
+        ensures { self.new ≡ taken self.old i parts }
+    {
+        self.due[self.count - 1].left -= 1;
+        if parts == 0 {
+            self.settle();
+            return;
+        }
+        if self.count < 65 {
+            self.due[self.count] = Due {
+                left: parts as u16,
+                owner: i as u16,
+            };
+        }
+        self.count += 1;
+    }
 }

@@ -78,10 +78,8 @@ fn skip(lines: &[u16], k: usize, j: usize) -> usize
     ensures upper_bound { result < 65536 }
 {
     let mut at = j;
-    let mut left = k;
-    while 0 < left {
+    for _ in 0..k {
         at = cell(lines, at, END);
-        left -= 1;
     }
     at
 }
@@ -91,9 +89,7 @@ pub fn close(lines: &mut [u16])
     requires { length lines.old ≤ cells_per_line * most_lines }
     ensures { lines.new ≡ closed (line_count lines.old) lines.old }
 {
-    let mut i = lines.len() / CELLS_PER_LINE;
-    while 0 < i {
-        i -= 1;
+    for i in (0..line_count(lines)).rev() {
         let parts = cell(lines, i, FIRST) + cell(lines, i, SECOND) + cell(lines, i, THIRD);
         let end = skip(lines, parts, i + 1);
         put(lines, i, END, end);

@@ -7,15 +7,11 @@ use Rattle.rules.specs.Verdict.{longest}
 use Rattle.verdict.specs.Outcome.{outcome}
 use Rattle.verdict.specs.declared.Answer.{Answer}
 
--- the n bytes of a message, behind a comma
-abbrev pub message_part : List ℕ → ℕ → List ℕ
-message_part m n = codes "," ++ take n m
-
 -- what comes behind number and place
 abbrev pub rest_of : Answer → List ℕ → List ℕ
-rest_of a m = cond (ltb 11 a.number) (message_part m a.length) []
+rest_of a m = cond (ltb 11 a.number) (codes "," ++ m) []
 
--- the line for an answer and the message in its buffer
+-- the line for an answer and its message
 abbrev pub line_of : Answer → List ℕ → List ℕ
 line_of a m =
     cond (ltb 0 a.number)
@@ -26,7 +22,7 @@ line_of a m =
 unfoldable pub line_for : List ℕ → List ℕ
 line_for s =
     let o = outcome s (replicate (cells_per_line * most_lines) 0) (replicate most_lines 0) (replicate longest 0) in
-    line_of o.answer o.message
+    line_of o.answer (take o.answer.length o.message)
 
 -- a sheet was taken from the input, to its end or as far as to be too long, and the line for it was written
 abbrev pub AnswersSheet : (input input' out out' : Option (List ℕ)) → Type 0

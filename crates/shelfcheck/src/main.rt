@@ -2,9 +2,9 @@
 // message, parted by commas.
 #![tactic(auto)]
 
-ghost use Rattle.std.specs.Prelude.{◌≤◌, length, OnOk};
+ghost use Rattle.std.specs.Prelude.{OnOk};
 ghost use Rattle.std.specs.Io.KnownBytes.{Appends};
-ghost use Rattle.shelfcheck.specs.Line.{AnswersSheet, line_of, message_part};
+ghost use Rattle.shelfcheck.specs.Line.{AnswersSheet, line_of};
 
 use frames::read_full;
 use sheet::{CELLS_PER_LINE, limits};
@@ -12,17 +12,7 @@ use std::io;
 use std::io::{Read, Write};
 use verdict::Answer;
 
-// The message has n bytes, and all of them are there.
-fn write_message<W: Write>(out: &mut W, message: &[u8], n: usize) -> io::Result<()>
-    requires { n ≤ length message.now }
-    ensures { OnOk result (Appends (W.contents out.old) (W.contents out.new) (message_part message.now n)) }
-{
-    out.write_all(b",")?;
-    out.write_all(&message[..n])
-}
-
 fn write_answer<W: Write>(out: &mut W, answer: Answer, message: &[u8]) -> io::Result<()>
-    requires { answer.length ≤ length message.now }
     ensures { OnOk result (Appends (W.contents out.old) (W.contents out.new) (line_of answer message.now)) }
 {
     if answer.number == 0 {
@@ -30,7 +20,8 @@ fn write_answer<W: Write>(out: &mut W, answer: Answer, message: &[u8]) -> io::Re
     }
     write!(out, "{},{}", answer.number, answer.place)?;
     if 11 < answer.number {
-        write_message(out, message, answer.length as usize)?;
+        out.write_all(b",")?;
+        out.write_all(message)?;
     }
     out.write_all(b"\n")
 }
@@ -50,7 +41,7 @@ fn judge<R: Read, W: Write>(input: &mut R, out: &mut W) -> io::Result<()>
     let mut message = [0u8; LONGEST];
     let got = read_full(input, &mut sheet)?;
     let answer = verdict::verdict(&sheet[..got], &mut scratch, &mut types, &mut message);
-    write_answer(out, answer, &message)
+    write_answer(out, answer, &message[..answer.length as usize])
 }
 
 fn main(rt: HostRuntime) -> io::Result<()> {

@@ -8,6 +8,7 @@ use Prim.Native.Nat.{ℕ, suc, ◌+◌}
 use native.Mathlib.Numerals.{add-one}
 use native.Mathlib.Omega.{arith}
 use lib.Dec.{eqb, ltb}
+use Rattle.std.specs.Prelude.{Option, Result, Ok, Err}
 use Rattle.text.specs.Text.{bytes, ended}
 use Rattle.text.specs.Word.{index_in, split}
 use Rattle.grammar.specs.Grammar as grammar
@@ -29,18 +30,13 @@ use Rattle.rules.proofs.Records.{named, guard_at, let_at, emit_at, assign_at, do
 use Rattle.rules.proofs.Standing.{row_first, row_rest}
 use Rattle.lookups.specs.Lines.{TypeAt}
 use Rattle.refusals.specs.Refusal.{refusal_of, done_of}
-use Rattle.lookups.specs.declared.model.Found.{Found}
 use Rattle.refusals.specs.declared.refusal.Refusal.{Refusal}
 use Rattle.refusals.specs.declared.refusal.Refusal.TheVariants.{Predicate, Default}
-use Rattle.refusals.specs.declared.refusal.Done.{Done}
-use Rattle.refusals.specs.declared.refusal.Done.TheVariants.{Fine, Refused}
 use Rattle.refusals.proofs.Answers.{fits, misfits, refuses}
 use Rattle.lookups.proofs.Types.{type_name_lem}
 use Rattle.env.specs.Calls.{KeyedOf}
 use Rattle.env.specs.Force.{env_of, ExprIn}
 use Rattle.env.specs.declared.env.Env.{Env}
-use Rattle.env.specs.declared.judge.Typed.{Typed}
-use Rattle.env.specs.declared.judge.Typed.TheVariants.{Is, Refused as No}
 use Rattle.lookups.proofs.Tables.{one_place}
 use Rattle.typing.specs.Asks.{callee_at, args_at, Asks, AsksAt, AsksCall, Types, Does}
 use Rattle.typing.proofs.Calls.{parts, call_callee, call-args}
@@ -56,32 +52,32 @@ use Rattle.rules.specs.Codes as codes
 
 -- ------------------------------------------------------------ expect_predicate
 
-module _ (s : List ℕ) (env : Env) (T : Table) (i : ℕ) (a : Typed) (U : Table) (k : Types s (ty_of (env_of s T env) (expr_at s i)) T a U) where
-  pub no_condition : (r : Refusal) → a ≡ No r → Does s (expect_predicate (env_of s T env) (expr_at s i)) T (Refused r) U
+module _ (s : List ℕ) (env : Env) (T : Table) (i : ℕ) (a : Result ℕ Refusal) (U : Table) (k : Types s (ty_of (env_of s T env) (expr_at s i)) T a U) where
+  pub no_condition : (r : Refusal) → a ≡ Err r → Does s (expect_predicate (env_of s T env) (expr_at s i)) T (Err r) U
   unfolding expect_predicate
   no_condition r e = not_typed s _ _ T a U k r e
 
-  module _ (c : ℕ) (e : a ≡ Is c) where
+  module _ (c : ℕ) (e : a ≡ Ok c) where
     boolean : is_ty (ty_from c) (Boolean ∷ Unknown ∷ []) ≡ (eqb c codes.boolean || eqb c codes.unknown)
     unfolding is_ty eq_ty code
     boolean = rw (← gave_code s _ T a U k c e, or-false) refl
 
-    pub condition : (eqb c codes.boolean || eqb c codes.unknown) ≡ true → Does s (expect_predicate (env_of s T env) (expr_at s i)) T Fine U
+    pub condition : (eqb c codes.boolean || eqb c codes.unknown) ≡ true → Does s (expect_predicate (env_of s T env) (expr_at s i)) T (Ok tt) U
     unfolding expect_predicate done_of
-    condition q = typed_then s _ _ T a U k c Fine e (fits _ 21 _ _ (boolean ∙ q))
+    condition q = typed_then s _ _ T a U k c (Ok tt) e (fits _ 21 _ _ (boolean ∙ q))
 
-    pub not_condition : (eqb c codes.boolean || eqb c codes.unknown) ≡ false → Does s (expect_predicate (env_of s T env) (expr_at s i)) T (Refused (Predicate i)) U
+    pub not_condition : (eqb c codes.boolean || eqb c codes.unknown) ≡ false → Does s (expect_predicate (env_of s T env) (expr_at s i)) T (Err (Predicate i)) U
     unfolding expect_predicate done_of refusal_of
-    not_condition q = typed_then s _ _ T a U k c (Refused (Predicate i)) e (misfits _ 21 _ _ (boolean ∙ q))
+    not_condition q = typed_then s _ _ T a U k c (Err (Predicate i)) e (misfits _ 21 _ _ (boolean ∙ q))
 
 -- ------------------------------------------------------------ check_value
 
-module _ (s S : List ℕ) (env : Env) (T : Table) (op target value c : ℕ) (a : Typed) (U : Table) (k : Types s (ty_of (env_of s T env) (expr_at s value)) T a U) where
-  pub value_no : (r : Refusal) → a ≡ No r → Gives s S env op target value c T (Refused r) U
+module _ (s S : List ℕ) (env : Env) (T : Table) (op target value c : ℕ) (a : Result ℕ Refusal) (U : Table) (k : Types s (ty_of (env_of s T env) (expr_at s value)) T a U) where
+  pub value_no : (r : Refusal) → a ≡ Err r → Gives s S env op target value c T (Err r) U
   unfolding given_to
   value_no r e = record { does = λ x p t q. not_typed s _ _ T a U k r e }
 
-  pub value_ok : (d : ℕ) (r : Done) → a ≡ Is d → JudgesAssign s S env op target value c d r → Gives s S env op target value c T r U
+  pub value_ok : (d : ℕ) (r : Result Unit Refusal) → a ≡ Ok d → JudgesAssign s S env op target value c d r → Gives s S env op target value c T r U
   unfolding given_to
   value_ok d r e j = record { does = λ x p t q. typed_then s _ _ T a U k d r e (j.judged T x p t (ty_from d) q (gave_code s _ T a U k d e)) }
 
@@ -94,12 +90,12 @@ module _ (s S : List ℕ) (env : Env) (T : Table) (i : ℕ) (h : StmtOf kinds.as
   pub assign_target : Asks s S env T (i + 1)
   assign_target = record { ready = h.stmt.ready; here = rw (add-one i) (row_first its_parts.1) }
 
-  module _ (a : Typed) (U : Table) (k : Types s (ty_of (env_of s T env) (expr_at s (i + 1))) T a U) where
-    pub assign_no : (r : Refusal) → a ≡ No r → Does s (check_stmt_types (env_of s T env) (stmt_at s i)) T (Refused r) U
+  module _ (a : Result ℕ Refusal) (U : Table) (k : Types s (ty_of (env_of s T env) (expr_at s (i + 1))) T a U) where
+    pub assign_no : (r : Refusal) → a ≡ Err r → Does s (check_stmt_types (env_of s T env) (stmt_at s i)) T (Err r) U
     unfolding check_stmt_types check_assign ask_of asked ty_of
     assign_no r e = rw (its_parts.0, ← add-one i) (not_typed s (ty_of (env_of s T env) (expr_at s (i + 1))) _ T a U k r e)
 
-    module _ (c m : ℕ) (e : a ≡ Is c) (q : m ≡ end_at S (i + 1)) where
+    module _ (c m : ℕ) (e : a ≡ Ok c) (q : m ≡ end_at S (i + 1)) where
       on : Onward s S env T U
       on = onward s S env T U _ _ h.stmt.ready (off_type h.stmt.ready.force.loaded (env_of s T env) assign_target.here (rw (add-one i) (no_value_below S i (omega (arith, h.kind))))) (gave s _ T a U k c e)
 
@@ -107,7 +103,7 @@ module _ (s S : List ℕ) (env : Env) (T : Table) (i : ℕ) (h : StmtOf kinds.as
       assign_value =
           record { ready = on.ready; within = assign_target.here.within; here = rw (q ∙ ap (end_at S) (add-one i)) (row_first (row_rest its_parts.1)) }
 
-      pub assign_ok : (o : ℕ) (r : Done) (W : Table) → o ≡ op_at S i → Gives s S env o (i + 1) m c U r W → Does s (check_stmt_types (env_of s T env) (stmt_at s i)) T r W
+      pub assign_ok : (o : ℕ) (r : Result Unit Refusal) (W : Table) → o ≡ op_at S i → Gives s S env o (i + 1) m c U r W → Does s (check_stmt_types (env_of s T env) (stmt_at s i)) T r W
       unfolding check_stmt_types check_assign ask_of asked ty_of given_to
       assign_ok o r W y g =
           let j = g.does (expr_at s (i + 1)) (target_at h.stmt.ready.force.loaded assign_target.here) (ty_from c) (gave_code s _ T a U k c e) in
@@ -123,7 +119,7 @@ module _ (s S : List ℕ) (env : Env) (T : Table) (i : ℕ) (h : Asks s S env T 
   no_call : n ≢ kinds.call → call_of (expr_at s i) ≡ none
   no_call q = is-call_at h.ready.force.loaded h.here ∙ rw (← e, ne_eqb n kinds.call q) refl
 
-  pub use_none : n ≢ kinds.call → Does s (check_keyed_use (env_of s T env) (expr_at s i)) T Fine T
+  pub use_none : n ≢ kinds.call → Does s (check_keyed_use (env_of s T env) (expr_at s i)) T (Ok tt) T
   unfolding check_keyed_use if_some done_of kept
   use_none q = record { gives = rw (no_call q) refl }
 
@@ -134,11 +130,11 @@ module _ (s S : List ℕ) (env : Env) (T : Table) (i : ℕ) (h : Asks s S env T 
     pub use_callee : ExprIn s S env (i + 1)
     use_callee = call_callee s S env T i use_call
 
-    module _ (keyed : Found) (f : KeyedOf s S env (i + 1) keyed) where
+    module _ (keyed : Option ℕ) (f : KeyedOf s S env (i + 1) keyed) where
       pub use_args : AsksCall s S env T i keyed
       use_args = call-args s S env T i use_call keyed f
 
-      pub use_ok : (r : Done) (U : Table) → Does s (check_keyed_call (env_of s T env) (callee_at s i) (typings (env_of s T env) (args_at s S i))) T r U
+      pub use_ok : (r : Result Unit Refusal) (U : Table) → Does s (check_keyed_call (env_of s T env) (callee_at s i) (typings (env_of s T env) (args_at s S i))) T r U
           → Does s (check_keyed_use (env_of s T env) (expr_at s i)) T r U
       unfolding check_keyed_use call_of if_some callee_at args_at
       use_ok r U k = record { gives = rw (parts s S env T i use_call).0 k.gives }
@@ -152,19 +148,19 @@ module _ (s S : List ℕ) (env : Env) (T : Table) (i : ℕ) (h : StmtOf kinds.do
   pub do_expr : Asks s S env T (i + 1)
   do_expr = record { ready = h.stmt.ready; here = rw (add-one i) (row_first its_part.1) }
 
-  module _ (a : Typed) (U : Table) (k : Types s (ty_of (env_of s T env) (expr_at s (i + 1))) T a U) where
-    pub do_no : (r : Refusal) → a ≡ No r → Does s (check_stmt_types (env_of s T env) (stmt_at s i)) T (Refused r) U
+  module _ (a : Result ℕ Refusal) (U : Table) (k : Types s (ty_of (env_of s T env) (expr_at s (i + 1))) T a U) where
+    pub do_no : (r : Refusal) → a ≡ Err r → Does s (check_stmt_types (env_of s T env) (stmt_at s i)) T (Err r) U
     unfolding check_stmt_types
     do_no r e = rw (its_part.0, ← add-one i) (not_typed s (ty_of (env_of s T env) (expr_at s (i + 1))) _ T a U k r e)
 
-    module _ (c : ℕ) (e : a ≡ Is c) where
+    module _ (c : ℕ) (e : a ≡ Ok c) where
       on_do : Onward s S env T U
       on_do = onward s S env T U _ _ h.stmt.ready (off_type h.stmt.ready.force.loaded (env_of s T env) do_expr.here (rw (add-one i) (no_value_below S i (omega (arith, h.kind))))) (gave s _ T a U k c e)
 
       pub do_use : Asks s S env U (i + 1)
       do_use = record { ready = on_do.ready; here = do_expr.here }
 
-      pub do_ok : (r : Done) (W : Table) → Does s (check_keyed_use (env_of s U env) (expr_at s (i + 1))) U r W → Does s (check_stmt_types (env_of s T env) (stmt_at s i)) T r W
+      pub do_ok : (r : Result Unit Refusal) (W : Table) → Does s (check_keyed_use (env_of s U env) (expr_at s (i + 1))) U r W → Does s (check_stmt_types (env_of s T env) (stmt_at s i)) T r W
       unfolding check_stmt_types
       do_ok r W g =
           record {
@@ -177,11 +173,11 @@ module _ (s S : List ℕ) (env : Env) (T : Table) (i : ℕ) (h : StmtOf kinds.do
 
 module _ (s S : List ℕ) (env : Env) (T : Table) (i : ℕ) (h : StmtIn s S env T i) (n : ℕ) (e : n ≡ kind_at S i) where
   -- other statements ask nothing here
-  pub stmt_other : n ≢ kinds.assign → n ≢ kinds.do' → Does s (check_stmt_types (env_of s T env) (stmt_at s i)) T Fine T
+  pub stmt_other : n ≢ kinds.assign → n ≢ kinds.do' → Does s (check_stmt_types (env_of s T env) (stmt_at s i)) T (Ok tt) T
   unfolding check_stmt_types done_of kept
   stmt_other a b =
       let d = h.ready.force.loaded in
-      let q = pick {P = λ k. kind_at S i ≡ k → k ≢ kinds.assign → k ≢ kinds.do' → Does s (check_stmt_types (env_of s T env) (stmt_at s i)) T Fine T} {i = kinds.guard} {n = 5} n
+      let q = pick {P = λ k. kind_at S i ≡ k → k ≢ kinds.assign → k ≢ kinds.do' → Does s (check_stmt_types (env_of s T env) (stmt_at s i)) T (Ok tt) T} {i = kinds.guard} {n = 5} n
       ((λ f x y. record { gives = rw (guard_at d h.here f).0 refl })
       also (λ f x y. record { gives = rw (let_at d h.here f).0 refl })
       also (λ f x y. record { gives = rw (emit_at d h.here f).0 refl })
@@ -233,13 +229,13 @@ module _ (s S : List ℕ) (env : Env) (T : Table) (field : ℕ) (h : DefaultIn s
           let q : type_name f.ty ≡ y = rw (field_is.2, n, add-one field) (sym (type_name_lem s S (suc field) t)) in
           rw q (sym o)
 
-      pub default_wrong : b ≡ true → Does s (check_default Γ f (expr_at s (end_at S (suc field)))) T (Refused (Default field v)) T
+      pub default_wrong : b ≡ true → Does s (check_default Γ f (expr_at s (end_at S (suc field)))) T (Err (Default field v)) T
       unfolding check_default done_of refusal_of
       default_wrong e =
           let q : not (is_one (type_name f.ty) no_defaults) ≡ false = rw (test, e) refl in
           record { gives = rw (← value_at) ((refuses _ 19 (span (expr_at s v)) (default_text f.ty) _ q).answers T) }
 
-      pub default_ok : (x : Name) (c : ℕ) (r : Done) (U : Table) → b ≡ false → x ≡ name_at s S field → c ≡ code (ty_of_ident Γ x) → Gives s S env 0 field v c T r U
+      pub default_ok : (x : Name) (c : ℕ) (r : Result Unit Refusal) (U : Table) → b ≡ false → x ≡ name_at s S field → c ≡ code (ty_of_ident Γ x) → Gives s S env 0 field v c T r U
           → Does s (check_default Γ f (expr_at s (end_at S (suc field)))) T r U
       unfolding check_default ◌>>◌
       default_ok x c r U e m q g =

@@ -8,6 +8,7 @@ use Prim.Native.Nat.{ℕ}
 use native.Mathlib.Omega.{arith}
 use lib.Dec.{eqb, leb}
 use borrow.Author.Tests.{eqb-true, eqb-false, ne_eqb, not-true, not-false}
+use Rattle.std.specs.Prelude.{Ok, Err}
 use Rattle.grammar.specs.Grammar as grammar
 use Rattle.sheet.specs.Scratch.{kind_at, name_at}
 use Rattle.rules.specs.Text.{Name}
@@ -27,7 +28,6 @@ use Rattle.rules.proofs.Standing.{stands}
 use Rattle.refusals.specs.Answers.{Answers}
 use Rattle.refusals.specs.Refusal.{number_in, refusal_of, done_of}
 use Rattle.refusals.specs.declared.refusal.Refusal.TheVariants.{AssetSlot, NameIntoAddress, WrappingIntoNarrow, LiteralIntoNarrow, SlotMismatch}
-use Rattle.refusals.specs.declared.refusal.Done.TheVariants.{Fine, Refused}
 use Rattle.refusals.proofs.Answers.{gives, then_fine, then_refused, fits, misfits, passes, refuses}
 use Rattle.lookups.proofs.Codes.{from_code}
 use Rattle.lookups.proofs.Literals.{literal_at_lem}
@@ -231,13 +231,13 @@ module _ (s S : List ℕ) (env : Env) (op target value c d : ℕ) (h : AssignAt 
 -- ------------------------------------------------------------ return by return
 
 module _ (s S : List ℕ) (env : Env) (op target value c d : ℕ) (h : AssignAt s S target value) where
-  pub asset_wrong : c ≡ codes.asset → JudgesAssign s S env op target value c d (Refused (AssetSlot target))
+  pub asset_wrong : c ≡ codes.asset → JudgesAssign s S env op target value c d (Err (AssetSlot target))
   unfolding judge_assign done_of refusal_of eq_ty code
   asset_wrong q =
       record { judged = λ T e p t u k l. rw (← p.place) (refuses (not (eq_ty t Asset)) 24 (span e) asset_slot_text _ (rw (← k, q) refl)) }
 
   module _ (n : c ≢ codes.asset) (a : Bool) (x : a ≡ becomes_address s S op target c d) where
-    pub address_wrong : a ≡ true → JudgesAssign s S env op target value c d (Refused (NameIntoAddress target value))
+    pub address_wrong : a ≡ true → JudgesAssign s S env op target value c d (Err (NameIntoAddress target value))
     unfolding judge_assign done_of
     address_wrong f =
         record {
@@ -246,7 +246,7 @@ module _ (s S : List ℕ) (env : Env) (op target value c d : ℕ) (h : AssignAt 
         }
 
     module _ (m : ℕ) (b : Bool) (na : a ≡ false) (q : m ≡ most_of (narrow_at s S target)) (y : b ≡ wraps_narrow S value m) where
-      pub wrapping_wrong : b ≡ true → JudgesAssign s S env op target value c d (Refused (WrappingIntoNarrow target value))
+      pub wrapping_wrong : b ≡ true → JudgesAssign s S env op target value c d (Err (WrappingIntoNarrow target value))
       unfolding judge_assign done_of
       wrapping_wrong f =
           record {
@@ -256,7 +256,7 @@ module _ (s S : List ℕ) (env : Env) (op target value c d : ℕ) (h : AssignAt 
           }
 
       module _ (v : Bool) (nb : b ≡ false) (z : v ≡ above_narrow s S value m) where
-        pub literal_wrong : v ≡ true → JudgesAssign s S env op target value c d (Refused (LiteralIntoNarrow target value m))
+        pub literal_wrong : v ≡ true → JudgesAssign s S env op target value c d (Err (LiteralIntoNarrow target value m))
         unfolding judge_assign done_of
         literal_wrong f =
             record {
@@ -277,11 +277,11 @@ module _ (s S : List ℕ) (env : Env) (op target value c d : ℕ) (h : AssignAt 
               (then_fine _ _ tt _ (wrap_fine s S env op target value c d h T e p t u k l m q (sym y ∙ nb))
               (then_fine _ _ tt _ (literal_fine s S env op target value c d h T e p t u k l m q (sym z ∙ nv)) j))
 
-          pub slot_fine : g ≡ true → JudgesAssign s S env op target value c d Fine
+          pub slot_fine : g ≡ true → JudgesAssign s S env op target value c d (Ok tt)
           unfolding done_of
           slot_fine f = record { judged = λ T e p t u k l. all_past T e p t u k l _ (fits _ 28 _ _ (sym (w.fits T t u k l) ∙ f)) }
 
-          pub slot_wrong : g ≡ false → JudgesAssign s S env op target value c d (Refused (SlotMismatch value c d))
+          pub slot_wrong : g ≡ false → JudgesAssign s S env op target value c d (Err (SlotMismatch value c d))
           unfolding done_of refusal_of
           slot_wrong f =
               record {

@@ -9,6 +9,7 @@ use native.Mathlib.Numerals.{add-one}
 use native.Mathlib.Omega.{arith}
 use lib.Dec.{eqb}
 use borrow.Author.Tests.{eq-eqb, ne_eqb, not-true, not-false}
+use Rattle.std.specs.Prelude.{Option, Some, None}
 use Rattle.text.specs.Text.{bytes, same}
 use Rattle.sheet.specs.Scratch.{kind_at, name_at}
 use Rattle.rules.specs.Text.{Name, is}
@@ -24,8 +25,6 @@ use Rattle.rules.proofs.Standing.{row_first}
 use Rattle.lookups.proofs.Codes.{from_code}
 use Rattle.lookups.specs.Found.{found_field, FieldNamed}
 use Rattle.lookups.specs.Lines.{ExprAt}
-use Rattle.lookups.specs.declared.model.Found.{Found}
-use Rattle.lookups.specs.declared.model.Found.TheVariants.{At, Nothing}
 use Rattle.lookups.proofs.Behind.{behind}
 use Rattle.lookups.proofs.Types.{type_name_lem}
 use Rattle.env.specs.Force.{env_of}
@@ -52,12 +51,12 @@ bare-name S i k e = rw e refl
 
 -- ------------------------------------------------------------ addresses
 
-module _ (s S : List ℕ) (x : Name) (d : Loaded s S) (r : Found) (n : FieldNamed s S x r) where
-  pub no_address : r ≡ Nothing → false ≡ is_address_field (model_in s) x
+module _ (s S : List ℕ) (x : Name) (d : Loaded s S) (r : Option ℕ) (n : FieldNamed s S x r) where
+  pub no_address : r ≡ None → false ≡ is_address_field (model_in s) x
   unfolding is_address_field found_field
   no_address e = rw (is_address_field, ← n.found, e) refl
 
-  pub address : (i : ℕ) (y : Name) (b : Bool) → r ≡ At i → y ≡ name_at s S (i + 1) → b ≡ same y (bytes "Q_Address") → b ≡ is_address_field (model_in s) x
+  pub address : (i : ℕ) (y : Name) (b : Bool) → r ≡ Some i → y ≡ name_at s S (i + 1) → b ≡ same y (bytes "Q_Address") → b ≡ is_address_field (model_in s) x
   unfolding is_address_field found_field is
   address i y b e z w =
       let t = behind kinds.field s S d r i e n.kind (omega arith) (omega arith) in

@@ -1,5 +1,5 @@
 -- What an assignment is judged by: its target's line, its value's line, and the codes of their types.
-use Rattle.std.specs.Prelude.{ℕ, ◌<◌, Bool, not, cond, ◌&&◌, ◌||◌, List, ◌≡◌, eqb, get_or}
+use Rattle.std.specs.Prelude.{ℕ, ◌<◌, Bool, not, cond, ◌&&◌, ◌||◌, List, ◌≡◌, eqb, get_or, Result}
 use Rattle.std.proofs.Math.Option.{Option, none, some}
 use Rattle.grammar.specs.Grammar as grammar
 use Rattle.sheet.specs.Scratch.{kind_at, name_at, line_count}
@@ -11,12 +11,12 @@ use Rattle.rules.specs.Statements.{narrow_field, is_set, is_address_field, slot_
 use Rattle.rules.specs.Standing.{named_at, place_at, model_in, expr_at, Loaded, Here}
 use Rattle.refusals.specs.Answers.{Answers}
 use Rattle.refusals.specs.Refusal.{done_of}
-use Rattle.refusals.specs.declared.refusal.Done.{Done}
 use Rattle.env.specs.Force.{env_of}
 use Rattle.env.specs.declared.env.Env.{Env}
 use Rattle.narrow.specs.Narrow.{exceeds_of}
 use Rattle.grammar.specs.Kinds as kinds
 use Rattle.rules.specs.Codes as codes
+use Rattle.refusals.specs.declared.refusal.Refusal.{Refusal}
 
 -- the operator by its place among those of `assign`
 abbrev pub op_of : ℕ → AssignOp
@@ -62,6 +62,6 @@ pub record FitsSlot (s : List ℕ) (env : Env) (op value c d : ℕ) (r : Bool) :
   pub fits : (T : Table) (slot given : Ty) → c ≡ code slot → d ≡ code given → r ≡ slot_fits (env_of s T env) (op_of op) (expr_at s value) slot given
 
 -- r is the rule's answer, whatever the target at its line is
-pub record JudgesAssign (s S : List ℕ) (env : Env) (op target value c d : ℕ) (r : Done) : Type 0 where
+pub record JudgesAssign (s S : List ℕ) (env : Env) (op target value c d : ℕ) (r : Result Unit Refusal) : Type 0 where
   pub judged : (T : Table) (e : Expr) → TargetAt s S target e → (slot given : Ty) → c ≡ code slot → d ≡ code given
       → Answers (judge_assign (env_of s T env) (op_of op) e (expr_at s value) slot given) (done_of s r)

@@ -1,5 +1,5 @@
 -- What the checks of statements, conditions and defaults ask and promise.
-use Rattle.std.specs.Prelude.{ℕ, ◌<◌, List, [], ◌∷◌, ◌≡◌}
+use Rattle.std.specs.Prelude.{ℕ, ◌<◌, List, [], ◌∷◌, ◌≡◌, Result}
 use Prim.Native.String.{String}
 use Rattle.grammar.specs.Grammar as grammar
 use Rattle.sheet.specs.Scratch.{kind_at, line_count, default_count}
@@ -9,12 +9,12 @@ use Rattle.rules.specs.Kept.{Table}
 use Rattle.rules.specs.Typing.{Env, ty_of}
 use Rattle.rules.specs.Statements.{judge_assign}
 use Rattle.rules.specs.Standing.{expr_at, Here}
-use Rattle.refusals.specs.declared.refusal.Done.{Done}
 use Rattle.env.specs.Force.{env_of, Ready}
 use Rattle.env.specs.declared.env.Env.{Env as CodeEnv}
 use Rattle.typing.specs.Asks.{Does}
 use Rattle.statements.specs.Assigned.{op_of, TargetAt}
 use Rattle.grammar.specs.Kinds as kinds
+use Rattle.refusals.specs.declared.refusal.Refusal.{Refusal}
 
 -- the types of fields that take no default
 abbrev pub no_defaults : List String
@@ -52,5 +52,5 @@ unfoldable pub given_to : Env → AssignOp → (target value : Expr) → (slot :
 given_to Γ op target value slot = ty_of Γ value >>= λ given. judge_assign Γ op target value slot given
 
 -- the answer r and the table U are what that rule gives, whatever the target at its line is; its type has the code c
-pub record Gives (s S : List ℕ) (env : CodeEnv) (op target value c : ℕ) (T : Table) (r : Done) (U : Table) : Type 0 where
+pub record Gives (s S : List ℕ) (env : CodeEnv) (op target value c : ℕ) (T : Table) (r : Result Unit Refusal) (U : Table) : Type 0 where
   pub does : (e : Expr) → TargetAt s S target e → (slot : Ty) → c ≡ code slot → Does s (given_to (env_of s T env) (op_of op) e (expr_at s value) slot) T r U

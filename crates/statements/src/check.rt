@@ -11,100 +11,107 @@ ghost use Rattle.statements.specs.Checked.{DefaultIn, Gives, no_defaults, StmtIn
 ghost use Rattle.grammar.specs.Kinds as kinds;
 
 use crate::assign::judge_assign;
-use env::{Env, Typed, keyed_of, ty_of_ident};
+use env::{Env, keyed_of, ty_of_ident};
 use grammar::{kinds, ops};
-use refusals::{Done, Refusal};
+use refusals::Refusal;
 use rules::codes;
-use sheet::{end, kind, name, op};
+use sheet::{LoadedSheet, op};
 use text::index_in;
 use typing::{check_keyed_call, ty_of};
 
 // The condition at line i is a boolean.
-pub fn expect_predicate(sheet: &[u8], lines: &[u16], env: Env, table: &mut [u8], i: usize) -> Done
-    requires { Asks sheet.now lines.now env table.old i }
-    ensures { Does sheet.now (expect_predicate (env_of sheet.now table.old env) (expr_at sheet.now i)) table.old result table.new }
+pub fn expect_predicate(
+    sheet: &LoadedSheet<'_>,
+    env: Env,
+    table: &mut [u8],
+    i: usize,
+) -> Result<(), Refusal>
+    requires { Asks sheet.now.bytes.now sheet.now.lines.now env table.old i }
+    ensures { Does sheet.now.bytes.now (expect_predicate (env_of sheet.now.bytes.now table.old env) (expr_at sheet.now.bytes.now i)) table.old result table.new }
 {
-    match ty_of(sheet, lines, env, table, i) {
-        Typed::Is(ty) => {
-            if (ty == codes::BOOLEAN) | (ty == codes::UNKNOWN) {
-                Done::Fine
-            } else {
-                Done::Refused(Refusal::Predicate(i))
-            }
-        }
-        Typed::Refused(r) => Done::Refused(r),
+    let ty = ty_of(sheet, env, table, i)?;
+    if (ty == codes::BOOLEAN) | (ty == codes::UNKNOWN) {
+        Ok(())
+    } else {
+        Err(Refusal::Predicate(i))
     }
 }
 
 // Types the value, and judges its assignment to the target, whose type is slot.
 fn check_value(
-    sheet: &[u8],
-    lines: &[u16],
+    sheet: &LoadedSheet<'_>,
     env: Env,
     table: &mut [u8],
     op: usize,
     target: usize,
     value: usize,
     slot: u8,
-) -> Done
-    requires { ValueIn sheet.now lines.now env table.old target value }
-    ensures { Gives sheet.now lines.now env op target value slot table.old result table.new }
+) -> Result<(), Refusal>
+    requires { ValueIn sheet.now.bytes.now sheet.now.lines.now env table.old target value }
+    ensures { Gives sheet.now.bytes.now sheet.now.lines.now env op target value slot table.old result table.new }
 {
-    match ty_of(sheet, lines, env, table, value) {
-        Typed::Is(given) => judge_assign(sheet, lines, env, op, target, value, slot, given),
-        Typed::Refused(r) => Done::Refused(r),
-    }
+    let given = ty_of(sheet, env, table, value)?;
+    judge_assign(sheet, env, op, target, value, slot, given)
 }
 
 // The target is typed before the value.
-fn check_assign(sheet: &[u8], lines: &[u16], env: Env, table: &mut [u8], i: usize) -> Done
-    requires { StmtOf kinds.assign sheet.now lines.now env table.old i }
-    ensures { Does sheet.now (check_stmt_types (env_of sheet.now table.old env) (stmt_at sheet.now i)) table.old result table.new }
+fn check_assign(
+    sheet: &LoadedSheet<'_>,
+    env: Env,
+    table: &mut [u8],
+    i: usize,
+) -> Result<(), Refusal>
+    requires { StmtOf kinds.assign sheet.now.bytes.now sheet.now.lines.now env table.old i }
+    ensures { Does sheet.now.bytes.now (check_stmt_types (env_of sheet.now.bytes.now table.old env) (stmt_at sheet.now.bytes.now i)) table.old result table.new }
 {
-    match ty_of(sheet, lines, env, table, i + 1) {
-        Typed::Is(slot) => {
-            let value = end(lines, i + 1);
-            check_value(sheet, lines, env, table, op(lines, i), i + 1, value, slot)
-        }
-        Typed::Refused(r) => Done::Refused(r),
-    }
+    let slot = ty_of(sheet, env, table, i + 1)?;
+    let value = sheet.end(i + 1);
+    check_value(sheet, env, table, sheet.op(i), i + 1, value, slot)
 }
 
 // `check_keyed_call` of any expression.
-fn check_keyed_use(sheet: &[u8], lines: &[u16], env: Env, table: &mut [u8], i: usize) -> Done
-    requires { Asks sheet.now lines.now env table.old i }
-    ensures { Does sheet.now (check_keyed_use (env_of sheet.now table.old env) (expr_at sheet.now i)) table.old result table.new }
+fn check_keyed_use(
+    sheet: &LoadedSheet<'_>,
+    env: Env,
+    table: &mut [u8],
+    i: usize,
+) -> Result<(), Refusal>
+    requires { Asks sheet.now.bytes.now sheet.now.lines.now env table.old i }
+    ensures { Does sheet.now.bytes.now (check_keyed_use (env_of sheet.now.bytes.now table.old env) (expr_at sheet.now.bytes.now i)) table.old result table.new }
 {
-    if kind(lines, i) != kinds::CALL {
-        return Done::Fine;
+    if sheet.kind(i) != kinds::CALL {
+        return Ok(());
     }
-    let keyed = keyed_of(sheet, lines, env, i + 1);
-    check_keyed_call(sheet, lines, env, table, i, keyed)
+    let keyed = keyed_of(sheet, env, i + 1);
+    check_keyed_call(sheet, env, table, i, keyed)
 }
 
-fn check_do(sheet: &[u8], lines: &[u16], env: Env, table: &mut [u8], i: usize) -> Done
-    requires { StmtOf kinds.do' sheet.now lines.now env table.old i }
-    ensures { Does sheet.now (check_stmt_types (env_of sheet.now table.old env) (stmt_at sheet.now i)) table.old result table.new }
+fn check_do(sheet: &LoadedSheet<'_>, env: Env, table: &mut [u8], i: usize) -> Result<(), Refusal>
+    requires { StmtOf kinds.do' sheet.now.bytes.now sheet.now.lines.now env table.old i }
+    ensures { Does sheet.now.bytes.now (check_stmt_types (env_of sheet.now.bytes.now table.old env) (stmt_at sheet.now.bytes.now i)) table.old result table.new }
 {
-    match ty_of(sheet, lines, env, table, i + 1) {
-        Typed::Is(_) => check_keyed_use(sheet, lines, env, table, i + 1),
-        Typed::Refused(r) => Done::Refused(r),
-    }
+    ty_of(sheet, env, table, i + 1)?;
+    check_keyed_use(sheet, env, table, i + 1)
 }
 
 // The statement at line i, where it assigns or is an expression.
-pub fn check_stmt_types(sheet: &[u8], lines: &[u16], env: Env, table: &mut [u8], i: usize) -> Done
-    requires { StmtIn sheet.now lines.now env table.old i }
-    ensures { Does sheet.now (check_stmt_types (env_of sheet.now table.old env) (stmt_at sheet.now i)) table.old result table.new }
+pub fn check_stmt_types(
+    sheet: &LoadedSheet<'_>,
+    env: Env,
+    table: &mut [u8],
+    i: usize,
+) -> Result<(), Refusal>
+    requires { StmtIn sheet.now.bytes.now sheet.now.lines.now env table.old i }
+    ensures { Does sheet.now.bytes.now (check_stmt_types (env_of sheet.now.bytes.now table.old env) (stmt_at sheet.now.bytes.now i)) table.old result table.new }
 {
-    let k = kind(lines, i);
+    let k = sheet.kind(i);
     if k == kinds::ASSIGN {
-        return check_assign(sheet, lines, env, table, i);
+        return check_assign(sheet, env, table, i);
     }
     if k == kinds::DO {
-        return check_do(sheet, lines, env, table, i);
+        return check_do(sheet, env, table, i);
     }
-    Done::Fine
+    Ok(())
 }
 
 // Whether a field of the type of this name takes no default.
@@ -115,23 +122,19 @@ fn no_default(ty: &[u8]) -> bool
 }
 
 // The default of the field at line field is assigned to the last field of its name.
-pub fn check_default(sheet: &[u8], lines: &[u16], env: Env, table: &mut [u8], field: usize) -> Done
-    requires { DefaultIn sheet.now lines.now env table.old field }
-    ensures { Does sheet.now (check_default (env_of sheet.now table.old env) (field_at sheet.now field) (expr_at sheet.now (end_at lines.now (suc field)))) table.old result table.new }
+pub fn check_default(
+    sheet: &LoadedSheet<'_>,
+    env: Env,
+    table: &mut [u8],
+    field: usize,
+) -> Result<(), Refusal>
+    requires { DefaultIn sheet.now.bytes.now sheet.now.lines.now env table.old field }
+    ensures { Does sheet.now.bytes.now (check_default (env_of sheet.now.bytes.now table.old env) (field_at sheet.now.bytes.now field) (expr_at sheet.now.bytes.now (end_at sheet.now.lines.now (suc field)))) table.old result table.new }
 {
-    let value = end(lines, field + 1);
-    if no_default(name(sheet, lines, field + 1)) {
-        return Done::Refused(Refusal::Default { field, value });
+    let value = sheet.end(field + 1);
+    if no_default(sheet.name(field + 1)) {
+        return Err(Refusal::Default { field, value });
     }
-    let slot = ty_of_ident(sheet, lines, env, table, name(sheet, lines, field));
-    check_value(
-        sheet,
-        lines,
-        env,
-        table,
-        ops::ASSIGN_SET,
-        field,
-        value,
-        slot,
-    )
+    let slot = ty_of_ident(sheet, env, table, sheet.name(field));
+    check_value(sheet, env, table, ops::ASSIGN_SET, field, value, slot)
 }

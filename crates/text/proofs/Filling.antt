@@ -14,16 +14,16 @@ copies_last zero x = refl
 copies_last (suc n) x = ap (λ l. x ∷ l) (copies_last n x)
 
 -- the loop stands before element i of S, which was S₀ before it: those passed hold x
-pub record Filled (x : ℕ) (S₀ S : List ℕ) (i : ℕ) : Type 0 where
+pub record Filled {A : Type 0} (x : A) (S₀ S : List A) (i : ℕ) : Type 0 where
   pub size : length S ≡ length S₀
   pub within : i ≤ length S
   pub front : take i S ≡ copies i x
 
-pub filled_none : (x : ℕ) (S : List ℕ) → Filled x S S 0
+pub filled_none : {A : Type 0} (x : A) (S : List A) → Filled x S S 0
 unfolding copies
 filled_none x S = record { size = refl; within = omega arith; front = refl }
 
-module _ (x : ℕ) (S₀ S : List ℕ) (i : ℕ) (f : Filled x S₀ S i) where
+module _ {A : Type 0} (x : A) (S₀ S : List A) (i : ℕ) (f : Filled x S₀ S i) where
   pub filled_more : i < length S → Filled x S₀ (set S i x) (i + 1)
   filled_more h =
       record {

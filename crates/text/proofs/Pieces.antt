@@ -2,13 +2,17 @@
 use mathlib.Core.Path.{◌≡◌, refl, sym, ap, ◌∙◌}
 use mathlib.Core.List.{List, [], ◌∷◌, ◌++◌, append_assoc, append-nil}
 use mathlib.Core.Bool.{Bool, true, false, cond}
-use Prim.Native.Nat.{ℕ, zero, suc, ◌+◌, ◌-◌, ◌≤◌, ◌<◌}
+use Prim.Native.Nat.{ℕ, zero, suc, ◌+◌, ◌-◌, ◌≤◌, ◌<◌, max}
 use native.Mathlib.Numerals.{add-one}
 use native.Mathlib.Nat.{add-zero, lt_of_not-le}
 use native.Mathlib.Omega.{arith}
 use lib.ListN.{length, get_or, take, drop, drop_of_length-le, length-drop}
 use lib.Seq.{drop-cons, drop-drop}
-use Rattle.text.specs.Text.{Counted, one, upto, ended}
+use Rattle.std.specs.List.{count_by}
+use Rattle.std.proofs.Common.{inl, inr}
+use Rattle.std.proofs.lemmas.Bool.{cases_lt}
+use Rattle.std.proofs.lemmas.List.Sums.{sum_by-cons}
+use Rattle.text.specs.Text.{upto, ended}
 
 module _ (p : ℕ → Bool) where
   -- a piece is the front of what it is the first piece of
@@ -51,16 +55,15 @@ module _ (p : ℕ → Bool) where
       by_cases true q f = absurd (omega arith)
       by_cases false q f = f (omega arith)
 
-  -- how many pieces there are does not depend on the start of the first
-  ended_any : (w l : List ℕ) → length (ended p w l) ≡ length (ended p [] l)
+  -- there are as many pieces as bytes that end one
+  pub length-ended : (w l : List ℕ) → length (ended p w l) ≡ count_by p l
   unfolding ended
-  ended_any w [] = refl
-  ended_any w (b ∷ bs) = by_cases (p b) (ended_any (w ++ (b ∷ [])) bs) (ended_any (b ∷ []) bs)
+  length-ended w [] = refl
+  length-ended w (b ∷ bs) = rw (sum_by-cons (λ x. cond (p x) 1 0) b bs) (by_cases (p b) (λ v. length-ended v bs))
     where
-      by_cases : (t : Bool) → length (ended p (w ++ (b ∷ [])) bs) ≡ length (ended p [] bs) → length (ended p (b ∷ []) bs) ≡ length (ended p [] bs)
-          → length (ended_at w b bs t) ≡ length (ended_at [] b bs t)
-      by_cases true h k = refl
-      by_cases false h k = h ∙ sym k
+      by_cases : (t : Bool) → ((v : List ℕ) → length (ended p v bs) ≡ count_by p bs) → length (ended_at w b bs t) ≡ cond t 1 0 + count_by p bs
+      by_cases true h = omega (arith, h [])
+      by_cases false h = omega (arith, h (w ++ (b ∷ [])))
 
 -- a, behind the start w of a piece, stops where a piece ends
 abbrev pub AllEnded : (ℕ → Bool) → List ℕ → List ℕ → Type 0
@@ -137,35 +140,11 @@ module _ (p : ℕ → Bool) (s : List ℕ) (i n : ℕ) (e : n ≡ i + length (up
   unfolding upto
   find_more t h = e ∙ rw (drop-cons s i 0 h, t, add-one) (omega arith)
 
-  pub find_over : length s ≤ i → i ≡ n
-  unfolding upto
-  find_over h = sym (e ∙ rw (drop_of_length-le s h) (add-zero i))
-
-pub one_most : (t : Bool) (r : ℕ) → r ≡ one t → r ≤ 1
-unfolding one
-one_most true r e = omega arith
-one_most false r e = omega arith
-
--- A turn of the count of pieces: n is the count, k the pieces so far, and i the place of the turn.
-module _ (p : ℕ → Bool) (s : List ℕ) (i k n : ℕ) (e : n ≡ k + length (ended p [] (drop i s))) where
-  pub count_step : (r : ℕ) → r ≡ one (p (get_or s i 0)) → i < length s → n ≡ k + r + length (ended p [] (drop (i + 1) s))
-  unfolding ended one
-  count_step r o h = rw o (by_cases (p (get_or s i 0)) refl)
-    where
-      by_cases : (t : Bool) → p (get_or s i 0) ≡ t → n ≡ k + one t + length (ended p [] (drop (i + 1) s))
-      by_cases true t = e ∙ rw (add-one i, drop-cons s i 0 h, ended, t) (omega arith)
-      by_cases false t =
-          e ∙ rw (add-one i, drop-cons s i 0 h, ended, t, add-zero k) (ap (λ m. k + m) (ended_any p (get_or s i 0 ∷ []) (drop (suc i) s)))
-
-  pub count_all : (j r : ℕ) → Counted p s i j r → n ≡ k + r + length (ended p [] (drop j s))
-  count_all j r c = omega (arith, e, c.pieces)
-
-  pub count_over : length s ≤ i → k ≡ n
-  unfolding ended
-  count_over h = sym (e ∙ rw (drop_of_length-le s h) (add-zero k))
-
--- the end of a part
-pub count_stop : (p : ℕ → Bool) (s : List ℕ) (from to i n : ℕ) → length (ended p [] (drop from s)) ≡ n + length (ended p [] (drop i s)) → i ≤ to → to ≤ i → from + n ≤ i
-    → Counted p s from to n
-count_stop p s from to i n e h g m =
-    let q : i ≡ to = omega arith in record { most = omega arith; pieces = e ∙ ap (λ j. n + length (ended p [] (drop j s))) q }
+-- where there is none
+pub find_over : (p : ℕ → Bool) (s : List ℕ) (from i : ℕ) → from + length (upto p (drop from s)) ≡ i + length (upto p (drop i s)) → (from ≤ length s → i ≤ length s) → length s ≤ i
+    → max from (length s) ≡ from + length (upto p (drop from s))
+unfolding upto
+find_over p s from i e f h = elim (cases_lt (length s) from) [
+  | inl past ↦ rw (drop_of_length-le s (let q : length s ≤ from = omega arith in q)) (omega arith)
+  | inr within ↦ let none : length (upto p (drop i s)) ≡ 0 = rw (drop_of_length-le s h) in omega (arith, f within)
+]

@@ -1,30 +1,17 @@
 -- Laws of the test `same` and of a table of words. Assumes nothing.
 use mathlib.Core.Path.{◌≡◌, refl, sym, ap, ◌∙◌}
 use mathlib.Core.List.{List, [], ◌∷◌}
-use mathlib.Core.Bool.{Bool, true, false, cond, true≢false}
-use Prim.Native.Nat.{ℕ, suc, ◌+◌, ◌-◌, ◌≤◌, ◌<◌}
+use mathlib.Core.Bool.{Bool, true, false, cond, true≢false, ◌&&◌}
+use Prim.Native.Nat.{ℕ, ◌+◌, ◌-◌, ◌≤◌, ◌<◌}
 use native.Mathlib.Nat.{add-zero}
-use native.Mathlib.Numerals.{add-one}
 use native.Mathlib.Omega.{arith}
-use lib.ListN.{length, get_or, take, drop, drop_of_length-le, length-drop}
-use lib.Seq.{drop-cons}
-use borrow.Author.Tests.{eq-eqb, ne_eqb, eqb-true}
+use lib.ListN.{length, take, drop, drop_of_length-le, length-drop}
+use borrow.Author.Tests.{eq-eqb, eqb-true}
 use lib.Dec.{eqb}
+use Rattle.std.specs.Cmp.Lexicographic.{pointwise}
 use Rattle.text.specs.Text.{same, either, upto, ended}
 use Rattle.text.specs.Word.{split, index_in}
 use Rattle.text.proofs.Pieces.{upto_between, ended_none, piece_next}
-
--- lists of two lengths are not the same
-pub same_length : (a b : List ℕ) → (length a ≡ length b → ⊥) → same a b ≡ false
-unfolding same
-same_length [] [] h = absurd (h refl)
-same_length [] (y ∷ ys) h = refl
-same_length (x ∷ xs) [] h = refl
-same_length (x ∷ xs) (y ∷ ys) h = rw (same_length xs ys (λ e. h (ap suc e))) (both (eqb x y))
-  where
-    both : (t : Bool) → cond t false false ≡ false
-    both true = refl
-    both false = refl
 
 -- texts that are the same are one text
 pub same_self : (a : List ℕ) → same a a ≡ true
@@ -43,19 +30,20 @@ same-is (x ∷ xs) (y ∷ ys) e = by_cases (eqb x y) refl e (same-is xs ys)
     by_cases true q f h = rw (eqb-true x y q) (ap (λ zs. y ∷ zs) (h f))
     by_cases false q f h = absurd (true≢false (sym f))
 
--- A turn of the comparison: r is the answer, and i the place of the turn.
-module _ (a b : List ℕ) (i : ℕ) (r : Bool) (e : r ≡ same (drop i a) (drop i b)) where
-  pub same_differs : (get_or a i 0 ≡ get_or b i 0 → ⊥) → i < length a → i < length b → false ≡ r
-  unfolding same
-  same_differs h ha hb = sym (e ∙ rw (drop-cons a i 0 ha, drop-cons b i 0 hb, ne_eqb (get_or a i 0) (get_or b i 0) h))
+pointwise-same : (a b : List ℕ) → pointwise eqb a b ≡ same a b
+unfolding same
+pointwise-same [] [] = refl
+pointwise-same [] (y ∷ ys) = refl
+pointwise-same (x ∷ xs) [] = refl
+pointwise-same (x ∷ xs) (y ∷ ys) = rw (pointwise-same xs ys) (by_cases (eqb x y))
+  where
+    by_cases : (t : Bool) → (t && same xs ys) ≡ cond t (same xs ys) false
+    by_cases true = refl
+    by_cases false = refl
 
-  pub same_agrees : get_or a i 0 ≡ get_or b i 0 → i < length a → i < length b → r ≡ same (drop (i + 1) a) (drop (i + 1) b)
-  unfolding same
-  same_agrees h ha hb = e ∙ rw (add-one, drop-cons a i 0 ha, drop-cons b i 0 hb, eq-eqb (get_or a i 0) (get_or b i 0) h)
-
-  pub same_end : length a ≤ i → length b ≤ i → true ≡ r
-  unfolding same
-  same_end ha hb = sym (e ∙ rw (drop_of_length-le a ha, drop_of_length-le b hb))
+-- what the library's `==` says
+pub equal_same : (a b : List ℕ) (r : Bool) → r ≡ pointwise eqb a b → r ≡ same a b
+equal_same a b r e = e ∙ pointwise-same a b
 
 -- A turn of the search in a table: n is the place, k the words passed, start where the next one starts, and end where it ends.
 module _ (p t : List ℕ) (k start end n : ℕ) (e : n ≡ k + index_in p (split (drop start t)))

@@ -1,8 +1,6 @@
 -- The rules of a field: NAME, TEXT and decimals.
-use Rattle.std.specs.Prelude.{ℕ, ◌+◌, ◌-◌, ◌*◌, List, [], ◌∷◌, Bool, true, false, cond, not, ◌&&◌, ◌||◌, eqb, leb, ltb, length, get_or}
+use Rattle.std.specs.Prelude.{ℕ, ◌+◌, ◌-◌, ◌*◌, List, [], ◌∷◌, Bool, true, false, cond, not, ◌&&◌, ◌||◌, eqb, leb, ltb, length, get_or, Option, Some, None}
 use Rattle.text.specs.Text.{all}
-use Rattle.text.specs.declared.field.Number.{Number}
-use Rattle.text.specs.declared.field.Number.TheVariants.{Is, Bad}
 
 abbrev pub digit : ℕ → Bool
 digit b = leb 48 b && leb b 57
@@ -35,9 +33,13 @@ unfoldable pub value_from : ℕ → List ℕ → ℕ
 value_from v [] = v
 value_from v (b ∷ bs) = value_from (v * 10 + (b - 48)) bs
 
+-- what is read of a field that is to be a number
+abbrev pub Number : Type 0
+Number = Option ℕ
+
 -- the number n, where it is well written and at most the largest
 abbrev pub judge : ℕ → Bool → ℕ → Number
-judge most ok n = cond (ok && leb n most) (Is n) Bad
+judge most ok n = cond (ok && leb n most) (Some n) None
 
 -- a decimal from 0 to the largest: SPAN and NSPAN (4294967295), COUNT (1024), FLAG (1)
 unfoldable pub number_of : ℕ → List ℕ → Number

@@ -1,5 +1,5 @@
 -- Texts as lists of bytes, and their pieces.
-use Rattle.std.specs.Prelude.{ℕ, zero, suc, ◌+◌, ◌-◌, ◌≤◌, ◌<◌, List, [], ◌∷◌, ◌++◌, ◌≡◌, Bool, true, false, cond, ◌&&◌, ◌||◌, eqb, length, drop}
+use Rattle.std.specs.Prelude.{ℕ, zero, suc, List, [], ◌∷◌, ◌++◌, Bool, true, false, cond, ◌&&◌, ◌||◌, eqb}
 use Prim.Native.Char.{code}
 use Prim.Native.String.{String, [] as []ˢ, ◌∷◌ as ◌∷ˢ◌}
 
@@ -29,11 +29,6 @@ all p (b ∷ bs) = p b && all p bs
 abbrev pub either : ℕ → ℕ → ℕ → Bool
 either a b x = eqb x a || eqb x b
 
--- 1 for a test that is passed
-unfoldable pub one : Bool → ℕ
-one true = 1
-one false = 0
-
 -- the bytes before the first that passes the test
 unfoldable pub upto : (ℕ → Bool) → List ℕ → List ℕ
 upto p [] = []
@@ -43,14 +38,3 @@ upto p (b ∷ bs) = cond (p b) [] (b ∷ upto p bs)
 unfoldable pub ended : (ℕ → Bool) → List ℕ → List ℕ → List (List ℕ)
 ended p w [] = []
 ended p w (b ∷ bs) = elim (p b) [ true ↦ w ∷ ended p [] bs | false ↦ ended p (w ++ (b ∷ [])) bs ]
-
--- a part of n bytes from a position on that ends at r: it has 1 to 255 bytes
-pub record Part (from n r : ℕ) : Type 0 where
-  pub more : from < r
-  pub few : r ≤ from + 255
-  pub inside : r ≤ n
-
--- r pieces of s end between two positions
-pub record Counted (p : ℕ → Bool) (s : List ℕ) (from to r : ℕ) : Type 0 where
-  pub most : r ≤ to - from
-  pub pieces : length (ended p [] (drop from s)) ≡ r + length (ended p [] (drop to s))

@@ -1,63 +1,29 @@
 // The rules of a field: NAME, TEXT, and the decimals SPAN, NSPAN, COUNT and FLAG.
 ghost use Rattle.std.specs.Prelude.{◌≡◌};
-ghost use Rattle.text.specs.Text.{all};
-ghost use Rattle.text.specs.Field.{digit, is_name, is_plain, is_text, number_of, plain};
-
-#[derive(Clone, Copy)]
-pub enum Number {
-    Is(u32),
-    Bad,
-}
-
-fn is_digit(b: u8) -> bool
-    ensures { result ≡ digit b }
-{
-    (b'0' <= b) & (b <= b'9')
-}
+ghost use Rattle.text.specs.Field.{is_name, is_plain, is_text, number_of, plain};
 
 // Whether b may stand in a TEXT, or in a NAME where letters is true.
 fn is_plain_byte(letters: bool, b: u8) -> bool
     ensures { result ≡ plain letters b }
 {
-    ((b'0' <= b) & (b <= b'9'))
-        | (b == b'_')
-        | (letters & (((b'A' <= b) & (b <= b'Z')) | ((b'a' <= b) & (b <= b'z'))))
+    b.is_ascii_digit() | (b == b'_') | (letters & b.is_ascii_alphabetic())
 }
 
-fn all_plain(letters: bool, part: &[u8]) -> bool
-    ensures { result ≡ all (plain letters) part.now }
-{
-    let mut i = 0;
-    while i < part.len() {
-        if !is_plain_byte(letters, part[i]) {
-            return false;
-        }
-        i += 1;
-    }
-    true
-}
-
-#[tactic(auto, using(std::proofs::lemmas::Bool::Decides::nat_tests))]
+// Whether part is 1 to 64 such bytes.
 fn is_plain(letters: bool, part: &[u8]) -> bool
     ensures { result ≡ is_plain letters part.now }
 {
-    if part.len() < 1 {
+    if part.is_empty() | (64 < part.len()) {
         return false;
     }
-    if 64 < part.len() {
-        return false;
-    }
-    all_plain(letters, part)
+    part.iter().all(|&b| is_plain_byte(letters, b))
 }
 
 // Whether part is a NAME.
 pub fn is_name(part: &[u8]) -> bool
     ensures { result ≡ is_name part.now }
 {
-    if part.len() < 1 {
-        return false;
-    }
-    is_plain(true, part) & !is_digit(part[0])
+    is_plain(true, part) && !part[0].is_ascii_digit()
 }
 
 // Whether part is a TEXT.
@@ -68,28 +34,22 @@ pub fn is_text(part: &[u8]) -> bool
 }
 
 // The decimal number that part is, from 0 to most.
-pub fn number_of(part: &[u8], most: u32) -> Number
+pub fn number_of(part: &[u8], most: u32) -> Option<u32>
     ensures { result ≡ number_of most part.now }
 {
-    if part.len() < 1 {
-        return Number::Bad;
+    if let [] | [b'0', _, ..] = part {
+        return None;
     }
-    if (1 < part.len()) & (part[0] == b'0') {
-        return Number::Bad;
-    }
-    let top = most as u64;
+    let top = u64::from(most);
     let mut v: u64 = 0;
-    let mut i = 0;
-    while i < part.len() {
-        let b = part[i];
-        if !is_digit(b) {
-            return Number::Bad;
+    for &b in part {
+        if !b.is_ascii_digit() {
+            return None;
         }
-        v = v * 10 + ((b - b'0') as u64);
+        v = v * 10 + u64::from(b - b'0');
         if top < v {
-            return Number::Bad;
+            return None;
         }
-        i += 1;
     }
-    Number::Is(v as u32)
+    Some(v as u32)
 }

@@ -6,23 +6,15 @@ ghost use Rattle.text.specs.Word.{index_in, split};
 use crate::piece::find;
 
 // Whether part and word hold the same bytes.
+#[tactic(auto, using(crate::proofs::Words::equal_same))]
 pub fn is_word(part: &[u8], word: &[u8]) -> bool
     ensures { result ≡ same part.now word.now }
 {
-    if part.len() != word.len() {
-        return false;
-    }
-    let mut i = 0;
-    while i < part.len() {
-        if part[i] != word[i] {
-            return false;
-        }
-        i += 1;
-    }
-    true
+    part == word
 }
 
-// The place of part among the words of a table, each of which is ended by a space; the number of words where it is none.
+// The place of part among the words of a table, each of which is ended by a space; the number of words where it is none. A while: the
+// library's split also gives what stands behind the last space, which is no word.
 pub fn index_in(part: &[u8], table: &[u8]) -> usize
     ensures { result ≡ index_in part.now (split table.now) }
 {

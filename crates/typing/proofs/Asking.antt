@@ -9,6 +9,7 @@ use native.Mathlib.Omega.{arith}
 use borrow.Author.Rules.{rules}
 use lib.Dec.{leb}
 use lib.ListN.{length, get_or, set}
+use Rattle.std.specs.Prelude.{Result, Ok, Err}
 use Rattle.sheet.specs.Scratch.{kind_at, name_at}
 use Rattle.rules.specs.Ast.{Wrap, line}
 use Rattle.rules.specs.Asking.{Ty, code, ok, Rule}
@@ -24,15 +25,13 @@ use Rattle.lookups.proofs.Codes.{code_of_lem, code_is, from_code, code_from, unt
 use Rattle.env.specs.Answers.{typed_of}
 use Rattle.env.specs.Force.{env_of, ExprIn}
 use Rattle.env.specs.declared.env.Env.{Env}
-use Rattle.env.specs.declared.judge.Typed.{Typed}
-use Rattle.env.specs.declared.judge.Typed.TheVariants.{Is, Refused}
 use Rattle.typing.specs.Asks.{answer_mark, Asks, AsksAgain, AsksAt, AsksLeaf, Types, TypesLeaf}
 use Rattle.typing.proofs.Onward.{mark_code}
 use Rattle.grammar.specs.Kinds as kinds
 use Rattle.rules.specs.Codes as codes
 
 -- a typing leaves as many marks as there were
-pub types-length : (s : List ℕ) (p : Rule Ty) (T : Table) (a : Typed) (U : Table) → Types s p T a U → length U ≡ length T
+pub types-length : (s : List ℕ) (p : Rule Ty) (T : Table) (a : Result ℕ Refusal) (U : Table) → Types s p T a U → length U ≡ length T
 types-length s p T a U k = sym (ap (λ o. length o.table) k.gives) ∙ kept-length p T
 
 module _ (s S : List ℕ) (env : Env) (T : Table) (i : ℕ) (h : Asks s S env T i) where
@@ -47,7 +46,7 @@ module _ (s S : List ℕ) (env : Env) (T : Table) (i : ℕ) (h : Asks s S env T 
 
   module _ (known : ℕ) (b : Bool) (e : known ≡ get_or T i 0) (t : b ≡ (leb codes.int known && leb known codes.unknown)) where
     -- answered from the table
-    pub of_known : (q : Bool) → b ≡ true → q ≡ stale (env_of s [] env) (expr_at s i) → q ≡ false → Types s (ty_of (env_of s T env) (expr_at s i)) T (Is known) T
+    pub of_known : (q : Bool) → b ≡ true → q ≡ stale (env_of s [] env) (expr_at s i) → q ≡ false → Types s (ty_of (env_of s T env) (expr_at s i)) T (Ok known) T
     unfolding env_of typed_of stale
     of_known q y x z =
         let c = code_from known (sym t ∙ y) in
@@ -57,7 +56,7 @@ module _ (s S : List ℕ) (env : Env) (T : Table) (i : ℕ) (h : Asks s S env T 
     of_again q y x z = record { asks = h; marked = rw e at (code_from known (sym t ∙ y)); stale = sym x ∙ z }
 
     -- typed for the first time
-    pub of_fresh : (a : Typed) (U : Table) (v : ℕ) → b ≡ false → Types s (typing (env_of s T env) (expr_at s i)) T a U → v ≡ answer_mark a
+    pub of_fresh : (a : Result ℕ Refusal) (U : Table) (v : ℕ) → b ≡ false → Types s (typing (env_of s T env) (expr_at s i)) T a U → v ≡ answer_mark a
         → Types s (ty_of (env_of s T env) (expr_at s i)) T a (set U i v)
     of_fresh a U v y k m =
         record {
@@ -67,7 +66,7 @@ module _ (s S : List ℕ) (env : Env) (T : Table) (i : ℕ) (h : Asks s S env T 
           valid = k.valid;
         }
 
-  module _ (a : Typed) (U : Table) (k : Types s (typing (env_of s T env) (expr_at s i)) T a U) where
+  module _ (a : Result ℕ Refusal) (U : Table) (k : Types s (typing (env_of s T env) (expr_at s i)) T a U) where
     pub fresh_room : i < length U
     fresh_room = omega (arith, of_room, types-length s _ T a U k)
 
@@ -79,7 +78,7 @@ module _ (s S : List ℕ) (env : Env) (T : Table) (i : ℕ) (h : AsksAgain s S e
   pub again_asks : Asks s S env T i
   again_asks = h.asks
 
-  module _ (a : Typed) (U : Table) (k : Types s (typing (env_of s T env) (expr_at s i)) T a U) where
+  module _ (a : Result ℕ Refusal) (U : Table) (k : Types s (typing (env_of s T env) (expr_at s i)) T a U) where
     pub again_room : i < length U
     again_room = fresh_room s S env T i h.asks a U k
 
@@ -89,11 +88,11 @@ module _ (s S : List ℕ) (env : Env) (T : Table) (i : ℕ) (h : AsksAgain s S e
         again (env_of s T env) (expr_at s i) T (ty_from (get_or T i 0)) h.stale (rw at (code_of_lem (get_or T i 0) h.marked).0)
         ∙ rw (k.gives, at) refl
 
-    pub again_ok : (c : ℕ) → a ≡ Is c → Types s (ty_of (env_of s T env) (expr_at s i)) T (Is c) U
+    pub again_ok : (c : ℕ) → a ≡ Ok c → Types s (ty_of (env_of s T env) (expr_at s i)) T (Ok c) U
     unfolding retyped typed_of
     again_ok c e = record { gives = retype ∙ rw e refl; valid = rw e at k.valid }
 
-    pub again_no : (r : Refusal) → a ≡ Refused r → Types s (ty_of (env_of s T env) (expr_at s i)) T (Refused r) (set U i codes.refused)
+    pub again_no : (r : Refusal) → a ≡ Err r → Types s (ty_of (env_of s T env) (expr_at s i)) T (Err r) (set U i codes.refused)
     unfolding retyped typed_of
     again_no r e = record { gives = retype ∙ rw e refl; valid = tt }
 
@@ -106,7 +105,7 @@ module _ (s S : List ℕ) (env : Env) (T : Table) (i : ℕ) (h : Asks s S env T 
   pub kind_is : (m : ℕ) → k ≡ m → AsksAt m s S env T i
   kind_is m q = record { asks = h; kind = sym e ∙ q }
 
-  pub typed_dot : (x : List ℕ) (c : ℕ) → k ≡ kinds.dot → x ≡ name_at s S i → c ≡ code (ty_of_dot x) → Types s (typing (env_of s T env) (expr_at s i)) T (Is c) T
+  pub typed_dot : (x : List ℕ) (c : ℕ) → k ≡ kinds.dot → x ≡ name_at s S i → c ≡ code (ty_of_dot x) → Types s (typing (env_of s T env) (expr_at s i)) T (Ok c) T
   unfolding typing typed_of kept
   typed_dot x c q n f =
       let d = dot_at_lem h.ready.force.loaded h.here (sym e ∙ q) in
@@ -120,11 +119,11 @@ module _ (s S : List ℕ) (env : Env) (T : Table) (i : ℕ) (h : Asks s S env T 
     pub wrap_child : Asks s S env T (i + 1)
     wrap_child = record { ready = h.ready; here = rw (add-one i) (row_first wraps.1.1) }
 
-    pub typed_wrap : (r : Typed) (U : Table) → Types s (ty_of (env_of s T env) (expr_at s (i + 1))) T r U → Types s (typing (env_of s T env) (expr_at s i)) T r U
+    pub typed_wrap : (r : Result ℕ Refusal) (U : Table) → Types s (ty_of (env_of s T env) (expr_at s (i + 1))) T r U → Types s (typing (env_of s T env) (expr_at s i)) T r U
     unfolding typing ty_of ask_of asked
     typed_wrap r U t = record { gives = rw (wraps.1.0, ← add-one i) t.gives; valid = t.valid }
 
-pub typed_leaf : (s : List ℕ) (p : Rule Ty) (T : Table) (c : ℕ) → TypesLeaf s p T c → Types s p T (Is c) T
+pub typed_leaf : (s : List ℕ) (p : Rule Ty) (T : Table) (c : ℕ) → TypesLeaf s p T c → Types s p T (Ok c) T
 typed_leaf s p T c l = l.types
 
 pub ruleset laws_of = (rules, types-length, of_expr, of_room, of_known, of_again, of_fresh, fresh_room)

@@ -7,6 +7,7 @@ use native.Mathlib.Numerals.{add-one}
 use native.Mathlib.Omega.{arith}
 use borrow.Author.Rules.{rules}
 use lib.ListN.{length}
+use Rattle.std.specs.Prelude.{Option, Result, Ok, Err}
 use Rattle.grammar.specs.Grammar as grammar
 use Rattle.sheet.specs.Scratch.{end_at, line_count, call_arg_count}
 use Rattle.sheet.specs.Say.{span_at}
@@ -22,10 +23,7 @@ use Rattle.rules.proofs.Rows.{row_some, exprs_some}
 use Rattle.rules.proofs.Standing.{row_first, row_rest}
 use Rattle.lookups.specs.Found.{found_field}
 use Rattle.refusals.specs.Refusal.{refusal_of, done_of}
-use Rattle.lookups.specs.declared.model.Found.{Found}
 use Rattle.refusals.specs.declared.refusal.Refusal.{Refusal}
-use Rattle.refusals.specs.declared.refusal.Done.{Done}
-use Rattle.refusals.specs.declared.refusal.Done.TheVariants.{Fine, Refused}
 use Rattle.lookups.proofs.Codes.{code_is, from_code}
 use Rattle.refusals.specs.Answers.{Answers}
 use Rattle.env.specs.Answers.{typed_of}
@@ -33,24 +31,22 @@ use Rattle.env.specs.Calls.{keyed_of, KeyedOf, Callee, op_rule, call_ty}
 use Rattle.env.proofs.Methods.{uses_op, uses-type}
 use Rattle.env.specs.Force.{env_of, ExprIn}
 use Rattle.env.specs.declared.env.Env.{Env}
-use Rattle.env.specs.declared.judge.Typed.{Typed}
-use Rattle.env.specs.declared.judge.Typed.TheVariants.{Is, Refused as No}
 use Rattle.typing.specs.Asks.{callee_at, args_at, type_keyed, type_args, Asks, AsksAt, AsksAll, AsksCall, Types, Does}
 use Rattle.typing.proofs.Asking.{types-length}
 use Rattle.typing.proofs.Onward.{Onward, onward, no_value_next, off_type, off_each}
 use Rattle.typing.proofs.Operators.{gave}
 use Rattle.grammar.specs.Kinds as kinds
 
-pub does_length : (s : List ℕ) (p : Rule Unit) (T : Table) (d : Done) (U : Table) → Does s p T d U → length U ≡ length T
+pub does_length : (s : List ℕ) (p : Rule Unit) (T : Table) (d : Result Unit Refusal) (U : Table) → Does s p T d U → length U ≡ length T
 does_length s p T d U k = sym (ap (λ o. length o.table) k.gives) ∙ kept-length p T
 
 -- What a rule that gives no value did.
-module _ (s : List ℕ) (p : Rule Unit) (T : Table) (d : Done) (U : Table) (k : kept p T ≡ record { res = done_of s d; table = U }) where
-  pub did : d ≡ Fine → kept p T ≡ record { res = ok tt; table = U }
+module _ (s : List ℕ) (p : Rule Unit) (T : Table) (d : Result Unit Refusal) (U : Table) (k : kept p T ≡ record { res = done_of s d; table = U }) where
+  pub did : d ≡ Ok tt → kept p T ≡ record { res = ok tt; table = U }
   unfolding done_of
   did e = k ∙ rw e refl
 
-  pub stopped : (r : Refusal) → d ≡ Refused r → kept p T ≡ record { res = refused (refusal_of s r); table = U }
+  pub stopped : (r : Refusal) → d ≡ Err r → kept p T ≡ record { res = refused (refusal_of s r); table = U }
   unfolding done_of
   stopped r e = k ∙ rw e refl
 
@@ -69,29 +65,29 @@ module _ (s S : List ℕ) (env : Env) (T : Table) (i : ℕ) (h : AsksAt kinds.ca
   pub call_callee : ExprIn s S env (i + 1)
   call_callee = record { force = h.asks.ready.force; here = rw (add-one i) (row_first (parts s S env T i h).1) }
 
-  module _ (keyed : Found) (q : KeyedOf s S env (i + 1) keyed) where
+  module _ (keyed : Option ℕ) (q : KeyedOf s S env (i + 1) keyed) where
     pub call_op : Callee s S (i + 1) keyed
     call_op = record { expr = record { loaded = h.asks.ready.force.loaded; here = call_callee.here }; kind = q.kind }
 
     pub call-args : AsksCall s S env T i keyed
     call-args = record { call = h; uses = rw (add-one i) at q }
 
-    module _ (d : Done) (a : Answers (expect_asset_receiver (env_of s [] env) (expr_at s (i + 1))) (done_of s d)) where
+    module _ (d : Result Unit Refusal) (a : Answers (expect_asset_receiver (env_of s [] env) (expr_at s (i + 1))) (done_of s d)) where
       receiver : kept (expect_asset_receiver (env_of s T env) (expr_at s (i + 1))) T ≡ record { res = done_of s d; table = T }
       unfolding expect_asset_receiver is_pool state_field_of env_of
       receiver = a.answers T
 
-      pub call_no_receiver : (r : Refusal) → d ≡ Refused r → Types s (typing (env_of s T env) (expr_at s i)) T (No r) T
+      pub call_no_receiver : (r : Refusal) → d ≡ Err r → Types s (typing (env_of s T env) (expr_at s i)) T (Err r) T
       unfolding typing type_call typed_of ◌>>◌
       call_no_receiver r e =
           record { gives = rw ((parts s S env T i h).0, ← add-one i) (then_refused _ _ T T (refusal_of s r) (stopped s _ T d T receiver r e)); valid = tt }
 
-      module _ (e : d ≡ Fine) (o : Done) (j : Answers (op_rule (found_field s keyed) (expr_at s (i + 1))) (done_of s o)) where
+      module _ (e : d ≡ Ok tt) (o : Result Unit Refusal) (j : Answers (op_rule (found_field s keyed) (expr_at s (i + 1))) (done_of s o)) where
         operation : kept (expect_keyed_op (env_of s T env) (expr_at s (i + 1))) T ≡ record { res = done_of s o; table = T }
         unfolding keyed_of keyed_field state_field_of env_of
         operation = rw (← uses_op (env_of s T env) (expr_at s (i + 1)) (found_field s keyed) q.found) (j.answers T)
 
-        pub call_no_op : (r : Refusal) → o ≡ Refused r → Types s (typing (env_of s T env) (expr_at s i)) T (No r) T
+        pub call_no_op : (r : Refusal) → o ≡ Err r → Types s (typing (env_of s T env) (expr_at s i)) T (Err r) T
         unfolding typing type_call typed_of ◌>>◌
         call_no_op r f =
             record {
@@ -101,7 +97,7 @@ module _ (s S : List ℕ) (env : Env) (T : Table) (i : ℕ) (h : AsksAt kinds.ca
               valid = tt;
             }
 
-        pub call_ok : (r : Typed) (U : Table) → o ≡ Fine → Types s (type_args (env_of s T env) (callee_at s i) (args_at s S i)) T r U
+        pub call_ok : (r : Result ℕ Refusal) (U : Table) → o ≡ Ok tt → Types s (type_args (env_of s T env) (callee_at s i) (args_at s S i)) T r U
             → Types s (typing (env_of s T env) (expr_at s i)) T r U
         unfolding typing type_call type_args type_keyed callee_at args_at ◌>>◌
         call_ok r U f k =
@@ -115,11 +111,11 @@ module _ (s S : List ℕ) (env : Env) (T : Table) (i : ℕ) (h : AsksAt kinds.ca
 -- ------------------------------------------------------------ type_args and type_keyed
 
 -- a call's rule goes on from another table
-on_call : (s S : List ℕ) (env : Env) (T U : Table) (i : ℕ) (keyed : Found) → AsksCall s S env T i keyed → Onward s S env T U → AsksCall s S env U i keyed
+on_call : (s S : List ℕ) (env : Env) (T U : Table) (i : ℕ) (keyed : Option ℕ) → AsksCall s S env T i keyed → Onward s S env T U → AsksCall s S env U i keyed
 on_call s S env T U i keyed h o =
     record { call = record { asks = record { ready = o.ready; here = h.call.asks.here }; kind = h.call.kind }; uses = h.uses }
 
-module _ (s S : List ℕ) (env : Env) (T : Table) (i : ℕ) (keyed : Found) (h : AsksCall s S env T i keyed) where
+module _ (s S : List ℕ) (env : Env) (T : Table) (i : ℕ) (keyed : Option ℕ) (h : AsksCall s S env T i keyed) where
   p : Row S grammar.Expr (suc (call_arg_count S i)) (suc i)
   p = (parts s S env T i h.call).1
 
@@ -143,30 +139,30 @@ module _ (s S : List ℕ) (env : Env) (T : Table) (i : ℕ) (keyed : Found) (h :
             no_value = rw (e ∙ ap (end_at S) (add-one i)) (no_value_next h.call.asks.ready.force.loaded (row_first p));
           }
 
-      module _ (d : Done) (U : Table) (k : Does s (ask_each (typings (env_of s T env) (exprs_at s m at))) T d U) where
+      module _ (d : Result Unit Refusal) (U : Table) (k : Does s (ask_each (typings (env_of s T env) (exprs_at s m at))) T d U) where
         asks : kept (ask_each (typings (env_of s T env) (args_at s S i))) T ≡ record { res = done_of s d; table = U }
         unfolding args_at
         asks = rw (← c, ← add-one i, ← e) k.gives
 
-        pub args_no : (r : Refusal) → d ≡ Refused r → Types s (type_args (env_of s T env) (callee_at s i) (args_at s S i)) T (No r) U
+        pub args_no : (r : Refusal) → d ≡ Err r → Types s (type_args (env_of s T env) (callee_at s i) (args_at s S i)) T (Err r) U
         unfolding type_args typed_of
         args_no r f = record { gives = then_refused _ _ T U (refusal_of s r) (stopped s _ T d U asks r f); valid = tt }
 
-        module _ (f : d ≡ Fine) where
+        module _ (f : d ≡ Ok tt) where
           on : Onward s S env T U
           on = onward s S env T U _ tt h.call.asks.ready (off_each h.call.asks.ready.force.loaded (env_of s T env) args_all.row args_all.no_value) (did s _ T d U k.gives f)
 
           pub args_keyed : AsksCall s S env U i keyed
           args_keyed = on_call s S env T U i keyed h on
 
-          pub args_ok : (r : Typed) (W : Table) → Types s (type_keyed (env_of s U env) (callee_at s i) (args_at s S i)) U r W
+          pub args_ok : (r : Result ℕ Refusal) (W : Table) → Types s (type_keyed (env_of s U env) (callee_at s i) (args_at s S i)) U r W
               → Types s (type_args (env_of s T env) (callee_at s i) (args_at s S i)) T r W
           unfolding type_args
           args_ok r W k' =
               record { gives = then_ok _ _ T U tt _ (did s _ T d U asks f) (rw (← on.same) k'.gives); valid = k'.valid }
 
-  module _ (d : Done) (U : Table) (k : Does s (check_keyed_call (env_of s T env) (callee_at s i) (typings (env_of s T env) (args_at s S i))) T d U) where
-    pub keyed_no : (r : Refusal) → d ≡ Refused r → Types s (type_keyed (env_of s T env) (callee_at s i) (args_at s S i)) T (No r) U
+  module _ (d : Result Unit Refusal) (U : Table) (k : Does s (check_keyed_call (env_of s T env) (callee_at s i) (typings (env_of s T env) (args_at s S i))) T d U) where
+    pub keyed_no : (r : Refusal) → d ≡ Err r → Types s (type_keyed (env_of s T env) (callee_at s i) (args_at s S i)) T (Err r) U
     unfolding type_keyed typed_of
     keyed_no r f = record { gives = then_refused _ _ T U (refusal_of s r) (stopped s _ T d U k.gives r f); valid = tt }
 
@@ -176,7 +172,7 @@ module _ (s S : List ℕ) (env : Env) (T : Table) (i : ℕ) (keyed : Found) (h :
         let g : found_field s keyed ≡ keyed_of (env_of s T env) (expr_at s (i + 1)) = rw (add-one i) h.uses.found in
         rw (← add-one i, ← uses-type (env_of s T env) _ _ g) t
 
-    pub keyed_ok : (c : ℕ) → d ≡ Fine → c ≡ code (call_ty (found_field s keyed) (expr_at s (i + 1))) → Types s (type_keyed (env_of s T env) (callee_at s i) (args_at s S i)) T (Is c) U
+    pub keyed_ok : (c : ℕ) → d ≡ Ok tt → c ≡ code (call_ty (found_field s keyed) (expr_at s (i + 1))) → Types s (type_keyed (env_of s T env) (callee_at s i) (args_at s S i)) T (Ok c) U
     unfolding type_keyed typed_of
     keyed_ok c f t =
         let e = call-code c t in
@@ -190,7 +186,7 @@ module _ (s S : List ℕ) (env : Env) (T : Table) (i : ℕ) (keyed : Found) (h :
 -- ------------------------------------------------------------ ask_each
 
 module _ (s S : List ℕ) (env : Env) (T : Table) (left at : ℕ) (h : AsksAll s S env T left at) where
-  pub each_none : left ≡ 0 → Does s (ask_each (typings (env_of s T env) (exprs_at s left at))) T Fine T
+  pub each_none : left ≡ 0 → Does s (ask_each (typings (env_of s T env) (exprs_at s left at))) T (Ok tt) T
   unfolding exprs_at take_nodes exprs_of typings ask_each done_of kept
   each_none e = record { gives = rw e refl }
 
@@ -204,12 +200,12 @@ module _ (s S : List ℕ) (env : Env) (T : Table) (left at : ℕ) (h : AsksAll s
     pub each_first : Asks s S env T at
     each_first = record { ready = h.ready; here = row_first row }
 
-    module _ (a : Typed) (U : Table) (k : Types s (ty_of (env_of s T env) (expr_at s at)) T a U) where
-      pub each_no : (r : Refusal) → a ≡ No r → Does s (ask_each (typings (env_of s T env) (exprs_at s left at))) T (Refused r) U
+    module _ (a : Result ℕ Refusal) (U : Table) (k : Types s (ty_of (env_of s T env) (expr_at s at)) T a U) where
+      pub each_no : (r : Refusal) → a ≡ Err r → Does s (ask_each (typings (env_of s T env) (exprs_at s left at))) T (Err r) U
       unfolding typings ask_each asked ask_of ty_of typed_of done_of
       each_no r e = record { gives = rw list (then_refused (ty_of (env_of s T env) (expr_at s at)) _ T U (refusal_of s r) (k.gives ∙ rw e refl)) }
 
-      module _ (c : ℕ) (e : a ≡ Is c) (m : ℕ) (q : m ≡ end_at S at) where
+      module _ (c : ℕ) (e : a ≡ Ok c) (m : ℕ) (q : m ≡ end_at S at) where
         on_first : Onward s S env T U
         on_first = onward s S env T U _ _ h.ready (off_type h.ready.force.loaded (env_of s T env) (row_first row) h.no_value) (gave s _ T a U k c e)
 
@@ -219,7 +215,7 @@ module _ (s S : List ℕ) (env : Env) (T : Table) (left at : ℕ) (h : AsksAll s
         pub each_falls : (τ : ℕ) → 10 * (line_count S - at) + 8 ≡ τ → 10 * (line_count S - m) + 8 < τ
         each_falls τ f = omega (arith, q, (row_first row).after, (row_first row).within, f)
 
-        pub each_ok : (d : Done) (W : Table) → Does s (ask_each (typings (env_of s U env) (exprs_at s (left - 1) m))) U d W
+        pub each_ok : (d : Result Unit Refusal) (W : Table) → Does s (ask_each (typings (env_of s U env) (exprs_at s (left - 1) m))) U d W
             → Does s (ask_each (typings (env_of s T env) (exprs_at s left at))) T d W
         unfolding typings ask_each asked ask_of ty_of
         each_ok d W g =

@@ -5,6 +5,7 @@ use mathlib.Core.Bool.{false}
 use Prim.Native.Nat.{ℕ, ◌*◌}
 use native.Mathlib.Omega.{arith}
 use lib.ListN.{take}
+use Rattle.std.specs.Prelude.{Result}
 use Rattle.text.specs.Text.{bytes}
 use Rattle.grammar.specs.Grammar as grammar
 use Rattle.sheet.specs.Load.{copies, load}
@@ -15,15 +16,16 @@ use Rattle.rules.specs.Computed.{computed}
 use Rattle.rules.specs.Asking.{Int, ok}
 use Rattle.rules.specs.Kept.{Table, kept, ty_from}
 use Rattle.rules.specs.Typing.{ty_of}
-use Rattle.rules.specs.Standing.{read_lines, lines_in, model_in, drop_lines, trees_from, node_at, nodes_at, expr_at, Loaded, Here, stop, next}
+use Rattle.rules.specs.Standing.{model_in, drop_lines, trees_from, node_at, nodes_at, expr_at, Loaded, Here, stop, next}
+use Rattle.sheet.specs.Loaded.{read_lines, lines_in}
 use Rattle.rules.proofs.Standing.{by_load}
 use Rattle.lookups.specs.Found.{node_kind, of_kind}
 use Rattle.env.specs.Answers.{typed_of}
 use Rattle.env.specs.Force.{local_of, named_end, lets, ends_in, params_in, env_of}
 use Rattle.env.specs.declared.env.Env.{Env}
-use Rattle.env.specs.declared.judge.Typed.{Typed}
 use Rattle.typing.specs.Asks.{Asks, Types}
 use Rattle.rules.specs.Codes as codes
+use Rattle.refusals.specs.declared.refusal.Refusal.{Refusal}
 
 -- `guard x` stands before `let x = 1`, and both statements are bound. Line 3, the `id`, holds Unknown, and the `let`'s value Int.
 abbrev guarded : List ℕ
@@ -56,5 +58,5 @@ unfolding computed env_of local_of named_end lets ends_in params_in of_kind node
 again_int = refl
 
 -- .. and answers Int: it is typed again, and the line keeps Unknown
-pub guarded_again : (r : Typed) (U : Table) → Types guarded (ty_of (env_of guarded guarded_table both_bound) (expr_at guarded 3)) guarded_table r U → (typed_of guarded r ≡ ok Int) × (U ≡ guarded_table)
+pub guarded_again : (r : Result ℕ Refusal) (U : Table) → Types guarded (ty_of (env_of guarded guarded_table both_bound) (expr_at guarded 3)) guarded_table r U → (typed_of guarded r ≡ ok Int) × (U ≡ guarded_table)
 guarded_again r U k = let e = sym k.gives ∙ again_int in (ap (λ o. o.res) e, ap (λ o. o.table) e)

@@ -3,7 +3,7 @@ use mathlib.Core.Logic.{◌≢◌}
 use mathlib.Core.Path.{◌≡◌, refl, sym, ap, ◌∙◌}
 use mathlib.Core.List.{List, [], ◌∷◌}
 use mathlib.Core.Bool.{Bool, true, false, cond, not, ◌||◌}
-use mathlib.Core.Option.{Option, none, some}
+use mathlib.Core.Option.{Option as Maybe, none, some}
 use Prim.Native.Nat.{ℕ, zero, suc, ◌+◌, ◌*◌, ◌-◌, ◌<◌, ◌≤◌}
 use native.Mathlib.Numerals.{add-one}
 use native.Mathlib.Omega.{arith}
@@ -13,6 +13,7 @@ use mir.Val.{Fits}
 use borrow.Author.Tests.{eq-eqb, ne_eqb, eqb-true, eqb-false, leb-true, leb-false, not-true, not-false}
 use lib.Dec.{eqb, leb}
 use lib.ListN.{take, drop}
+use Rattle.std.specs.Prelude.{Option, Some, None, Result, Ok, Err}
 use Rattle.grammar.specs.Grammar as grammar
 use Rattle.sheet.specs.Scratch.{kind_at, end_at, name_at, line_count, call_arg_count}
 use Rattle.sheet.specs.Say.{nspan_at}
@@ -31,11 +32,7 @@ use Rattle.rules.proofs.Standing.{exprs_next, row_first, row_rest}
 use Rattle.lookups.specs.Found.{found_field}
 use Rattle.lookups.specs.Lines.{TypeAt}
 use Rattle.refusals.specs.Refusal.{dot_at, refusal_of, done_of}
-use Rattle.lookups.specs.declared.model.Found.{Found}
-use Rattle.lookups.specs.declared.model.Found.TheVariants.{At, Nothing}
 use Rattle.refusals.specs.declared.refusal.Refusal.{Refusal}
-use Rattle.refusals.specs.declared.refusal.Done.{Done}
-use Rattle.refusals.specs.declared.refusal.Done.TheVariants.{Fine, Refused}
 use Rattle.text.proofs.Tests.{or_parts}
 use Rattle.lookups.proofs.Codes.{from_code}
 use Rattle.env.proofs.Lookups.{TypeBehind, behind as type_behind}
@@ -43,8 +40,6 @@ use Rattle.env.specs.Answers.{typed_of, JudgesAmount, JudgesKey}
 use Rattle.env.specs.Calls.{wants_of, keyed_of}
 use Rattle.env.specs.Force.{env_of, ExprIn}
 use Rattle.env.specs.declared.env.Env.{Env}
-use Rattle.env.specs.declared.judge.Typed.{Typed}
-use Rattle.env.specs.declared.judge.Typed.TheVariants.{Is, Refused as No}
 use Rattle.typing.specs.Asks.{callee_at, args_at, method_at, amount_rule, wanted, keys_rule, Asks, AsksCall, AsksMethod, AsksKeys, Types, Does}
 use Rattle.typing.proofs.Asking.{types-length}
 use Rattle.typing.proofs.Onward.{Onward, onward, no_value_next, off_type, off_amount}
@@ -76,19 +71,19 @@ wants_few x = by_cases (is x "set") (is_one x ("insert" ∷ "remove" ∷ "contai
     by_cases false false = omega arith
 
 -- the rule, by what the callee uses
-keyed_none : (Γ : Environment) (callee : Expr) (args : List Asked) (T : Table) (o : Option Dot) → dot_of callee ≡ o → keyed_of Γ callee ≡ none
+keyed_none : (Γ : Environment) (callee : Expr) (args : List Asked) (T : Table) (o : Maybe Dot) → dot_of callee ≡ o → keyed_of Γ callee ≡ none
     → kept (check_keyed_call Γ callee args) T ≡ record { res = ok tt; table = T }
 unfolding check_keyed_call if_some kept keyed_of
 keyed_none Γ callee args T none e q = rw e refl
 keyed_none Γ callee args T (some d) e q = rw (e, rw (keyed_of, e) at q) refl
 
-keyed_dot : (Γ : Environment) (callee : Expr) (f : Field) (o : Option Dot) → dot_of callee ≡ o → keyed_of Γ callee ≡ some f
+keyed_dot : (Γ : Environment) (callee : Expr) (f : Field) (o : Maybe Dot) → dot_of callee ≡ o → keyed_of Γ callee ≡ some f
     → (d : Dot) × (o ≡ some d) × (keyed_field Γ d.base ≡ some f)
 unfolding keyed_of
 keyed_dot Γ callee f none e q = absurd (let y : none ≡ some f = rw (keyed_of, e) at q in let z : ◌≡◌ {A = ℕ} 0 1 = cc in omega arith)
 keyed_dot Γ callee f (some d) e q = (d, refl, rw (keyed_of, e) at q)
 
-module _ (s S : List ℕ) (env : Env) (T : Table) (i : ℕ) (keyed : Found) (h : AsksCall s S env T i keyed) where
+module _ (s S : List ℕ) (env : Env) (T : Table) (i : ℕ) (keyed : Option ℕ) (h : AsksCall s S env T i keyed) where
   row : Row S grammar.Expr (suc (call_arg_count S i)) (suc i)
   row = (parts s S env T i h.call).1
 
@@ -99,11 +94,11 @@ module _ (s S : List ℕ) (env : Env) (T : Table) (i : ℕ) (keyed : Found) (h :
   unfolding keyed_of keyed_field state_field_of env_of
   uses = h.uses.found
 
-  pub no_keyed : keyed ≡ Nothing → Does s (check_keyed_call (env_of s T env) (callee_at s i) (typings (env_of s T env) (args_at s S i))) T Fine T
+  pub no_keyed : keyed ≡ None → Does s (check_keyed_call (env_of s T env) (callee_at s i) (typings (env_of s T env) (args_at s S i))) T (Ok tt) T
   unfolding callee_at found_field done_of
   no_keyed e = record { gives = keyed_none _ _ _ T (dot_of (expr_at s (suc i))) refl (sym uses ∙ rw e refl) }
 
-  module _ (field : ℕ) (e : keyed ≡ At field) where
+  module _ (field : ℕ) (e : keyed ≡ Some field) where
     -- the callee is a dot on the Map or Registry
     abbrev base : Expr
     base = expr_at s (suc (suc i))
@@ -137,12 +132,12 @@ module _ (s S : List ℕ) (env : Env) (T : Table) (i : ℕ) (keyed : Found) (h :
     opened =
         rw (is_dot_at h.call.asks.ready.force.loaded (row_first row), told.0, told.1, wants_are (name_at s S (suc i)) (field_at s field).ty) refl
 
-    module _ (d : Done) (U : Table) (k : Does s (amount_rule (env_of s T env) (method_at s S i) (args_at s S i)) T d U) where
-      pub amount_ends : (r : Refusal) → d ≡ Refused r → Does s (check_keyed_call (env_of s T env) (callee_at s i) (typings (env_of s T env) (args_at s S i))) T (Refused r) U
+    module _ (d : Result Unit Refusal) (U : Table) (k : Does s (amount_rule (env_of s T env) (method_at s S i) (args_at s S i)) T d U) where
+      pub amount_ends : (r : Refusal) → d ≡ Err r → Does s (check_keyed_call (env_of s T env) (callee_at s i) (typings (env_of s T env) (args_at s S i))) T (Err r) U
       unfolding done_of
       amount_ends r f = record { gives = opened ∙ then_refused _ _ T U (refusal_of s r) (stopped s _ T d U k.gives r f) }
 
-      module _ (f : d ≡ Fine) (x : Name) (w at m : ℕ) (ex : x ≡ name_at s S (i + 1)) (ew : w ≡ wants_of x) (ea : at ≡ end_at S (i + 1)) (em : m ≡ call_arg_count S i) where
+      module _ (f : d ≡ Ok tt) (x : Name) (w at m : ℕ) (ex : x ≡ name_at s S (i + 1)) (ew : w ≡ wants_of x) (ea : at ≡ end_at S (i + 1)) (em : m ≡ call_arg_count S i) where
         on : Onward s S env T U
         unfolding args_at
         on = onward s S env T U _ tt h.call.asks.ready (off_amount ld (env_of s T env) (method_at s S i) (row_rest row) (no_value_next ld (row_first row))) (did s _ T d U k.gives f)
@@ -168,7 +163,7 @@ module _ (s S : List ℕ) (env : Env) (T : Table) (i : ℕ) (keyed : Found) (h :
         pub keys_below : (τ : ℕ) → 10 * (line_count S - i) + 1 ≡ τ → 10 * (line_count S - at) + 8 < τ
         keys_below τ q = omega (arith, behind, (row_first row).after, h.call.asks.here.within, q)
 
-        pub keys_done : (r : Done) (W : Table) → Does s (keys_rule (env_of s U env) (field_at s field) 0 w (exprs_at s m at)) U r W
+        pub keys_done : (r : Result Unit Refusal) (W : Table) → Does s (keys_rule (env_of s U env) (field_at s field) 0 w (exprs_at s m at)) U r W
             → Does s (check_keyed_call (env_of s T env) (callee_at s i) (typings (env_of s T env) (args_at s S i))) T r W
         unfolding args_at method_at
         keys_done r W g =
@@ -194,7 +189,7 @@ module _ (s S : List ℕ) (env : Env) (T : Table) (i : ℕ) (h : AsksMethod s S 
     few_args (suc zero) l r false = refl
     few_args (suc (suc k)) l r b = absurd (omega arith)
 
-    pub no_amount : m < 2 → Does s (amount_rule (env_of s T env) (method_at s S i) (args_at s S i)) T Fine T
+    pub no_amount : m < 2 → Does s (amount_rule (env_of s T env) (method_at s S i) (args_at s S i)) T (Ok tt) T
     unfolding amount_rule method_at args_at done_of
     no_amount l = record { gives = few_args (call_arg_count S i) (omega arith) (row_rest all) (is_one (name_at s S (suc i)) ("credit" ∷ "debit" ∷ [])) }
 
@@ -202,7 +197,7 @@ module _ (s S : List ℕ) (env : Env) (T : Table) (i : ℕ) (h : AsksMethod s S 
       method : is_one (name_at s S (suc i)) ("credit" ∷ "debit" ∷ []) ≡ b
       method = sym (eb ∙ ap (λ y. is_one y ("credit" ∷ "debit" ∷ [])) (ex ∙ ap (name_at s S) (add-one i)))
 
-      pub no_move : not b ≡ true → Does s (amount_rule (env_of s T env) (method_at s S i) (args_at s S i)) T Fine T
+      pub no_move : not b ≡ true → Does s (amount_rule (env_of s T env) (method_at s S i) (args_at s S i)) T (Ok tt) T
       unfolding amount_rule method_at provided done_of kept
       no_move n = record { gives = rw (method, not-true b n) refl }
 
@@ -226,8 +221,8 @@ module _ (s S : List ℕ) (env : Env) (T : Table) (i : ℕ) (h : AsksMethod s S 
         pub amount_falls : (τ : ℕ) → 10 * (line_count S - i) + 0 ≡ τ → 10 * (line_count S - arg) + 7 < τ
         amount_falls τ q = omega (arith, arg_is, (row_first all).after, (row_first rest').after, h.call.asks.here.within, q)
 
-        module _ (a : Typed) (U : Table) (k : Types s (ty_of (env_of s T env) (expr_at s arg)) T a U) where
-          pub amount_no : (r : Refusal) → a ≡ No r → Does s (amount_rule (env_of s T env) (method_at s S i) (args_at s S i)) T (Refused r) U
+        module _ (a : Result ℕ Refusal) (U : Table) (k : Types s (ty_of (env_of s T env) (expr_at s arg)) T a U) where
+          pub amount_no : (r : Refusal) → a ≡ Err r → Does s (amount_rule (env_of s T env) (method_at s S i) (args_at s S i)) T (Err r) U
           unfolding amount_rule method_at provided typings check_amount asked ask_of ty_of done_of typed_of
           amount_no r e =
               record { gives = rw (method, not-false b n, two) (then_refused (ty_of (env_of s T env) (expr_at s arg)) _ T U (refusal_of s r) (k.gives ∙ rw e refl)) }
@@ -236,7 +231,7 @@ module _ (s S : List ℕ) (env : Env) (T : Table) (i : ℕ) (h : AsksMethod s S 
           unfolding dot_at
           dot-name = rw (add-one i, dot_at, is_dot_at d (row_first all), eq-eqb _ _ h.dot) refl
 
-          pub amount_ok : (c : ℕ) (r : Done) → a ≡ Is c → JudgesAmount (i + 1) arg c r → Does s (amount_rule (env_of s T env) (method_at s S i) (args_at s S i)) T r U
+          pub amount_ok : (c : ℕ) (r : Result Unit Refusal) → a ≡ Ok c → JudgesAmount (i + 1) arg c r → Does s (amount_rule (env_of s T env) (method_at s S i) (args_at s S i)) T r U
           unfolding amount_rule method_at provided typings check_amount asked ask_of ty_of
           amount_ok c r e j =
               record {
@@ -287,7 +282,7 @@ module _ (s S : List ℕ) (env : Env) (T : Table) (field index wants left at : �
   no_more true q e = rw (wanted_none (field_at s field).ty index wants (leb-true wants index q) h.few) (none_wanted Γ (field_at s field).name (eqb index 0) (typings Γ (exprs_at s left at)) T)
   no_more false q e = rw (eqb-true left 0 e) refl
 
-  pub keys_stop : (leb wants index || eqb left 0) ≡ true → Does s (keys_rule Γ (field_at s field) index wants (exprs_at s left at)) T Fine T
+  pub keys_stop : (leb wants index || eqb left 0) ≡ true → Does s (keys_rule Γ (field_at s field) index wants (exprs_at s left at)) T (Ok tt) T
   unfolding done_of
   keys_stop e = record { gives = no_more (leb wants index) refl e }
 
@@ -317,13 +312,13 @@ module _ (s S : List ℕ) (env : Env) (T : Table) (field index wants left at : �
     keys_arg = record { force = h.ready.force; here = row_first row_on }
 
     type_at_lem : TypeBehind s S field
-    type_at_lem = type_behind kinds.field s S h.ready.force.loaded (At field) field refl (h.within, h.kind) (omega arith) (omega arith)
+    type_at_lem = type_behind kinds.field s S h.ready.force.loaded (Some field) field refl (h.within, h.kind) (omega arith) (omega arith)
 
     pub keys_type : TypeAt s S (field + 1)
     keys_type = rw (add-one field) type_at_lem.typed
 
-    module _ (a : Typed) (U : Table) (k : Types s (ty_of Γ (expr_at s at)) T a U) where
-      pub keys_no : (r : Refusal) → a ≡ No r → Does s (keys_rule Γ (field_at s field) index wants (exprs_at s left at)) T (Refused r) U
+    module _ (a : Result ℕ Refusal) (U : Table) (k : Types s (ty_of Γ (expr_at s at)) T a U) where
+      pub keys_no : (r : Refusal) → a ≡ Err r → Does s (keys_rule Γ (field_at s field) index wants (exprs_at s left at)) T (Err r) U
       unfolding keys_rule typings check_keys asked ask_of ty_of typed_of done_of
       keys_no r e =
           record {
@@ -332,7 +327,7 @@ module _ (s S : List ℕ) (env : Env) (T : Table) (field index wants left at : �
                 (then_refused (ty_of Γ (expr_at s at)) _ T U (refusal_of s r) (k.gives ∙ rw e refl));
           }
 
-      module _ (c want : ℕ) (d : Done) (e : a ≡ Is c) (w : want ≡ code (declared_arg (type_at s (field + 1)) index)) (j : JudgesKey s env field (eqb index 0) at want c d) where
+      module _ (c want : ℕ) (d : Result Unit Refusal) (e : a ≡ Ok c) (w : want ≡ code (declared_arg (type_at s (field + 1)) index)) (j : JudgesKey s env field (eqb index 0) at want c d) where
         abbrev judge : Rule Unit
         judge = judge_key Γ (field_at s field).name (eqb index 0) (expr_at s at) (declared_arg (field_at s field).ty index) (ty_from c)
 
@@ -350,11 +345,11 @@ module _ (s S : List ℕ) (env : Env) (T : Table) (field index wants left at : �
             rw (list, wanted_next (field_at s field).ty index wants more_to_go.0 h.few)
             (then_ok (ty_of Γ (expr_at s at)) _ T U (ty_from c) o (gave s _ T a U k c e) q)
 
-        pub keys_wrong : (r : Refusal) → d ≡ Refused r → Does s (keys_rule Γ (field_at s field) index wants (exprs_at s left at)) T (Refused r) U
+        pub keys_wrong : (r : Refusal) → d ≡ Err r → Does s (keys_rule Γ (field_at s field) index wants (exprs_at s left at)) T (Err r) U
         unfolding done_of
         keys_wrong r f = record { gives = went _ (then_refused judge (λ _. others) U U (refusal_of s r) (stopped s _ U d U judged r f)) }
 
-        module _ (f : d ≡ Fine) (m : ℕ) (em : m ≡ end_at S at) where
+        module _ (f : d ≡ Ok tt) (m : ℕ) (em : m ≡ end_at S at) where
           on_keys : Onward s S env T U
           on_keys = onward s S env T U _ _ h.ready (off_type h.ready.force.loaded (env_of s T env) (row_first row_on) h.no_value) (gave s _ T a U k c e)
 
@@ -364,7 +359,7 @@ module _ (s S : List ℕ) (env : Env) (T : Table) (field index wants left at : �
           pub keys_falls : (τ : ℕ) → 10 * (line_count S - at) + 8 ≡ τ → 10 * (line_count S - m) + 8 < τ
           keys_falls τ q = omega (arith, em, (row_first row_on).after, (row_first row_on).within, q)
 
-          pub keys_ok : (r : Done) (W : Table) → Does s (keys_rule (env_of s U env) (field_at s field) (index + 1) wants (exprs_at s (left - 1) m)) U r W
+          pub keys_ok : (r : Result Unit Refusal) (W : Table) → Does s (keys_rule (env_of s U env) (field_at s field) (index + 1) wants (exprs_at s (left - 1) m)) U r W
               → Does s (keys_rule Γ (field_at s field) index wants (exprs_at s left at)) T r W
           unfolding keys_rule
           keys_ok r W q =

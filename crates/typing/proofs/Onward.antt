@@ -9,6 +9,7 @@ use native.Mathlib.Omega.{arith}
 use lib.Dec.{leb}
 use lib.ListN.{length, get_or}
 use borrow.Author.Tests.{leb-true, leb-false}
+use Rattle.std.specs.Prelude.{Result, Ok, Err}
 use Rattle.grammar.specs.Grammar as grammar
 use Rattle.sheet.specs.Scratch.{kind_at, end_at}
 use Rattle.sheet.specs.Tree.{Node, node, take_nodes}
@@ -31,16 +32,15 @@ use Rattle.env.proofs.Lets.{lets_all}
 use Rattle.env.specs.Answers.{typed_of, Valid}
 use Rattle.env.specs.Force.{env_of, local_of, lets, Ready}
 use Rattle.env.specs.declared.env.Env.{Env}
-use Rattle.env.specs.declared.judge.Typed.{Typed}
-use Rattle.env.specs.declared.judge.Typed.TheVariants.{Is, Refused}
 use Rattle.typing.specs.Asks.{amount_rule, NoValue, answer_mark}
 use Rattle.grammar.specs.Kinds as kinds
+use Rattle.refusals.specs.declared.refusal.Refusal.{Refusal}
 
 -- the mark of an answer is its code
-pub mark_code : (s : List ℕ) (a : Typed) → Valid a → code_r (typed_of s a) ≡ answer_mark a
+pub mark_code : (s : List ℕ) (a : Result ℕ Refusal) → Valid a → code_r (typed_of s a) ≡ answer_mark a
 unfolding code_r typed_of answer_mark
-mark_code s (Is c) h = (code_of_lem c h).1
-mark_code s (Refused r) h = refl
+mark_code s (Ok c) h = (code_of_lem c h).1
+mark_code s (Err r) h = refl
 
 -- ------------------------------------------------------------ lines that are no `let`'s value
 

@@ -6,6 +6,7 @@ use native.Mathlib.Numerals.{add-one}
 use native.Mathlib.Omega.{arith}
 use borrow.Author.Rules.{rules}
 use lib.ListN.{get_or}
+use Rattle.std.specs.Prelude.{Result, Ok, Err}
 use Rattle.grammar.specs.Grammar as grammar
 use Rattle.sheet.specs.Scratch.{op_at, end_at, line_count}
 use Rattle.sheet.specs.Say.{span_at}
@@ -23,24 +24,22 @@ use Rattle.lookups.proofs.Codes.{code_of_lem}
 use Rattle.env.specs.Answers.{typed_of, Judged, JudgedIn, Operands}
 use Rattle.env.specs.Force.{env_of}
 use Rattle.env.specs.declared.env.Env.{Env}
-use Rattle.env.specs.declared.judge.Typed.{Typed}
-use Rattle.env.specs.declared.judge.Typed.TheVariants.{Is, Refused}
 use Rattle.typing.specs.Asks.{Asks, AsksAt, Types}
 use Rattle.typing.proofs.Asking.{types-length}
 use Rattle.typing.proofs.Onward.{Onward, onward, no_value_below, off_type}
 use Rattle.grammar.specs.Kinds as kinds
 
 -- What an asking gave.
-module _ (s : List ℕ) (p : Rule Ty) (T : Table) (a : Typed) (U : Table) (k : Types s p T a U) where
-  pub gave : (c : ℕ) → a ≡ Is c → kept p T ≡ record { res = ok (ty_from c); table = U }
+module _ (s : List ℕ) (p : Rule Ty) (T : Table) (a : Result ℕ Refusal) (U : Table) (k : Types s p T a U) where
+  pub gave : (c : ℕ) → a ≡ Ok c → kept p T ≡ record { res = ok (ty_from c); table = U }
   unfolding typed_of
   gave c e = k.gives ∙ rw e refl
 
-  pub gave_code : (c : ℕ) → a ≡ Is c → c ≡ code (ty_from c)
+  pub gave_code : (c : ℕ) → a ≡ Ok c → c ≡ code (ty_from c)
   gave_code c e = sym (code_of_lem c (rw e at k.valid)).1
 
   -- a refusal ends the rule
-  pub ends : (f : Ty → Rule Ty) (r : Refusal) → a ≡ Refused r → Types s (p >>= f) T (Refused r) U
+  pub ends : (f : Ty → Rule Ty) (r : Refusal) → a ≡ Err r → Types s (p >>= f) T (Err r) U
   unfolding typed_of
   ends f r e = record { gives = then_refused p f T U (refusal_of s r) (k.gives ∙ rw e refl); valid = tt }
 
@@ -51,8 +50,8 @@ module _ (s S : List ℕ) (env : Env) (T : Table) (i : ℕ) (h : AsksAt kinds.un
   pub un_child : Asks s S env T (i + 1)
   un_child = record { ready = h.asks.ready; here = rw (add-one i) (row_first un.1) }
 
-  module _ (a : Typed) (U : Table) (k : Types s (ty_of (env_of s T env) (expr_at s (i + 1))) T a U) where
-    pub un_ok : (c o : ℕ) (r : Typed) → a ≡ Is c → o ≡ op_at S i → Judged (λ x. judge_unary (get_or unary_ops o Neg) (expr_at x (i + 1))) c r
+  module _ (a : Result ℕ Refusal) (U : Table) (k : Types s (ty_of (env_of s T env) (expr_at s (i + 1))) T a U) where
+    pub un_ok : (c o : ℕ) (r : Result ℕ Refusal) → a ≡ Ok c → o ≡ op_at S i → Judged (λ x. judge_unary (get_or unary_ops o Neg) (expr_at x (i + 1))) c r
         → Types s (typing (env_of s T env) (expr_at s i)) T r U
     unfolding typing ty_of_unary ty_of ask_of asked
     un_ok c o r e q j =
@@ -64,7 +63,7 @@ module _ (s S : List ℕ) (env : Env) (T : Table) (i : ℕ) (h : AsksAt kinds.un
           valid = j.valid;
         }
 
-    pub un_no : (r : Refusal) → a ≡ Refused r → Types s (typing (env_of s T env) (expr_at s i)) T (Refused r) U
+    pub un_no : (r : Refusal) → a ≡ Err r → Types s (typing (env_of s T env) (expr_at s i)) T (Err r) U
     unfolding typing ty_of_unary ty_of ask_of asked
     un_no r e = rw (un.0, ← add-one i) (ends s (ty_of (env_of s T env) (expr_at s (i + 1))) T a U k _ r e)
 
@@ -89,18 +88,18 @@ module _ (s S : List ℕ) (env : Env) (T : Table) (i : ℕ) (h : AsksAt kinds.bi
           other = record { loaded = h.asks.ready.force.loaded; here = rw right (row_first (row_rest bin.1)) };
         }
 
-    module _ (a : Typed) (U : Table) (k : Types s (ty_of (env_of s T env) (expr_at s (i + 1))) T a U) (c : ℕ) (e : a ≡ Is c) where
+    module _ (a : Result ℕ Refusal) (U : Table) (k : Types s (ty_of (env_of s T env) (expr_at s (i + 1))) T a U) (c : ℕ) (e : a ≡ Ok c) where
       on : Onward s S env T U
       on = onward s S env T U _ _ h.asks.ready (rw (add-one i) (off_type h.asks.ready.force.loaded (env_of s T env) (row_first bin.1) (no_value_below S i (omega (arith, h.kind))))) (gave s _ T a U k c e)
 
       pub bin_right : Asks s S env U m
       bin_right = record { ready = on.ready; here = bin_operands.other.here }
 
-      module _ (b : Typed) (W : Table) (g : Types s (ty_of (env_of s U env) (expr_at s m)) U b W) where
+      module _ (b : Result ℕ Refusal) (W : Table) (g : Types s (ty_of (env_of s U env) (expr_at s m)) U b W) where
         second : Types s (ty_of (env_of s T env) (expr_at s m)) U b W
         second = rw (← on.same) g
 
-        pub bin_ok : (d o : ℕ) (r : Typed) → b ≡ Is d → o ≡ op_at S i → JudgedIn s (judge_binary (get_or bin_ops o Shr) (expr_at s (i + 1)) (expr_at s m)) c d r
+        pub bin_ok : (d o : ℕ) (r : Result ℕ Refusal) → b ≡ Ok d → o ≡ op_at S i → JudgedIn s (judge_binary (get_or bin_ops o Shr) (expr_at s (i + 1)) (expr_at s m)) c d r
             → Types s (typing (env_of s T env) (expr_at s i)) T r W
         unfolding typing ty_of_binary ty_of ask_of asked
         bin_ok d o r f q j =
@@ -113,7 +112,7 @@ module _ (s S : List ℕ) (env : Env) (T : Table) (i : ℕ) (h : AsksAt kinds.bi
               valid = j.valid;
             }
 
-        pub bin_no : (r : Refusal) → b ≡ Refused r → Types s (typing (env_of s T env) (expr_at s i)) T (Refused r) W
+        pub bin_no : (r : Refusal) → b ≡ Err r → Types s (typing (env_of s T env) (expr_at s i)) T (Err r) W
         unfolding typing ty_of_binary ty_of ask_of asked
         bin_no r f =
             record {
@@ -124,8 +123,8 @@ module _ (s S : List ℕ) (env : Env) (T : Table) (i : ℕ) (h : AsksAt kinds.bi
               valid = tt;
             }
 
-  pub bin_no_left : (a : Typed) (U : Table) (r : Refusal) → Types s (ty_of (env_of s T env) (expr_at s (i + 1))) T a U → a ≡ Refused r
-      → Types s (typing (env_of s T env) (expr_at s i)) T (Refused r) U
+  pub bin_no_left : (a : Result ℕ Refusal) (U : Table) (r : Refusal) → Types s (ty_of (env_of s T env) (expr_at s (i + 1))) T a U → a ≡ Err r
+      → Types s (typing (env_of s T env) (expr_at s i)) T (Err r) U
   unfolding typing ty_of_binary ty_of ask_of asked
   bin_no_left a U r k e = rw (bin.0, ← add-one i) (ends s (ty_of (env_of s T env) (expr_at s (i + 1))) T a U k _ r e)
 

@@ -1,5 +1,5 @@
 -- What the typing functions ask and promise.
-use Rattle.std.specs.Prelude.{ℕ, suc, ◌<◌, ◌≤◌, true, List, [], ◌∷◌, ◌≢◌, ◌≡◌, eqb, get_or, take, drop}
+use Rattle.std.specs.Prelude.{ℕ, suc, ◌<◌, ◌≤◌, true, List, [], ◌∷◌, ◌≢◌, ◌≡◌, eqb, get_or, take, drop, Option, Result, Ok, Err}
 use Rattle.grammar.specs.Grammar as grammar
 use Rattle.sheet.specs.Scratch.{kind_at, end_at, name_at, line_count, call_arg_count}
 use Rattle.rules.specs.Text.{Name, is_one}
@@ -10,16 +10,13 @@ use Rattle.rules.specs.Types.{declared_arg}
 use Rattle.rules.specs.Typing.{Env, stale, ask_each, check_amount, check_keyed_call, check_keys, ty_of_call, typings}
 use Rattle.rules.specs.Standing.{expr_at, exprs_at, Here, Row}
 use Rattle.refusals.specs.Refusal.{done_of}
-use Rattle.lookups.specs.declared.model.Found.{Found}
-use Rattle.refusals.specs.declared.refusal.Done.{Done}
 use Rattle.env.specs.Answers.{typed_of, Valid}
 use Rattle.env.specs.Calls.{KeyedOf}
 use Rattle.env.specs.Force.{env_of, Ready}
 use Rattle.env.specs.declared.env.Env.{Env as CodeEnv}
-use Rattle.env.specs.declared.judge.Typed.{Typed}
-use Rattle.env.specs.declared.judge.Typed.TheVariants.{Is, Refused}
 use Rattle.grammar.specs.Kinds as kinds
 use Rattle.rules.specs.Codes as codes
+use Rattle.refusals.specs.declared.refusal.Refusal.{Refusal}
 
 -- ------------------------------------------------------------ parts of the rule of a call
 
@@ -83,7 +80,7 @@ pub record AsksAll (s S : List ℕ) (env : CodeEnv) (T : Table) (m i : ℕ) : Ty
   pub no_value : NoValue S i
 
 -- a call at line i whose callee uses `keyed`
-pub record AsksCall (s S : List ℕ) (env : CodeEnv) (T : Table) (i : ℕ) (keyed : Found) : Type 0 where
+pub record AsksCall (s S : List ℕ) (env : CodeEnv) (T : Table) (i : ℕ) (keyed : Option ℕ) : Type 0 where
   pub call : AsksAt kinds.call s S env T i
   pub uses : KeyedOf s S env (suc i) keyed
 
@@ -104,27 +101,27 @@ pub record AsksKeys (s S : List ℕ) (env : CodeEnv) (T : Table) (field wants m 
 -- ------------------------------------------------------------ what is promised
 
 -- the mark that an answer leaves
-unfoldable pub answer_mark : Typed → ℕ
-answer_mark (Is c) = c
-answer_mark (Refused r) = codes.refused
+unfoldable pub answer_mark : Result ℕ Refusal → ℕ
+answer_mark (Ok c) = c
+answer_mark (Err r) = codes.refused
 
 -- ... on a line that has the type c
-unfoldable pub again_mark : ℕ → Typed → ℕ
-again_mark c (Is d) = c
-again_mark c (Refused r) = codes.refused
+unfoldable pub again_mark : ℕ → Result ℕ Refusal → ℕ
+again_mark c (Ok d) = c
+again_mark c (Err r) = codes.refused
 
 -- the codes of lines that have no parts, by their kind; that of a name is looked up
 abbrev pub leaf_codes : List ℕ
 leaf_codes = codes.int ∷ codes.unknown ∷ codes.time ∷ codes.str ∷ codes.address ∷ codes.address ∷ codes.address ∷ codes.int ∷ []
 
 -- the answer r and the table U are what the rule gives with kept types from the table T
-pub record Types (s : List ℕ) (p : Rule Ty) (T : Table) (r : Typed) (U : Table) : Type 0 where
+pub record Types (s : List ℕ) (p : Rule Ty) (T : Table) (r : Result ℕ Refusal) (U : Table) : Type 0 where
   pub gives : kept p T ≡ record { res = typed_of s r; table = U }
   pub valid : Valid r
 
-pub record Does (s : List ℕ) (p : Rule Unit) (T : Table) (r : Done) (U : Table) : Type 0 where
+pub record Does (s : List ℕ) (p : Rule Unit) (T : Table) (r : Result Unit Refusal) (U : Table) : Type 0 where
   pub gives : kept p T ≡ record { res = done_of s r; table = U }
 
 -- the rule gives the type of code c, and leaves the table
 pub record TypesLeaf (s : List ℕ) (p : Rule Ty) (T : Table) (c : ℕ) : Type 0 where
-  pub types : Types s p T (Is c) T
+  pub types : Types s p T (Ok c) T

@@ -9,14 +9,14 @@ ghost use Rattle.typing.specs.Asks.{amount_rule, args_at, callee_at, Does, keys_
 ghost use Rattle.grammar.specs.Kinds as kinds;
 
 use env::{
-    Env, Typed, expect_asset_receiver, expect_keyed_op, judge_amount, judge_binary, judge_key,
+    Env, expect_asset_receiver, expect_keyed_op, judge_amount, judge_binary, judge_key,
     judge_unary, keyed_of, moves_amount, stale, ty_of_call, ty_of_dot, ty_of_ident, wants,
 };
 use grammar::kinds;
-use lookups::{Found, declared_arg};
-use refusals::Done;
+use lookups::declared_arg;
+use refusals::Refusal;
 use rules::{codes, is_type};
-use sheet::{call_arg_count, end, kind, name, op};
+use sheet::{LoadedSheet, call_arg_count};
 
 fn leaf_code(place: usize) -> u8
     requires { place < 8 }
@@ -37,258 +37,229 @@ const LEAVES: [u8; 8] = [
 ];
 
 // The type of a line that has no parts.
-fn ty_of_leaf(sheet: &[u8], lines: &[u16], env: Env, table: &[u8], i: usize) -> u8
-    requires { AsksLeaf sheet.now lines.now env table.now i }
-    ensures { TypesLeaf sheet.now (typing_of (env_of sheet.now table.now env) (expr_at sheet.now i)) table.now result }
+fn ty_of_leaf(sheet: &LoadedSheet<'_>, env: Env, table: &[u8], i: usize) -> u8
+    requires { AsksLeaf sheet.now.bytes.now sheet.now.lines.now env table.now i }
+    ensures { TypesLeaf sheet.now.bytes.now (typing_of (env_of sheet.now.bytes.now table.now env) (expr_at sheet.now.bytes.now i)) table.now result }
 {
-    let k = kind(lines, i);
+    let k = sheet.kind(i);
     if k == kinds::ID {
-        return ty_of_ident(sheet, lines, env, table, name(sheet, lines, i));
+        return ty_of_ident(sheet, env, table, sheet.name(i));
     }
     leaf_code(k - kinds::INT)
 }
 
 // The mark that an answer leaves.
-fn mark(a: Typed) -> u8
+fn mark(a: Result<u8, Refusal>) -> u8
     ensures { result ≡ answer_mark a }
 {
-    match a {
-        Typed::Is(c) => c,
-        Typed::Refused(_) => codes::REFUSED,
-    }
+    a.unwrap_or(codes::REFUSED)
 }
 
 // The type of line i. Every rule asks a type through this function, and none but this and `ty_again`, its part for the exception, marks a line.
 #[cycle(expression_types)]
-pub fn ty_of(sheet: &[u8], lines: &[u16], env: Env, table: &mut [u8], i: usize) -> Typed
-    requires { Asks sheet.now lines.now env table.old i }
-    ensures { Types sheet.now (ty_of (env_of sheet.now table.old env) (expr_at sheet.now i)) table.old result table.new }
+pub fn ty_of(sheet: &LoadedSheet<'_>, env: Env, table: &mut [u8], i: usize) -> Result<u8, Refusal>
+    requires { Asks sheet.now.bytes.now sheet.now.lines.now env table.old i }
+    ensures { Types sheet.now.bytes.now (ty_of (env_of sheet.now.bytes.now table.old env) (expr_at sheet.now.bytes.now i)) table.old result table.new }
 {
     let known = table[i];
     if is_type(known) {
-        if stale(sheet, lines, env, i) {
-            return ty_again(sheet, lines, env, table, i);
+        if stale(sheet, env, i) {
+            return ty_again(sheet, env, table, i);
         }
-        return Typed::Is(known);
+        return Ok(known);
     }
-    let a = typing(sheet, lines, env, table, i);
+    let a = typing(sheet, env, table, i);
     table[i] = mark(a);
     a
 }
 
 // Types line i again, which keeps its first type, or is marked as refused.
 #[cycle(expression_types)]
-fn ty_again(sheet: &[u8], lines: &[u16], env: Env, table: &mut [u8], i: usize) -> Typed
-    requires { AsksAgain sheet.now lines.now env table.old i }
-    ensures { Types sheet.now (ty_of (env_of sheet.now table.old env) (expr_at sheet.now i)) table.old result table.new }
+fn ty_again(sheet: &LoadedSheet<'_>, env: Env, table: &mut [u8], i: usize) -> Result<u8, Refusal>
+    requires { AsksAgain sheet.now.bytes.now sheet.now.lines.now env table.old i }
+    ensures { Types sheet.now.bytes.now (ty_of (env_of sheet.now.bytes.now table.old env) (expr_at sheet.now.bytes.now i)) table.old result table.new }
 {
-    match typing(sheet, lines, env, table, i) {
-        Typed::Is(c) => Typed::Is(c),
-        Typed::Refused(r) => {
+    match typing(sheet, env, table, i) {
+        Ok(c) => Ok(c),
+        Err(r) => {
             table[i] = codes::REFUSED;
-            Typed::Refused(r)
+            Err(r)
         }
     }
 }
 
 // `ty_of` without the asking itself: the type of line i by its kind.
 #[cycle(expression_types)]
-fn typing(sheet: &[u8], lines: &[u16], env: Env, table: &mut [u8], i: usize) -> Typed
-    requires { Asks sheet.now lines.now env table.old i }
-    ensures { Types sheet.now (typing_of (env_of sheet.now table.old env) (expr_at sheet.now i)) table.old result table.new }
+fn typing(sheet: &LoadedSheet<'_>, env: Env, table: &mut [u8], i: usize) -> Result<u8, Refusal>
+    requires { Asks sheet.now.bytes.now sheet.now.lines.now env table.old i }
+    ensures { Types sheet.now.bytes.now (typing_of (env_of sheet.now.bytes.now table.old env) (expr_at sheet.now.bytes.now i)) table.old result table.new }
 {
-    let k = kind(lines, i);
+    let k = sheet.kind(i);
     if k < kinds::UN {
-        return Typed::Is(ty_of_leaf(sheet, lines, env, table, i));
+        return Ok(ty_of_leaf(sheet, env, table, i));
     }
     if k == kinds::UN {
-        return ty_of_unary(sheet, lines, env, table, i);
+        return ty_of_unary(sheet, env, table, i);
     }
     if k == kinds::BIN {
-        return ty_of_binary(sheet, lines, env, table, i);
+        return ty_of_binary(sheet, env, table, i);
     }
     if k == kinds::DOT {
-        return Typed::Is(ty_of_dot(name(sheet, lines, i)));
+        return Ok(ty_of_dot(sheet.name(i)));
     }
     if k == kinds::CALL {
-        return type_call(sheet, lines, env, table, i);
+        return type_call(sheet, env, table, i);
     }
-    ty_of(sheet, lines, env, table, i + 1)
+    ty_of(sheet, env, table, i + 1)
 }
 
 #[cycle(expression_types)]
-fn ty_of_unary(sheet: &[u8], lines: &[u16], env: Env, table: &mut [u8], i: usize) -> Typed
-    requires { AsksAt kinds.un sheet.now lines.now env table.old i }
-    ensures { Types sheet.now (typing_of (env_of sheet.now table.old env) (expr_at sheet.now i)) table.old result table.new }
+fn ty_of_unary(sheet: &LoadedSheet<'_>, env: Env, table: &mut [u8], i: usize) -> Result<u8, Refusal>
+    requires { AsksAt kinds.un sheet.now.bytes.now sheet.now.lines.now env table.old i }
+    ensures { Types sheet.now.bytes.now (typing_of (env_of sheet.now.bytes.now table.old env) (expr_at sheet.now.bytes.now i)) table.old result table.new }
 {
-    match ty_of(sheet, lines, env, table, i + 1) {
-        Typed::Is(ty) => judge_unary(op(lines, i), i + 1, ty),
-        Typed::Refused(r) => Typed::Refused(r),
-    }
+    let ty = ty_of(sheet, env, table, i + 1)?;
+    judge_unary(sheet.op(i), i + 1, ty)
 }
 
 // Both sides are typed before either is judged.
 #[cycle(expression_types)]
-fn ty_of_binary(sheet: &[u8], lines: &[u16], env: Env, table: &mut [u8], i: usize) -> Typed
-    requires { AsksAt kinds.bin sheet.now lines.now env table.old i }
-    ensures { Types sheet.now (typing_of (env_of sheet.now table.old env) (expr_at sheet.now i)) table.old result table.new }
+fn ty_of_binary(
+    sheet: &LoadedSheet<'_>,
+    env: Env,
+    table: &mut [u8],
+    i: usize,
+) -> Result<u8, Refusal>
+    requires { AsksAt kinds.bin sheet.now.bytes.now sheet.now.lines.now env table.old i }
+    ensures { Types sheet.now.bytes.now (typing_of (env_of sheet.now.bytes.now table.old env) (expr_at sheet.now.bytes.now i)) table.old result table.new }
 {
-    match ty_of(sheet, lines, env, table, i + 1) {
-        Typed::Is(l) => {
-            let right = end(lines, i + 1);
-            match ty_of(sheet, lines, env, table, right) {
-                Typed::Is(r) => judge_binary(sheet, lines, op(lines, i), i + 1, right, l, r),
-                Typed::Refused(r) => Typed::Refused(r),
-            }
-        }
-        Typed::Refused(r) => Typed::Refused(r),
-    }
+    let l = ty_of(sheet, env, table, i + 1)?;
+    let right = sheet.end(i + 1);
+    let r = ty_of(sheet, env, table, right)?;
+    judge_binary(sheet, sheet.op(i), i + 1, right, l, r)
 }
 
 // The type of a call: its receiver and its operation are judged first.
 #[cycle(expression_types)]
-fn type_call(sheet: &[u8], lines: &[u16], env: Env, table: &mut [u8], i: usize) -> Typed
-    requires { AsksAt kinds.call sheet.now lines.now env table.old i }
-    ensures { Types sheet.now (typing_of (env_of sheet.now table.old env) (expr_at sheet.now i)) table.old result table.new }
+fn type_call(sheet: &LoadedSheet<'_>, env: Env, table: &mut [u8], i: usize) -> Result<u8, Refusal>
+    requires { AsksAt kinds.call sheet.now.bytes.now sheet.now.lines.now env table.old i }
+    ensures { Types sheet.now.bytes.now (typing_of (env_of sheet.now.bytes.now table.old env) (expr_at sheet.now.bytes.now i)) table.old result table.new }
 {
-    let keyed = keyed_of(sheet, lines, env, i + 1);
-    match expect_asset_receiver(sheet, lines, env, i + 1) {
-        Done::Fine => match expect_keyed_op(sheet, lines, i + 1, keyed) {
-            Done::Fine => type_args(sheet, lines, env, table, i, keyed),
-            Done::Refused(r) => Typed::Refused(r),
-        },
-        Done::Refused(r) => Typed::Refused(r),
-    }
+    let keyed = keyed_of(sheet, env, i + 1);
+    expect_asset_receiver(sheet, env, i + 1)?;
+    expect_keyed_op(sheet, i + 1, keyed)?;
+    type_args(sheet, env, table, i, keyed)
 }
 
 // ... then its arguments are typed
 #[cycle(expression_types)]
 fn type_args(
-    sheet: &[u8],
-    lines: &[u16],
+    sheet: &LoadedSheet<'_>,
     env: Env,
     table: &mut [u8],
     i: usize,
-    keyed: Found,
-) -> Typed
-    requires { AsksCall sheet.now lines.now env table.old i keyed }
-    ensures { Types sheet.now (type_args (env_of sheet.now table.old env) (callee_at sheet.now i) (args_at sheet.now lines.now i)) table.old result table.new }
+    keyed: Option<usize>,
+) -> Result<u8, Refusal>
+    requires { AsksCall sheet.now.bytes.now sheet.now.lines.now env table.old i keyed }
+    ensures { Types sheet.now.bytes.now (type_args (env_of sheet.now.bytes.now table.old env) (callee_at sheet.now.bytes.now i) (args_at sheet.now.bytes.now sheet.now.lines.now i)) table.old result table.new }
 {
-    match ask_each(
-        sheet,
-        lines,
-        env,
-        table,
-        end(lines, i + 1),
-        call_arg_count(lines, i),
-    ) {
-        Done::Fine => type_keyed(sheet, lines, env, table, i, keyed),
-        Done::Refused(r) => Typed::Refused(r),
-    }
+    let at = sheet.end(i + 1);
+    ask_each(sheet, env, table, at, call_arg_count(sheet.lines, i))?;
+    type_keyed(sheet, env, table, i, keyed)
 }
 
 // ... and its keyed use is checked
 #[cycle(expression_types)]
 fn type_keyed(
-    sheet: &[u8],
-    lines: &[u16],
+    sheet: &LoadedSheet<'_>,
     env: Env,
     table: &mut [u8],
     i: usize,
-    keyed: Found,
-) -> Typed
-    requires { AsksCall sheet.now lines.now env table.old i keyed }
-    ensures { Types sheet.now (type_keyed (env_of sheet.now table.old env) (callee_at sheet.now i) (args_at sheet.now lines.now i)) table.old result table.new }
+    keyed: Option<usize>,
+) -> Result<u8, Refusal>
+    requires { AsksCall sheet.now.bytes.now sheet.now.lines.now env table.old i keyed }
+    ensures { Types sheet.now.bytes.now (type_keyed (env_of sheet.now.bytes.now table.old env) (callee_at sheet.now.bytes.now i) (args_at sheet.now.bytes.now sheet.now.lines.now i)) table.old result table.new }
 {
-    match check_keyed_call(sheet, lines, env, table, i, keyed) {
-        Done::Fine => Typed::Is(ty_of_call(sheet, lines, i + 1, keyed)),
-        Done::Refused(r) => Typed::Refused(r),
-    }
+    check_keyed_call(sheet, env, table, i, keyed)?;
+    Ok(ty_of_call(sheet, i + 1, keyed))
 }
 
 // Types `left` expressions, the first of which stands at line at.
 #[cycle(expression_types)]
 pub fn ask_each(
-    sheet: &[u8],
-    lines: &[u16],
+    sheet: &LoadedSheet<'_>,
     env: Env,
     table: &mut [u8],
     at: usize,
     left: usize,
-) -> Done
-    requires { AsksAll sheet.now lines.now env table.old left at }
-    ensures { Does sheet.now (ask_each (typings (env_of sheet.now table.old env) (exprs_at sheet.now left at))) table.old result table.new }
+) -> Result<(), Refusal>
+    requires { AsksAll sheet.now.bytes.now sheet.now.lines.now env table.old left at }
+    ensures { Does sheet.now.bytes.now (ask_each (typings (env_of sheet.now.bytes.now table.old env) (exprs_at sheet.now.bytes.now left at))) table.old result table.new }
 {
     if left == 0 {
-        return Done::Fine;
+        return Ok(());
     }
-    match ty_of(sheet, lines, env, table, at) {
-        Typed::Is(_) => ask_each(sheet, lines, env, table, end(lines, at), left - 1),
-        Typed::Refused(r) => Done::Refused(r),
-    }
+    ty_of(sheet, env, table, at)?;
+    ask_each(sheet, env, table, sheet.end(at), left - 1)
 }
 
 // `check_keyed_call` of the call at line i, whose callee uses `keyed`.
 #[cycle(expression_types)]
 pub fn check_keyed_call(
-    sheet: &[u8],
-    lines: &[u16],
+    sheet: &LoadedSheet<'_>,
     env: Env,
     table: &mut [u8],
     i: usize,
-    keyed: Found,
-) -> Done
-    requires { AsksCall sheet.now lines.now env table.old i keyed }
-    ensures { Does sheet.now (check_keyed_call (env_of sheet.now table.old env) (callee_at sheet.now i) (typings (env_of sheet.now table.old env) (args_at sheet.now lines.now i))) table.old result table.new }
+    keyed: Option<usize>,
+) -> Result<(), Refusal>
+    requires { AsksCall sheet.now.bytes.now sheet.now.lines.now env table.old i keyed }
+    ensures { Does sheet.now.bytes.now (check_keyed_call (env_of sheet.now.bytes.now table.old env) (callee_at sheet.now.bytes.now i) (typings (env_of sheet.now.bytes.now table.old env) (args_at sheet.now.bytes.now sheet.now.lines.now i))) table.old result table.new }
 {
-    match keyed {
-        Found::At(field) => match check_amount(sheet, lines, env, table, i) {
-            Done::Fine => {
-                let method = name(sheet, lines, i + 1);
-                let at = end(lines, i + 1);
-                check_keys(
-                    sheet,
-                    lines,
-                    env,
-                    table,
-                    field,
-                    0,
-                    wants(method),
-                    at,
-                    call_arg_count(lines, i),
-                )
-            }
-            Done::Refused(r) => Done::Refused(r),
-        },
-        Found::Nothing => Done::Fine,
-    }
+    let Some(field) = keyed else {
+        return Ok(());
+    };
+    check_amount(sheet, env, table, i)?;
+    let method = sheet.name(i + 1);
+    let at = sheet.end(i + 1);
+    check_keys(
+        sheet,
+        env,
+        table,
+        field,
+        0,
+        wants(method),
+        at,
+        call_arg_count(sheet.lines, i),
+    )
 }
 
 // The amount that `credit` and `debit` move.
 #[cycle(expression_types)]
-fn check_amount(sheet: &[u8], lines: &[u16], env: Env, table: &mut [u8], i: usize) -> Done
-    requires { AsksMethod sheet.now lines.now env table.old i }
-    ensures { Does sheet.now (amount_rule (env_of sheet.now table.old env) (method_at sheet.now lines.now i) (args_at sheet.now lines.now i)) table.old result table.new }
+fn check_amount(
+    sheet: &LoadedSheet<'_>,
+    env: Env,
+    table: &mut [u8],
+    i: usize,
+) -> Result<(), Refusal>
+    requires { AsksMethod sheet.now.bytes.now sheet.now.lines.now env table.old i }
+    ensures { Does sheet.now.bytes.now (amount_rule (env_of sheet.now.bytes.now table.old env) (method_at sheet.now.bytes.now sheet.now.lines.now i) (args_at sheet.now.bytes.now sheet.now.lines.now i)) table.old result table.new }
 {
-    if call_arg_count(lines, i) < 2 {
-        return Done::Fine;
+    if call_arg_count(sheet.lines, i) < 2 {
+        return Ok(());
     }
-    if !moves_amount(name(sheet, lines, i + 1)) {
-        return Done::Fine;
+    if !moves_amount(sheet.name(i + 1)) {
+        return Ok(());
     }
-    let arg = end(lines, end(lines, i + 1));
-    match ty_of(sheet, lines, env, table, arg) {
-        Typed::Is(got) => judge_amount(i + 1, arg, got),
-        Typed::Refused(r) => Done::Refused(r),
-    }
+    let arg = sheet.end(sheet.end(i + 1));
+    let got = ty_of(sheet, env, table, arg)?;
+    judge_amount(i + 1, arg, got)
 }
 
 // The arguments from line at on, as far as the Map or Registry at line field declares what they must be: those from
 // place index on, up to place wants.
 #[cycle(expression_types)]
 fn check_keys(
-    sheet: &[u8],
-    lines: &[u16],
+    sheet: &LoadedSheet<'_>,
     env: Env,
     table: &mut [u8],
     field: usize,
@@ -296,31 +267,24 @@ fn check_keys(
     wants: usize,
     at: usize,
     left: usize,
-) -> Done
-    requires { AsksKeys sheet.now lines.now env table.old field wants left at }
-    ensures { Does sheet.now (keys_rule (env_of sheet.now table.old env) (field_at sheet.now field) index wants (exprs_at sheet.now left at)) table.old result table.new }
+) -> Result<(), Refusal>
+    requires { AsksKeys sheet.now.bytes.now sheet.now.lines.now env table.old field wants left at }
+    ensures { Does sheet.now.bytes.now (keys_rule (env_of sheet.now.bytes.now table.old env) (field_at sheet.now.bytes.now field) index wants (exprs_at sheet.now.bytes.now left at)) table.old result table.new }
 {
     if (wants <= index) | (left == 0) {
-        return Done::Fine;
+        return Ok(());
     }
-    match ty_of(sheet, lines, env, table, at) {
-        Typed::Is(got) => {
-            let want = declared_arg(sheet, lines, field + 1, index);
-            match judge_key(sheet, lines, env, field, index == 0, at, want, got) {
-                Done::Fine => check_keys(
-                    sheet,
-                    lines,
-                    env,
-                    table,
-                    field,
-                    index + 1,
-                    wants,
-                    end(lines, at),
-                    left - 1,
-                ),
-                Done::Refused(r) => Done::Refused(r),
-            }
-        }
-        Typed::Refused(r) => Done::Refused(r),
-    }
+    let got = ty_of(sheet, env, table, at)?;
+    let want = declared_arg(sheet, field + 1, index);
+    judge_key(sheet, env, field, index == 0, at, want, got)?;
+    check_keys(
+        sheet,
+        env,
+        table,
+        field,
+        index + 1,
+        wants,
+        sheet.end(at),
+        left - 1,
+    )
 }

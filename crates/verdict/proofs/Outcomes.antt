@@ -11,8 +11,8 @@ use Rattle.sheet.specs.Line.{Line}
 use Rattle.sheet.specs.Load.{LoadResult, lines, refused, lines_of, copies, early, load, load_from}
 use Rattle.sheet.specs.Scan.{scan_all}
 use Rattle.sheet.specs.Promise.{answer, laid, scratch_from, scratch_after}
-use Rattle.sheet.specs.declared.loader.Answer as loader
-use Rattle.sheet.specs.declared.loader.Answer.TheVariants.{Lines, Refused}
+use Rattle.std.specs.Prelude.{Result, Ok, Err}
+use Rattle.sheet.specs.declared.refusal.Refused.{Refused}
 use Rattle.sheet.proofs.Due.{length-copies}
 use Rattle.sheet.proofs.Holds.{length-put_lines, length-closed}
 use Rattle.sheet.proofs.Loading.{scan-length, room, types_room, passed, loads, loaded_whole, load_place}
@@ -20,7 +20,8 @@ use Rattle.sheet.proofs.Loaded.{answer_lines}
 use Rattle.rules.specs.Asking.{Res, ok, refused as ruled_out}
 use Rattle.rules.specs.Kept.{Table}
 use Rattle.rules.specs.Check.{check}
-use Rattle.rules.specs.Standing.{LoadedIn, read_lines, lines_in, model_in}
+use Rattle.rules.specs.Standing.{LoadedIn, model_in}
+use Rattle.sheet.specs.Loaded.{read_lines, lines_in}
 use Rattle.rules.specs.Verdict.{overwritten, answer_for, judge, refused_sheet, verdict, kept_judge, kept_verdict}
 use Rattle.rules.proofs.Binding.{kept-length}
 use Rattle.rules.proofs.Checked.{verdict-kept}
@@ -43,10 +44,10 @@ unfolding laid
 laid-length (lines ls) S = length-closed (length ls) _ ∙ length-put_lines ls S 0
 laid-length (refused n i) S = length-copies (length S) 0
 
-answer-refused : {k i : ℕ} (r : LoadResult) → Refused k i ≡ answer r → r ≡ refused k i
+answer-refused : {f : Refused} (r : LoadResult) → Err f ≡ answer r → r ≡ refused f.number f.line
 unfolding answer
-answer-refused (lines ls) e = absurd (let z : ◌≡◌ {A = ℕ} 0 1 = cc in omega arith)
-answer-refused (refused m j) e = cc
+answer-refused {f} (lines ls) e = absurd (let z : ◌≡◌ {A = ℕ} 0 1 = cc in omega arith)
+answer-refused {f} (refused m j) e = let q : f ≡ record { number = m; line = j } = cc in rw q refl
 
 -- ------------------------------------------------------------ a sheet that is refused
 
@@ -95,8 +96,8 @@ outcome_read s S T M n Z W N D b e c v x z d =
     rw (v, e, ← c, written_length (copies (cells_per_line * n) 0) S (cells_per_line * n) (length-copies (cells_per_line * n) 0), written_length _ T n (judged-length s n (length M)), z, d, x.answer, x.types, x.message) refl
 
 -- `load` answered r, and left U in the scratch S; types is the length it was told.
-module _ (s S U : List ℕ) (types : ℕ) (r : loader.Answer) (a : r ≡ answer (load s types (length S))) (u : U ≡ scratch_after s types S) where
-  module _ (n : ℕ) (e : r ≡ Lines n) where
+module _ (s S U : List ℕ) (types : ℕ) (r : Result ℕ Refused) (a : r ≡ answer (load s types (length S))) (u : U ≡ scratch_after s types S) where
+  module _ (n : ℕ) (e : r ≡ Ok n) where
     read_as_lem : ReadAs s types S n
     read_as_lem =
         let l = answer_lines (load s types (length S)) (sym e ∙ a) in
@@ -149,18 +150,18 @@ module _ (s S U : List ℕ) (types : ℕ) (r : loader.Answer) (a : r ≡ answer 
             bytes = omega (arith, cells_length, table_length);
           }
 
-  module _ (k i : ℕ) (e : r ≡ Refused k i) where
-    unread : load s types (length S) ≡ refused k i
+  module _ (f : Refused) (e : r ≡ Err f) where
+    unread : load s types (length S) ≡ refused f.number f.line
     unread = answer-refused (load s types (length S)) (sym e ∙ a)
 
-    pub place_fits : Fits w32 i
-    place_fits = omega (arith, load_place s types S k i unread)
+    pub place_fits : Fits w32 f.line
+    place_fits = omega (arith, load_place s types S f.number f.line unread)
 
 -- ------------------------------------------------------------ the outcome
 
 -- the same, where it was told the length of the table T; M is the message buffer
-module _ (s S T M U : List ℕ) (r : loader.Answer) (a : r ≡ answer (load s (length T) (length S))) (u : U ≡ scratch_after s (length T) S) where
-  pub outcome_lines : (n : ℕ) (b : Answer) (Z W N : List ℕ) → r ≡ Lines n → Judges s (copies (length (take n T)) 0) M b W N → Z ≡ copies (length (take (cells_per_line * n) U)) 0
+module _ (s S T M U : List ℕ) (r : Result ℕ Refused) (a : r ≡ answer (load s (length T) (length S))) (u : U ≡ scratch_after s (length T) S) where
+  pub outcome_lines : (n : ℕ) (b : Answer) (Z W N : List ℕ) → r ≡ Ok n → Judges s (copies (length (take n T)) 0) M b W N → Z ≡ copies (length (take (cells_per_line * n) U)) 0
       → record { answer = b; scratch = Z ++ drop (cells_per_line * n) U; types = W ++ drop n T; message = N } ≡ outcome s S T M
   outcome_lines n b Z W N e x z =
       let h = read_as_lem s S U (length T) r a u n e in
@@ -169,7 +170,7 @@ module _ (s S T M U : List ℕ) (r : loader.Answer) (a : r ≡ answer (load s (l
       outcome_read s S T M n Z W N _ b h.early h.count (ruled s (length T) (length S) (length M) n h.read h.load h.scan h.size)
       (rw (← k) at x) (z ∙ ap (λ m. copies m 0) (sym l)) (behind s S U (length T) r a u n e)
 
-  pub outcome-refused : (k i : ℕ) → r ≡ Refused k i
-      → record { answer = record { number = k; place = i; count = 0; length = 0 }; scratch = U; types = T; message = M } ≡ outcome s S T M
+  pub outcome-refused : (f : Refused) → r ≡ Err f
+      → record { answer = record { number = f.number; place = f.line; count = 0; length = 0 }; scratch = U; types = T; message = M } ≡ outcome s S T M
   unfolding outcome verdict judge refused_sheet answer_of overwritten
-  outcome-refused k i e = let h = unread s S U (length T) r a u k i e in rw (u, unread_left s (length T) S k i h, h) refl
+  outcome-refused f e = let h = unread s S U (length T) r a u f e in rw (u, unread_left s (length T) S f.number f.line h, h) refl

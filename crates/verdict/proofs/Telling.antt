@@ -7,6 +7,7 @@ use mir.Val.{Fits}
 use mir.Syntax.{w32}
 use lib.ListN.{length}
 use borrow.Author.Tests.{le-leb, lt-leb}
+use Rattle.std.specs.Prelude.{Result, Ok, Err}
 use Rattle.sheet.specs.Load.{copies}
 use Rattle.sheet.proofs.Due.{length-copies}
 use Rattle.rules.specs.Text.{render}
@@ -17,8 +18,6 @@ use Rattle.rules.specs.Verdict.{longest, overwritten, fitting, answer_for}
 use Rattle.rules.proofs.Binding.{kept-length}
 use Rattle.refusals.specs.Refusal.{refusal_of, done_of}
 use Rattle.refusals.specs.declared.refusal.Refusal.{Refusal}
-use Rattle.refusals.specs.declared.refusal.Done.{Done}
-use Rattle.refusals.specs.declared.refusal.Done.TheVariants.{Fine, Refused}
 use Rattle.writing.specs.Writing.{Adds}
 use Rattle.writing.proofs.Adding.{told_all, all_written}
 use Rattle.message.proofs.Lengths.{message_short}
@@ -70,7 +69,7 @@ count_most (zero ∷ T) = omega (arith, count_most T)
 count_most (suc c ∷ T) = omega (arith, count_most T)
 
 -- `check` answered d on the table T, and left U.
-module _ (s S : List ℕ) (T U : Table) (d : Done) (x : Does s (check (model_in s)) T d U) where
+module _ (s S : List ℕ) (T U : Table) (d : Result Unit Refusal) (x : Does s (check (model_in s)) T d U) where
   done_length : length U ≡ length T
   done_length = sym (ap (λ o. length o.table) x.gives) ∙ kept-length (check (model_in s)) T
 
@@ -81,13 +80,13 @@ module _ (s S : List ℕ) (T U : Table) (d : Done) (x : Does s (check (model_in 
   unfolding judged
   judged_told most = rw x.gives refl
 
-  pub judges_accepted : (M : List ℕ) (n : ℕ) → d ≡ Fine → n ≡ count U → Judges s T M (record { number = 0; place = 0; count = n; length = 0 }) U M
+  pub judges_accepted : (M : List ℕ) (n : ℕ) → d ≡ Ok tt → n ≡ count U → Judges s T M (record { number = 0; place = 0; count = n; length = 0 }) U M
   unfolding answer_for answer_of done_of
   judges_accepted M n e c =
       let j = rw e at (judged_told (length M)) in
       record { answer = rw (j, c) refl; short = omega arith; types = rw j refl; message = rw j (sym (written_none M)) }
 
-  pub judges_refused : (r : Refusal) (M N : List ℕ) (k p n l : ℕ) → Exact s S T → d ≡ Refused r → Numbers r k → p ≡ (refusal_of s r).place → n ≡ count U → l ≡ length (text_of s r)
+  pub judges_refused : (r : Refusal) (M N : List ℕ) (k p n l : ℕ) → Exact s S T → d ≡ Err r → Numbers r k → p ≡ (refusal_of s r).place → n ≡ count U → l ≡ length (text_of s r)
       → N ≡ overwritten (fitting (length M) (text_of s r)) M
       → Judges s T M (record { number = k; place = p; count = n; length = l }) U N
   unfolding answer_for answer_of done_of text_of

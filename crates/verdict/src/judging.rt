@@ -7,41 +7,42 @@ ghost use Rattle.verdict.specs.Outcome.{Exact, Few, Judges, text_of};
 use crate::Answer;
 use checking::check;
 use message::add_message;
-use refusals::{Done, Refusal, number_of, place_of};
+use refusals::Refusal;
 use rules::marked;
-use text::{fill, fill_u16};
+use sheet::LoadedSheet;
+use text::fill;
 
 // Writes the message of a refusal, if it fits; its length.
-pub fn tell(sheet: &[u8], lines: &[u16], message: &mut [u8], r: Refusal) -> u32
-    requires { Few sheet.now lines.now }
-    ensures value { result ≡ length (text_of sheet.now r) }
-    ensures message_after { message.new ≡ overwritten (fitting (length message.old) (text_of sheet.now r)) message.old }
+pub fn tell(sheet: &LoadedSheet<'_>, message: &mut [u8], r: Refusal) -> u32
+    requires { Few sheet.now.bytes.now sheet.now.lines.now }
+    ensures value { result ≡ length (text_of sheet.now.bytes.now r) }
+    ensures message_after { message.new ≡ overwritten (fitting (length message.old) (text_of sheet.now.bytes.now r)) message.old }
 {
     let mut none = [0u8; 0];
-    let length = add_message(sheet, lines, &mut none, 0, r);
+    let length = add_message(sheet, &mut none, 0, r);
     if message.len() < length {
         return length as u32;
     }
-    add_message(sheet, lines, message, 0, r) as u32
+    add_message(sheet, message, 0, r) as u32
 }
 
 // The answer of `check` on a table.
-pub fn judge(sheet: &[u8], lines: &[u16], table: &mut [u8], message: &mut [u8]) -> Answer
-    requires { Exact sheet.now lines.now table.old }
-    ensures { Judges sheet.now table.old message.old result table.new message.new }
+pub fn judge(sheet: &LoadedSheet<'_>, table: &mut [u8], message: &mut [u8]) -> Answer
+    requires { Exact sheet.now.bytes.now sheet.now.lines.now table.old }
+    ensures { Judges sheet.now.bytes.now table.old message.old result table.new message.new }
 {
-    match check(sheet, lines, table) {
-        Done::Fine => Answer {
+    match check(sheet, table) {
+        Ok(()) => Answer {
             number: 0,
             place: 0,
             count: marked(table) as u32,
             length: 0,
         },
-        Done::Refused(r) => Answer {
-            number: number_of(r),
-            place: place_of(sheet, lines, r),
+        Err(r) => Answer {
+            number: r.number(),
+            place: r.place(sheet),
             count: marked(table) as u32,
-            length: tell(sheet, lines, message, r),
+            length: tell(sheet, message, r),
         },
     }
 }
@@ -53,7 +54,11 @@ pub fn judge_lines(sheet: &[u8], lines: &mut [u16], table: &mut [u8], message: &
     ensures lines_after { lines.new ≡ copies (length lines.old) 0 }
 {
     fill(table, 0);
-    let answer = judge(sheet, lines, table, message);
-    fill_u16(lines, 0);
+    let loaded = LoadedSheet {
+        bytes: sheet,
+        lines: &*lines,
+    };
+    let answer = judge(&loaded, table, message);
+    fill(lines, 0);
     answer
 }

@@ -8,7 +8,7 @@ ghost use Rattle.rules.specs.Verdict.{longest};
 ghost use Rattle.verdict.specs.Outcome.{outcome};
 
 pub use judging::{judge, judge_lines, tell};
-use sheet::{CELLS_PER_LINE, load};
+use sheet::{CELLS_PER_LINE, Refused, load};
 
 // Number is 0 for acceptance. Place is a line from 1 for 6 to 11 and a span from 12 on. Count is how many lines are marked, length
 // how many bytes the message has, whether it fits or not.
@@ -28,13 +28,13 @@ pub fn verdict(sheet: &[u8], scratch: &mut [u16], types: &mut [u8], message: &mu
     ensures message_fits { result.length ≤ longest }
 {
     match load(sheet, scratch, types.len()) {
-        sheet::Answer::Lines(n) => judge_lines(
+        Ok(n) => judge_lines(
             sheet,
             &mut scratch[..CELLS_PER_LINE * n],
             &mut types[..n],
             message,
         ),
-        sheet::Answer::Refused { number, line } => Answer {
+        Err(Refused { number, line }) => Answer {
             number,
             place: line as u32,
             count: 0,

@@ -1,15 +1,18 @@
 -- The arguments of an `emit` side by side with the event's parameters. Assumes nothing.
 use mathlib.Core.Path.{◌≡◌, refl, ◌∙◌}
-use mathlib.Core.Logic.{◌≢◌}
+use mathlib.Core.Logic.{◌⊎◌, inl, inr}
 use mathlib.Core.List.{List, [], ◌∷◌, zip}
 use mathlib.Core.Bool.{Bool, true, false, not, ◌&&◌}
-use Prim.Native.Nat.{ℕ, suc, ◌+◌, ◌-◌, ◌<◌, ◌≤◌}
+use Prim.Native.Nat.{ℕ, suc, ◌+◌, ◌<◌}
 use native.Mathlib.Numerals.{add-one}
 use native.Mathlib.Omega.{arith}
 use mir.Syntax.{w64}
 use mir.Val.{Fits}
 use lib.Dec.{eqb}
 use lib.ListN.{length}
+use Rattle.std.specs.Prelude.{None, Ok, Err}
+use Rattle.sheet.specs.Records.{Steps, NextOf}
+use Rattle.sheet.specs.declared.records.Records.{Records}
 use Rattle.grammar.specs.Grammar as grammar
 use Rattle.sheet.specs.Scratch.{end_at, name_at, emit_arg_count, param_count}
 use Rattle.sheet.specs.Tree.{take_nodes}
@@ -22,12 +25,11 @@ use Rattle.rules.specs.Assets.{wraps, reaches, event_slot}
 use Rattle.rules.specs.Standing.{expr_at, exprs_at, param_at, params_at, Loaded, Row}
 use Rattle.rules.proofs.Standing.{row_first, row_rest}
 use Rattle.rules.proofs.Records.{named, emit_at, event_at_lem, param_at_lem, no_params}
-use Rattle.rules.proofs.Rows.{exprs, row_some, list_some}
+use Rattle.rules.proofs.Rows.{exprs}
 use Rattle.rules.proofs.Rows as rows
 use Rattle.refusals.specs.Answers.{Answers}
 use Rattle.refusals.specs.Refusal.{refusal_of, done_of}
 use Rattle.refusals.specs.declared.refusal.Refusal.TheVariants.{ReachesEvent}
-use Rattle.refusals.specs.declared.refusal.Done.TheVariants.{Fine, Refused}
 use Rattle.refusals.proofs.Answers.{gives, then_fine, then_refused}
 use Rattle.lookups.proofs.Types.{type_name_lem}
 use Rattle.narrow.specs.Narrow.{most_of}
@@ -42,32 +44,36 @@ abbrev pub sides : (s S M : List ℕ) → (k body i args arg params param : ℕ)
 sides s S M k body i args arg params param =
     reaches_each (wrapped_names s S M k body) (name_at s S i) (list (exprs_at s args arg)) (params_at s params param)
 
--- no pair before these refuses
-pub record Emitting (s S M : List ℕ) (k body i event args arg params param : ℕ) : Type 0 where
+-- no pair before these refuses: the arguments that a goes over, side by side with the parameters that p goes over
+pub record Emitting (s S M : List ℕ) (k body i event : ℕ) (a p : Records) : Type 0 where
   pub emits : Emits s S k body i event
-  pub exprs : Row S grammar.Expr args arg
-  pub declared : Row S grammar.Param params param
-  pub rest : (r : Res Unit) → Answers (sides s S M k body i args arg params param) r
+  pub arg_lines : a.lines.now ≡ S
+  pub param_lines : p.lines.now ≡ S
+  pub exprs : Row S grammar.Expr a.left a.at
+  pub declared : Row S grammar.Param p.left p.at
+  pub rest : (r : Res Unit) → Answers (sides s S M k body i a.left a.at p.left p.at) r
       → Answers (sides s S M k body i (emit_arg_count S i) (suc i) (param_count S event) (suc event)) r
 
-pub emit_start : (s S M : List ℕ) (k body i event args params : ℕ) → Emits s S k body i event → args ≡ emit_arg_count S i → params ≡ param_count S event
-    → Emitting s S M k body i event args (i + 1) params (event + 1)
-emit_start s S M k body i event args params e a p =
+pub emit_start : (s S M : List ℕ) (k body i event args params : ℕ) (a p : Records) → Emits s S k body i event → args ≡ emit_arg_count S i → params ≡ param_count S event
+    → a.lines.now ≡ S → a.left ≡ args → a.at ≡ i + 1 → p.lines.now ≡ S → p.left ≡ params → p.at ≡ event + 1
+    → Emitting s S M k body i event a p
+emit_start s S M k body i event args params a p e x y u v w u' v' w' =
     let d = e.stmt.before.loaded in
-    rw (a, p, add-one i, add-one event)
-    (record {
+    record {
       emits = e;
-      exprs = (emit_at d e.stmt.here e.emits).1;
-      declared = (event_at_lem d e.within e.declares).1;
-      rest = λ r h. h;
-    })
+      arg_lines = u;
+      param_lines = u';
+      exprs = rw (v, x, w, add-one i) (emit_at d e.stmt.here e.emits).1;
+      declared = rw (v', y, w', add-one event) (event_at_lem d e.within e.declares).1;
+      rest = λ r h. rw (v, x, w, add-one i, v', y, w', add-one event) at h;
+    }
 
 each_none : (xs : List Name) (x : Name) (es : List Expr) → Answers (reaches_each xs x es []) (ok tt)
 unfolding reaches_each for_each zip
 each_none xs x [] = gives tt
 each_none xs x (e ∷ es) = gives tt
 
-module _ (s S M : List ℕ) (k body i event args arg params param : ℕ) (g : Emitting s S M k body i event args arg params param) where
+module _ (s S M : List ℕ) (k body i event : ℕ) (a p : Records) (g : Emitting s S M k body i event a p) where
   abbrev xs : List Name
   xs = wrapped_names s S M k body
 
@@ -77,26 +83,31 @@ module _ (s S M : List ℕ) (k body i event args arg params param : ℕ) (g : Em
   d : Loaded s S
   d = g.emits.stmt.before.loaded
 
-  pub emit_over : args ≤ 0 → Judged (done_of s Fine)
+  no_args : a.left ≡ 0 → Judged (done_of s (Ok tt))
   unfolding reaches_each for_each zip list exprs_at take_nodes exprs_of done_of
-  emit_over h = g.rest _ (rw (let z : args ≡ 0 = omega arith in z) (gives tt))
+  no_args h = g.rest _ (rw h (gives tt))
 
-  pub emit_short : params ≡ 0 → Judged (done_of s Fine)
+  no_params_left : p.left ≡ 0 → Judged (done_of s (Ok tt))
   unfolding done_of
-  emit_short h = g.rest _ (rw (h, no_params s param) (each_none xs (name_at s S i) (list (exprs_at s args arg))))
+  no_params_left h = g.rest _ (rw (h, no_params s p.at) (each_none xs (name_at s S i) (list (exprs_at s a.left a.at))))
 
-  module _ (h : 0 < args) (n : params ≢ 0) where
-    es : Row S grammar.Expr (suc (args - 1)) arg
-    es = row_some h g.exprs
+  -- no argument is left, or no parameter
+  pub emit_over : ((u : Records) × NextOf a None u) ⊎ ((u : Records) × NextOf p None u) → Judged (done_of s (Ok tt))
+  emit_over (inl h) = no_args h.1.0
+  emit_over (inr h) = no_params_left h.1.0
 
-    ps : Row S grammar.Param (suc (params - 1)) param
-    ps = row_some (omega arith) g.declared
+  module _ (arg param : ℕ) (b q : Records) (h : Steps a arg b) (l : Steps p param q) where
+    es : Row S grammar.Expr (suc b.left) arg
+    es = rw (← h.left, h.here) g.exprs
+
+    ps : Row S grammar.Param (suc q.left) param
+    ps = rw (← l.left, l.here) g.declared
 
     pub emit_value : After grammar.Expr s S k body arg
     emit_value = record { before = g.emits.stmt.before; here = row_first es }
 
     pub param_fits : length S < 18446744073709551616 → Fits w64 (param + 1)
-    param_fits l = record { fits = omega (arith, (row_first ps).within) }
+    param_fits n = record { fits = omega (arith, (row_first ps).within) }
 
     type-is : name_at s S (suc param) ≡ type_name (param_at s param).ty
     type-is =
@@ -106,27 +117,31 @@ module _ (s S M : List ℕ) (k body i event args arg params param : ℕ) (g : Em
 
     -- the first pair, and those behind it
     sides_next : (r : Res Unit)
-        → Answers (reaches xs (narrow_max (type_name (param_at s param).ty)) (expr_at s arg) (event_slot (name_at s S i)) >> sides s S M k body i (args - 1) (end_at S arg) (params - 1) (end_at S param)) r
-        → Answers (sides s S M k body i args arg params param) r
+        → Answers (reaches xs (narrow_max (type_name (param_at s param).ty)) (expr_at s arg) (event_slot (name_at s S i)) >> sides s S M k body i b.left (end_at S arg) q.left (end_at S param)) r
+        → Answers (sides s S M k body i a.left a.at p.left p.at) r
     unfolding reaches_each for_each zip ◌>>◌
-    sides_next r j = rw (list_some exprs d h g.exprs, list_some rows.params d (omega arith) g.declared) j
+    sides_next r j =
+        rw (h.left, l.left, ← h.here, ← l.here, exprs.first d b.left (row_first es).within, rows.params.first d q.left (row_first ps).within) j
 
-    module _ (y : Name) (w : ℕ) (b : Bool) (z : y ≡ name_at s S (param + 1)) (o : w ≡ most_of (narrow_max y)) (j : b ≡ (not (eqb w 0) && wraps xs (expr_at s arg))) where
+    module _ (y : Name) (w : ℕ) (v : Bool) (z : y ≡ name_at s S (param + 1)) (o : w ≡ most_of (narrow_max y)) (j : v ≡ (not (eqb w 0) && wraps xs (expr_at s arg))) where
       some_max : is_some (narrow_max (type_name (param_at s param).ty)) ≡ not (eqb w 0)
       some_max = rw (o, z, add-one param, type-is) (max_some (type_name (param_at s param).ty))
 
-      pub emit-refused : b ≡ true → Judged (done_of s (Refused (ReachesEvent i arg)))
+      pub emit-refused : v ≡ true → Judged (done_of s (Err (ReachesEvent i arg)))
       unfolding done_of refusal_of
-      emit-refused p =
+      emit-refused f =
           g.rest _ (sides_next _ (rw (named d g.emits.stmt.here.within)
-          (then_refused _ _ _ (reached xs _ _ (event_slot (name_at s S i)) w b some_max j p))))
+          (then_refused _ _ _ (reached xs _ _ (event_slot (name_at s S i)) w v some_max j f))))
 
-      pub emit_next : (arg' param' : ℕ) → b ≡ false → arg' ≡ end_at S arg → param' ≡ end_at S param → Emitting s S M k body i event (args - 1) arg' (params - 1) param'
-      emit_next arg' param' p u v =
-          rw (u, v)
-          (record {
+      pub emit_next : v ≡ false → Emitting s S M k body i event b q
+      emit_next f =
+          let m : b.at ≡ end_at S arg = h.behind ∙ rw (g.arg_lines, h.here) refl in
+          let n : q.at ≡ end_at S param = l.behind ∙ rw (g.param_lines, l.here) refl in
+          record {
             emits = g.emits;
-            exprs = row_rest es;
-            declared = row_rest ps;
-            rest = λ r a. g.rest r (sides_next r (then_fine _ _ tt r (unreached xs _ _ (event_slot (name_at s S i)) w b some_max j p) a));
-          })
+            arg_lines = h.lines ∙ g.arg_lines;
+            param_lines = l.lines ∙ g.param_lines;
+            exprs = rw m (row_rest es);
+            declared = rw n (row_rest ps);
+            rest = λ r x. g.rest r (sides_next r (then_fine _ _ tt r (unreached xs _ _ (event_slot (name_at s S i)) w v some_max j f) (rw (m, n) at x)));
+          }

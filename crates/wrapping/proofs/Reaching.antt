@@ -10,6 +10,7 @@ use native.Mathlib.Omega.{arith}
 use lib.Dec.{eqb, ltb}
 use lib.ListN.{get_elem?}
 use borrow.Author.Tests.{eq-eqb, ne_eqb, eqb-true, lt-ltb, ltb-true, not-true, not-false}
+use Rattle.std.specs.Prelude.{Ok, Err}
 use Rattle.text.specs.Text.{bytes, same}
 use Rattle.grammar.specs.Grammar as grammar
 use Rattle.sheet.specs.Scratch.{kind_at, end_at, name_at, call_arg_count}
@@ -29,7 +30,6 @@ use Rattle.rules.proofs.Records.{named, assign_at}
 use Rattle.refusals.specs.Answers.{Answers}
 use Rattle.refusals.specs.Refusal.{refusal_of, done_of}
 use Rattle.refusals.specs.declared.refusal.Refusal.TheVariants.{ReachesField, ReachesValues}
-use Rattle.refusals.specs.declared.refusal.Done.TheVariants.{Fine, Refused}
 use Rattle.refusals.proofs.Answers.{gives, fits, misfits}
 use Rattle.narrow.specs.Narrow.{most_of}
 use Rattle.narrow.proofs.Narrow.{field_some, values_some}
@@ -72,7 +72,7 @@ module _ (s S M : List ℕ) (k body i : ℕ) (a : After grammar.Stmt s S k body 
   abbrev Judged : Res Unit → Type 0
   Judged r = Answers (narrow_stmt (model_in s) xs (stmt_at s i)) r
 
-  pub assign_other : n ≢ kinds.id → Judged (done_of s Fine)
+  pub assign_other : n ≢ kinds.id → Judged (done_of s (Ok tt))
   unfolding narrow_stmt if_some done_of
   assign_other h = rw ((assign_at d a.here e).0, ident_at d (row_first parts), ← add-one i, ← q, ne_eqb n kinds.id h) (gives tt)
 
@@ -88,11 +88,11 @@ module _ (s S M : List ℕ) (k body i : ℕ) (a : After grammar.Stmt s S k body 
     some_field : is_some (narrow_field (model_in s) x) ≡ not (eqb w 0)
     some_field = rw f (field_some (model_in s) x)
 
-    pub assign_fine : b ≡ false → Judged (done_of s Fine)
+    pub assign_fine : b ≡ false → Judged (done_of s (Ok tt))
     unfolding done_of
     assign_fine p = assign-judged _ (unreached xs _ _ (field_slot x) w b some_field g p)
 
-    pub assign-refused : b ≡ true → Judged (done_of s (Refused (ReachesField (i + 1) v)))
+    pub assign-refused : b ≡ true → Judged (done_of s (Err (ReachesField (i + 1) v)))
     unfolding done_of refusal_of
     assign-refused p =
         let t : named_at s (i + 1) ≡ x = rw (add-one i) (named d (row_first parts).within) ∙ sym y in
@@ -173,7 +173,7 @@ module _ (s S M : List ℕ) (k body i : ℕ) (a : After grammar.Expr s S k body 
       (λ p. second_of ld (call_arg_count S i) (end_at S (suc i)) (row_rest (call_at_lem ld a.here (eqb-true _ _ p)).1))
 
   module _ (c : Bool) (e : c ≡ sets_at s S i) where
-    pub set_other : not c ≡ true → Set' (done_of s Fine)
+    pub set_other : not c ≡ true → Set' (done_of s (Ok tt))
     unfolding provided done_of
     set_other h = set_rule _ refl _ (rw (← e, not-true c h) (gives tt))
 
@@ -218,10 +218,10 @@ module _ (s S M : List ℕ) (k body i : ℕ) (a : After grammar.Expr s S k body 
         unfolding provided
         set-judged r z = set_rule x name-is r (rw (tests, ← second_at) z)
 
-        pub set_fine : b ≡ false → Set' (done_of s Fine)
+        pub set_fine : b ≡ false → Set' (done_of s (Ok tt))
         unfolding done_of
         set_fine p = set-judged _ (unreached ys _ _ (values_slot x) w b some_values j p)
 
-        pub set-refused : b ≡ true → Set' (done_of s (Refused (ReachesValues (i + 2) v)))
+        pub set-refused : b ≡ true → Set' (done_of s (Err (ReachesValues (i + 2) v)))
         unfolding done_of refusal_of
         set-refused p = set-judged _ (rw (map_named ∙ sym name-is) (reached ys _ _ (values_slot x) w b some_values j p))

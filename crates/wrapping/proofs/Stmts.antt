@@ -3,14 +3,19 @@ use mathlib.Core.Path.{ap, ◌≡◌, refl, sym, ◌∙◌}
 use mathlib.Core.Logic.{◌≢◌}
 use mathlib.Core.List.{List, ◌∷◌}
 use mathlib.Core.Bool.{◌&&◌, Bool, true, false, cond}
-use Prim.Native.Nat.{ℕ, zero, suc, ◌+◌, ◌-◌, ◌<◌, ◌≤◌}
+use Prim.Native.Nat.{ℕ, zero, suc, ◌+◌, ◌<◌, ◌≤◌}
 use native.Mathlib.Numerals.{add-one}
 use native.Mathlib.Omega.{arith}
+use mir.Syntax.{w64}
+use mir.Val.{Fits}
 use lib.Dec.{eqb}
 use lib.ListN.{length, get_or, set, length-set}
 use lib.Seq.{get_or-set_same, get_or-set_other}
 use borrow.Author.Tests.{ne_eqb}
+use Rattle.std.specs.Prelude.{Option, Some, None, Result, Ok, Err}
 use Rattle.grammar.specs.Grammar as grammar
+use Rattle.sheet.specs.Records.{Steps}
+use Rattle.sheet.specs.declared.records.Records.{Records}
 use Rattle.sheet.specs.Scratch.{kind_at, end_at, name_at, skip, line_count, param_count, body_count, clause_count}
 use Rattle.rules.specs.Text.{Name}
 use Rattle.rules.specs.Ast.{list}
@@ -24,11 +29,7 @@ use Rattle.rules.proofs.Records.{guard_at, let_at, emit_at, assign_at, do_at, ev
 use Rattle.refusals.specs.Answers.{Answers}
 use Rattle.lookups.specs.Found.{FoundKind}
 use Rattle.refusals.specs.Refusal.{refusal_of, done_of}
-use Rattle.lookups.specs.declared.model.Found.{Found}
-use Rattle.lookups.specs.declared.model.Found.TheVariants.{At, Nothing}
 use Rattle.refusals.specs.declared.refusal.Refusal.{Refusal}
-use Rattle.refusals.specs.declared.refusal.Done.{Done}
-use Rattle.refusals.specs.declared.refusal.Done.TheVariants.{Fine, Refused}
 use Rattle.refusals.proofs.Answers.{gives, then_fine, then_refused}
 use Rattle.lookups.specs.Event.{found_event, EventNamed}
 use Rattle.wrapping.specs.Lines.{FewEntry, After}
@@ -39,22 +40,22 @@ use Rattle.sheet.specs.Line.{most_lines}
 
 -- ------------------------------------------------------------ an `emit`
 
-module _ (s S M : List ℕ) (k body i : ℕ) (a : After grammar.Stmt s S k body i) (e : kind_at S i ≡ kinds.emit) (x : Name) (r : Found) (y : x ≡ name_at s S i) (f : EventNamed s S x r) where
+module _ (s S M : List ℕ) (k body i : ℕ) (a : After grammar.Stmt s S k body i) (e : kind_at S i ≡ kinds.emit) (x : Name) (r : Option ℕ) (y : x ≡ name_at s S i) (f : EventNamed s S x r) where
   abbrev Judged : Res Unit → Type 0
   Judged t = Answers (narrow_stmt (model_in s) (wrapped_names s S M k body) (stmt_at s i)) t
 
-  pub emit_none : r ≡ Nothing → Judged (done_of s Fine)
+  pub emit_none : r ≡ None → Judged (done_of s (Ok tt))
   unfolding narrow_stmt if_some done_of found_event
   emit_none q = rw ((emit_at a.before.loaded a.here e).0, ← y, ← f.found, q) (gives tt)
 
-  module _ (j : ℕ) (q : r ≡ At j) where
+  module _ (j : ℕ) (q : r ≡ Some j) where
     of_event : (j < line_count S) × (kind_at S j ≡ kinds.event)
-    of_event = let o : FoundKind S kinds.event (At j) = rw q at f.kind in o
+    of_event = let o : FoundKind S kinds.event (Some j) = rw q at f.kind in o
 
     pub emit-event : Emits s S k body i j
     emit-event = record { stmt = a; emits = e; within = of_event.0; declares = of_event.1 }
 
-    pub emit-judged : (t : Done) → Answers (reaches_each (wrapped_names s S M k body) (name_at s S i) (list (exprs_at s (param_count S i) (suc i))) (params_at s (param_count S j) (suc j))) (done_of s t) → Judged (done_of s t)
+    pub emit-judged : (t : Result Unit Refusal) → Answers (reaches_each (wrapped_names s S M k body) (name_at s S i) (list (exprs_at s (param_count S i) (suc i))) (params_at s (param_count S j) (suc j))) (done_of s t) → Judged (done_of s t)
     unfolding narrow_stmt if_some found_event reaches_each
     emit-judged t h = rw ((emit_at a.before.loaded a.here e).0, ← y, ← f.found, q, (event_at_lem a.before.loaded of_event.0 of_event.1).0, y) h
 
@@ -70,15 +71,15 @@ module _ (s S M : List ℕ) (k body i n : ℕ) (a : After grammar.Stmt s S k bod
   pub do_value : n ≡ kinds.do' → After grammar.Expr s S k body (i + 1)
   do_value h = record { before = a.before; here = rw (add-one i) (row_first (do_at a.before.loaded a.here (sym q ∙ h)).1) }
 
-  pub do_judged : (t : Done) → n ≡ kinds.do' → Answers (narrow_set (model_in s) (wrapped_names s S M k body) (expr_at s (i + 1))) (done_of s t) → Said (done_of s t)
+  pub do_judged : (t : Result Unit Refusal) → n ≡ kinds.do' → Answers (narrow_set (model_in s) (wrapped_names s S M k body) (expr_at s (i + 1))) (done_of s t) → Said (done_of s t)
   unfolding narrow_stmt
   do_judged t h j = rw ((do_at a.before.loaded a.here (sym q ∙ h)).0, ← add-one i) j
 
-  pub stmt_plain : n ≢ kinds.emit → n ≢ kinds.assign → n ≢ kinds.do' → Said (done_of s Fine)
+  pub stmt_plain : n ≢ kinds.emit → n ≢ kinds.assign → n ≢ kinds.do' → Said (done_of s (Ok tt))
   unfolding narrow_stmt done_of
   stmt_plain x y z =
       let d = a.before.loaded in
-      pick {P = λ m. n ≡ m → Said (done_of s Fine)} {i = kinds.guard} {n = 5} n
+      pick {P = λ m. n ≡ m → Said (done_of s (Ok tt))} {i = kinds.guard} {n = 5} n
       ((λ h. rw (guard_at d a.here (sym q ∙ h)).0 (gives tt))
       also (λ h. rw (let_at d a.here (sym q ∙ h)).0 (gives tt))
       also (λ h. absurd (x h))
@@ -170,75 +171,88 @@ module _ (s S : List ℕ) (i n : ℕ) (h : FewEntry s S i) (e : n ≡ body_count
   pub entry-within : i < line_count S
   entry-within = h.entry.within
 
-  pub no_body : n ≡ 0 → Answers (narrow_wrapping (model_in s) (entry_at s i)) (done_of s Fine)
+  pub no_body : n ≡ 0 → Answers (narrow_wrapping (model_in s) (entry_at s i)) (done_of s (Ok tt))
   unfolding narrow_wrapping narrow_stmts done_of
   no_body z = rw (at_entry.is, ← e, z, no_stmts) (gives tt)
 
--- no statement before the k-th refuses; the k-th of n stands at line at
-pub record Going (s S M : List ℕ) (i body n k at : ℕ) : Type 0 where
+-- no statement before the k-th of n refuses, and r goes over the others
+pub record Going (s S M : List ℕ) (i body n k : ℕ) (r : Records) : Type 0 where
   pub loaded : Loaded s S
   pub few : line_count S ≤ most_lines
   pub row : Row S grammar.Stmt n body
-  pub most : k ≤ n
-  pub here : at ≡ skip S k body
+  pub lines : r.lines.now ≡ S
+  pub left : k + r.left ≡ n
+  pub here : r.at ≡ skip S k body
   pub marks : length M ≡ most_lines
-  pub rest : (r : Res Unit) → Answers (narrow_stmts (model_in s) (wrapped_names s S M k body) (stmts_at s (n - k) at)) r
-      → Answers (narrow_wrapping (model_in s) (entry_at s i)) r
+  pub rest : (d : Res Unit) → Answers (narrow_stmts (model_in s) (wrapped_names s S M k body) (stmts_at s r.left r.at)) d
+      → Answers (narrow_wrapping (model_in s) (entry_at s i)) d
 
-pub go_start : (s S M : List ℕ) (i n body : ℕ) → FewEntry s S i → n ≡ body_count S i
-    → body ≡ skip S (clause_count S i) (skip S (param_count S i) (suc i)) → length M ≡ most_lines → Going s S M i body n 0 body
+pub go_start : (s S M : List ℕ) (i n body : ℕ) (r : Records) → FewEntry s S i → n ≡ body_count S i
+    → body ≡ skip S (clause_count S i) (skip S (param_count S i) (suc i)) → length M ≡ most_lines → r.lines.now ≡ S → r.left ≡ n → r.at ≡ body → Going s S M i body n 0 r
 unfolding narrow_wrapping wrapped_names skip
-go_start s S M i n body h e y w =
+go_start s S M i n body r h e y w l p q =
     let t = at_entry s S i n h e in
     record {
       loaded = h.entry.loaded;
       few = h.few;
       row = rw (e, y) t.body;
-      most = omega arith;
-      here = refl;
+      lines = l;
+      left = omega (arith, p);
+      here = q;
       marks = w;
-      rest = λ r j. rw (t.is, ← e, ← y) (rw (let q : n - 0 ≡ n = omega arith in q) at j);
+      rest = λ d j. rw (t.is, ← e, ← y) (rw (p, q) at j);
     }
 
-module _ (s S M : List ℕ) (i body n k at : ℕ) (g : Going s S M i body n k at) where
+module _ (s S M : List ℕ) (i body n k : ℕ) (r : Records) (g : Going s S M i body n k r) where
   abbrev Answered : Res Unit → Type 0
-  Answered r = Answers (narrow_wrapping (model_in s) (entry_at s i)) r
+  Answered d = Answers (narrow_wrapping (model_in s) (entry_at s i)) d
 
-  pub go_over : n ≤ k → Answered (done_of s Fine)
+  pub go_over : r.left ≡ 0 → Answered (done_of s (Ok tt))
   unfolding narrow_stmts done_of
-  go_over h = g.rest _ (rw (let q : n - k ≡ 0 = omega arith in q, no_stmts) (gives tt))
+  go_over h = g.rest _ (rw (h, no_stmts) (gives tt))
 
-  module _ (h : k < n) where
+  module _ (at : ℕ) (u : Records) (h : Steps r at u) where
+    at-skip : at ≡ skip S k body
+    at-skip = h.here ∙ g.here
+
+    some : k < n
+    some = omega (arith, g.left, h.left)
+
+    pub go_fits : n < 18446744073709551616 → Fits w64 (k + 1)
+    go_fits l = record { fits = omega (arith, some) }
+
     pub go_stmt : After grammar.Stmt s S k body at
     go_stmt =
         record {
-          before = record { loaded = g.loaded; few = g.few; row = row_take k (omega arith) g.row };
-          here = rw g.here (row_nth k h g.row);
+          before = record { loaded = g.loaded; few = g.few; row = row_take k (omega (arith, some)) g.row };
+          here = rw at-skip (row_nth k some g.row);
         }
 
-    module _ (t : Done) (f : Answers (narrow_stmt (model_in s) (wrapped_names s S M k body) (stmt_at s at)) (done_of s t)) where
-      turn : (r : Res Unit)
-          → Answers (narrow_stmt (model_in s) (wrapped_names s S M k body) (stmt_at s at) >> narrow_stmts (model_in s) (wrapped_after (wrapped_names s S M k body) (stmt_at s at)) (stmts_at s (n - (k + 1)) (end_at S at))) r
-          → Answered r
+    module _ (t : Result Unit Refusal) (f : Answers (narrow_stmt (model_in s) (wrapped_names s S M k body) (stmt_at s at)) (done_of s t)) where
+      turn : (d : Res Unit)
+          → Answers (narrow_stmt (model_in s) (wrapped_names s S M k body) (stmt_at s at) >> narrow_stmts (model_in s) (wrapped_after (wrapped_names s S M k body) (stmt_at s at)) (stmts_at s u.left (end_at S at))) d
+          → Answered d
       unfolding narrow_stmts
-      turn r j = g.rest r (rw (let q : n - k ≡ suc (n - (k + 1)) = omega arith in q, stmts_next g.loaded (n - (k + 1)) go_stmt.here.within) j)
+      turn d j = g.rest d (rw (h.left, ← h.here, stmts_next g.loaded u.left go_stmt.here.within) j)
 
-      pub go_refused : (why : Refusal) → t ≡ Refused why → Answered (done_of s (Refused why))
+      pub go_refused : (why : Refusal) → t ≡ Err why → Answered (done_of s (Err why))
       unfolding done_of
       go_refused why q = turn _ (then_refused _ _ (refusal_of s why) (rw q at f))
 
-      pub go_next : (N : List ℕ) (at' : ℕ) → t ≡ Fine → N ≡ marks_after s S M k body at → at' ≡ end_at S at → Going s S N i body n (k + 1) at'
+      pub go_next : (N : List ℕ) → t ≡ Ok tt → N ≡ marks_after s S M k body at → Going s S N i body n (k + 1) u
       unfolding done_of
-      go_next N at' q m l =
-          rw (m, l, add-one k)
+      go_next N q m =
+          let b : u.at ≡ end_at S at = h.behind ∙ rw (g.lines, h.here) refl in
+          rw (m, add-one k)
           (record {
             loaded = g.loaded;
             few = g.few;
             row = g.row;
-            most = omega arith;
-            here = rw g.here (sym (skip_next S k body));
-            marks = marks-length s S M k body at go_stmt g.here g.marks;
+            lines = h.lines ∙ g.lines;
+            left = omega (arith, g.left, h.left);
+            here = b ∙ rw at-skip (sym (skip_next S k body));
+            marks = marks-length s S M k body at go_stmt at-skip g.marks;
             rest =
-                λ r j. turn r (then_fine _ _ tt r (rw q at f)
-                (rw (← names-after s S M k body at go_stmt g.here g.marks, add-one k) j));
+                λ d j. turn d (then_fine _ _ tt d (rw q at f)
+                (rw (← names-after s S M k body at go_stmt at-skip g.marks, ← b) j));
           })

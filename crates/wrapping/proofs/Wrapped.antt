@@ -1,5 +1,5 @@
 -- Marked names, and the lines of a value that wraps. Assumes nothing.
-use mathlib.Core.Path.{◌≡◌, refl, sym, ap, ◌∙◌}
+use mathlib.Core.Path.{◌≡◌, refl, sym, ◌∙◌}
 use mathlib.Core.Logic.{◌≢◌}
 use mathlib.Core.List.{List, []}
 use mathlib.Core.Bool.{Bool, true, false, cond, ◌&&◌, ◌||◌, or_assoc, and-false, or-false}
@@ -12,6 +12,8 @@ use borrow.Author.Tests.{ne_eqb, ltb-true, ltb-false}
 use Rattle.text.specs.Text.{same}
 use Rattle.grammar.specs.Grammar as grammar
 use Rattle.sheet.specs.Scratch.{kind_at, end_at, name_at, skip, line_count}
+use Rattle.sheet.specs.Records.{Steps}
+use Rattle.sheet.specs.declared.records.Records.{Records}
 use Rattle.rules.specs.Text.{Name, among}
 use Rattle.rules.specs.Ast.{Exprs, expr_of}
 use Rattle.rules.specs.Assets.{wraps, wraps_any}
@@ -19,7 +21,6 @@ use Rattle.rules.specs.Typing.{ident_leaf, leaf_has}
 use Rattle.rules.specs.Standing.{expr_at, Loaded, Here, Row}
 use Rattle.rules.proofs.Lookups.{among_first}
 use Rattle.rules.proofs.Parts.{stop, ◌also◌, pick}
-use Rattle.rules.proofs.Rows.{row_some}
 use Rattle.rules.proofs.Standing.{stands, row_first, row_rest}
 use Rattle.rules.proofs.Exprs.{by_kind, leaf_at, dot_at_lem, call_at_lem}
 use Rattle.rules.proofs.Forest.{joined, parts_of}
@@ -67,43 +68,44 @@ among_wrapped s S M x (suc k) body =
     ∙ rw (among_wrapped s S M x k body, among_first x (name_at s S l) (wrapped_names s S M k (end_at S body)) (is_marked S M l))
     (or_swap (hit s S M x l) (hit s S M x body) (among x (wrapped_names s S M k (end_at S body))))
 
--- no statement before line at has the name, and left are to go
-pub record Seeking (s S M : List ℕ) (x : Name) (bound body left at : ℕ) : Type 0 where
-  pub stmts : Before s S left at
-  pub rest : among x (wrapped_names s S M bound body) ≡ among x (wrapped_names s S M left at)
+-- no statement before those that r goes over has the name
+pub record Seeking (s S M : List ℕ) (x : Name) (bound body : ℕ) (r : Records) : Type 0 where
+  pub lines : r.lines.now ≡ S
+  pub stmts : Before s S r.left r.at
+  pub rest : among x (wrapped_names s S M bound body) ≡ among x (wrapped_names s S M r.left r.at)
 
-pub seek_start : (s S M : List ℕ) (x : Name) (bound body : ℕ) → Before s S bound body → Seeking s S M x bound body bound body
-seek_start s S M x bound body b = record { stmts = b; rest = refl }
+pub seek_start : (s S M : List ℕ) (x : Name) (bound body : ℕ) (r : Records) → Before s S bound body → r.lines.now ≡ S → r.left ≡ bound → r.at ≡ body → Seeking s S M x bound body r
+seek_start s S M x bound body r b e p q = record { lines = e; stmts = rw (p, q) b; rest = rw (p, q) refl }
 
-module _ (s S M : List ℕ) (x : Name) (bound body left at : ℕ) (g : Seeking s S M x bound body left at) where
-  pub seek_over : left ≤ 0 → false ≡ among x (wrapped_names s S M bound body)
+module _ (s S M : List ℕ) (x : Name) (bound body : ℕ) (r : Records) (g : Seeking s S M x bound body r) where
+  pub seek_over : r.left ≡ 0 → false ≡ among x (wrapped_names s S M bound body)
   unfolding wrapped_names among
-  seek_over h = sym (g.rest ∙ rw (let e : left ≡ 0 = omega arith in e) refl)
+  seek_over h = sym (g.rest ∙ rw h refl)
 
-  module _ (h : 0 < left) where
-    row : Row S grammar.Stmt (suc (left - 1)) at
-    row = row_some h g.stmts.row
+  module _ (i : ℕ) (t : Records) (h : Steps r i t) where
+    row : Row S grammar.Stmt (suc t.left) i
+    row = rw (← h.left, h.here) g.stmts.row
 
-    pub seek_line : at < most_lines
+    behind : t.at ≡ end_at S i
+    behind = h.behind ∙ rw (g.lines, h.here) refl
+
+    pub seek_line : i < most_lines
     seek_line = omega (arith, (row_first row).within, g.stmts.few)
 
-    module _ (b : Bool) (e : b ≡ hit s S M x at) where
-      turn : among x (wrapped_names s S M bound body) ≡ (b || among x (wrapped_names s S M (left - 1) (end_at S at)))
-      turn =
-          g.rest
-          ∙ ap (λ k. among x (wrapped_names s S M k at)) (let y : left ≡ suc (left - 1) = omega arith in y)
-          ∙ rw e (among_wrapped s S M x (left - 1) at)
+    module _ (b : Bool) (e : b ≡ hit s S M x i) where
+      turn : among x (wrapped_names s S M bound body) ≡ (b || among x (wrapped_names s S M t.left (end_at S i)))
+      turn = g.rest ∙ rw (h.left, ← h.here, e) (among_wrapped s S M x t.left i)
 
       pub seek_found : b ≡ true → true ≡ among x (wrapped_names s S M bound body)
       seek_found q = sym (turn ∙ rw q refl)
 
-      pub seek_next : (at' : ℕ) → b ≡ false → at' ≡ end_at S at → Seeking s S M x bound body (left - 1) at'
-      seek_next at' q n =
-          rw n
-          (record {
-            stmts = record { loaded = g.stmts.loaded; few = g.stmts.few; row = row_rest row };
-            rest = turn ∙ rw q refl;
-          })
+      pub seek_next : b ≡ false → Seeking s S M x bound body t
+      seek_next q =
+          record {
+            lines = h.lines ∙ g.lines;
+            stmts = record { loaded = g.stmts.loaded; few = g.stmts.few; row = rw behind (row_rest row) };
+            rest = turn ∙ rw (q, behind) refl;
+          }
 
 -- ------------------------------------------------------------ one line of a value
 

@@ -8,30 +8,25 @@ ghost use Rattle.wrapping.specs.Lines.{FewEntry};
 use crate::marks::mark;
 use crate::reach::narrow_stmt;
 use lookups::body_line;
-use refusals::Done;
-use sheet::{body_count, end, limits};
+use refusals::Refusal;
+use sheet::{LoadedSheet, body_count, limits};
 
 // The entry at line i: no wrapping value reaches a narrow slot.
-pub fn narrow_wrapping(sheet: &[u8], lines: &[u16], i: usize) -> Done
-    requires { FewEntry sheet.now lines.now i }
-    ensures { Answers (narrow_wrapping (model_in sheet.now) (entry_at sheet.now i)) (done_of sheet.now result) }
+pub fn narrow_wrapping(sheet: &LoadedSheet<'_>, i: usize) -> Result<(), Refusal>
+    requires { FewEntry sheet.now.bytes.now sheet.now.lines.now i }
+    ensures { Answers (narrow_wrapping (model_in sheet.now.bytes.now) (entry_at sheet.now.bytes.now i)) (done_of sheet.now.bytes.now result) }
 {
-    let n = body_count(lines, i);
+    let n = body_count(sheet.lines, i);
     if n == 0 {
-        return Done::Fine;
+        return Ok(());
     }
-    let body = body_line(lines, i);
+    let body = body_line(sheet.lines, i);
     let mut marks = [0u8; limits::MOST_LINES];
-    let mut at = body;
-    let mut k = 0;
-    while k < n {
-        let judged = narrow_stmt(sheet, lines, &marks, body, k, at);
-        if let Done::Refused(why) = judged {
-            return Done::Refused(why);
-        }
-        mark(sheet, lines, &mut marks, body, k, at);
-        at = end(lines, at);
-        k += 1;
+    let mut bound = 0;
+    for at in sheet.records(body, n) {
+        narrow_stmt(sheet, &marks, body, bound, at)?;
+        mark(sheet, &mut marks, body, bound, at);
+        bound += 1;
     }
-    Done::Fine
+    Ok(())
 }

@@ -2,12 +2,11 @@
 use mathlib.Core.Path.{◌≡◌, refl, sym, ap, ◌∙◌}
 use mathlib.Core.List.{List, [], ◌∷◌, ◌++◌, append-nil}
 use mathlib.Core.Bool.{Bool, true, false, cond}
-use Prim.Native.Nat.{ℕ, zero, suc, ◌+◌, ◌-◌, ◌≤◌, ◌<◌}
-use native.Mathlib.Numerals.{add-one}
+use Prim.Native.Nat.{ℕ, zero, suc, min, ◌+◌, ◌-◌, ◌≤◌, ◌<◌}
 use native.Mathlib.Omega.{arith}
 use lib.Dec.{leb}
-use lib.ListN.{length, get_or, set, take, drop, length-append, length-drop, drop_of_length-le, take-append-drop}
-use lib.Seq.{take-suc, length-take-le, take_all}
+use lib.ListN.{length, set, take, drop, length-append, length-drop, drop_of_length-le}
+use lib.Seq.{take_all}
 use borrow.Rule.Slice.PartMut.{put_mid, mid_of}
 use borrow.Author.Tests.{le-leb, leb-true, leb-false}
 use Rattle.writing.specs.Writing.{MOST, told_as, overlay, Adds}
@@ -123,27 +122,14 @@ says t u v B a U b X c W d l x y z =
 
 -- ------------------------------------------------------------ a piece
 
-pub put_none : (B p : List ℕ) → B ≡ overlay B 0 (take 0 p)
-put_none B p = sym (overlay_none B 0)
-
--- A turn of `put`: U is the rest so far, B as it was, and i the place of the turn.
-module _ (B p U : List ℕ) (i : ℕ) (e : U ≡ overlay B 0 (take i p)) where
-  put_next : (t : List ℕ) → i ≤ length p → overlay U i t ≡ overlay B 0 (take i p ++ t)
-  put_next t h =
-      let q : i ≡ 0 + length (take i p) = omega (arith, length-take-le i p h) in
-      ap (λ k. overlay U k t) q ∙ ap (λ x. overlay x (0 + length (take i p)) t) e ∙ overlay_both B 0 (take i p) t
-
-  pub put_more : i < length p → set U i (get_or p i 0) ≡ overlay B 0 (take (i + 1) p)
-  put_more h = sym (overlay_one U i (get_or p i 0)) ∙ put_next (get_or p i 0 ∷ []) (omega arith) ∙ rw (add-one i, take-suc p i 0 h) refl
-
-  pub put_full : i < length p → length U ≤ i → U ≡ overlay B 0 p
-  put_full h k = sym (overlay_beyond U i (drop i p) k) ∙ put_next (drop i p) (omega arith) ∙ ap (overlay B 0) (take-append-drop i p)
-
-  pub put_over : length p ≤ i → U ≡ overlay B 0 p
-  put_over h = e ∙ ap (overlay B 0) (take_all i p h)
-
-  pub put_same : length U ≡ length B
-  put_same = ap length e ∙ overlay-length B 0 (take i p)
+pub put_part : (n : ℕ) (B p : List ℕ) → n ≡ min (length B) (length p) → take n p ++ drop n B ≡ overlay B 0 p
+unfolding overlay
+put_part zero [] p e = refl
+put_part zero (b ∷ B) [] e = refl
+put_part zero (b ∷ B) (c ∷ p) e = absurd (omega (arith, e))
+put_part (suc n) [] p e = absurd (omega (arith, e))
+put_part (suc n) (b ∷ B) [] e = absurd (omega (arith, e))
+put_part (suc n) (b ∷ B) (c ∷ p) e = ap (λ U. c ∷ U) (put_part n B p (omega (arith, e)))
 
 -- What `write` meets: the place is beyond the buffer's end, or y is what `put` left of the rest.
 module _ (B : List ℕ) (a : ℕ) (p : List ℕ) where

@@ -59,7 +59,7 @@ module _ (t : List ℕ) (start left : ℕ) (r : List ℕ) (e : r ≡ digits star
   pub turn_more : left / 10 ≢ 0 → r ≡ digits (start - 1) (left / 10) ++ drop (start - 1) (set t (start - 1) (48 + left % 10))
   turn_more z = here ∙ rw (digits_more (start - 1) left z, append_assoc, there) refl
 
-pub turn_over : (t : List ℕ) (start left : ℕ) (r : List ℕ) → r ≡ digits start left ++ drop start t → start ≤ 0 → drop start t ≡ r
+pub turn_over : (t : List ℕ) (start left : ℕ) (r : List ℕ) → r ≡ digits start left ++ drop start t → start ≤ 0 → t ≡ r
 unfolding digits
 turn_over t start left r e h = sym (e ∙ rw (let q : start ≡ 0 = omega arith in q))
 

@@ -2,15 +2,19 @@
 use mathlib.Core.Path.{◌≡◌, refl, sym, ap, ◌∙◌, subst}
 use mathlib.Core.Logic.{◌≢◌}
 use mathlib.Core.List.{List, [], ◌∷◌, ◌++◌, append_assoc, append-nil}
-use mathlib.Core.Bool.{Bool, true, false, ◌&&◌, ◌||◌, true≢false, and-eq-true_iff}
+use mathlib.Core.Bool.{Bool, true, false, not, cond, ◌&&◌, ◌||◌, true≢false, and-eq-true_iff}
 use mathlib.Core.Option.{Option, none, some}
 use Prim.Native.Nat.{ℕ, suc, ◌+◌, ◌-◌, ◌*◌, ◌/◌, ◌%◌, ◌^◌, ◌≤◌, ◌<◌}
 use native.Mathlib.Numerals.{add-one}
 use native.Mathlib.Omega.{arith}
-use lib.Dec.{eqb, leb}
+use lib.Dec.{eqb, leb, ltb}
 use lib.ListN.{length, take, drop, get_or, length-drop, drop_of_length-le}
 use lib.Seq.{drop-cons, take-suc, take_all}
-use borrow.Author.Tests.{ne_eqb, eqb-true, leb-true, leb-false}
+use borrow.Author.Tests.{ne_eqb, eqb-true, leb-true, leb-false, ltb-false}
+use Rattle.std.specs.Prelude.{Some, None, position}
+use Rattle.std.specs.Option.{unwrap_or}
+use Rattle.std.specs.List.{position_or_len}
+use Rattle.std.proofs.lemmas.List.Sums.{prefix_len-le-length}
 use Rattle.text.specs.Text.{all}
 use Rattle.text.specs.Field.{digit, plain, letter, value_from}
 use Rattle.text.proofs.Fields.{digit_range}
@@ -139,20 +143,38 @@ counts (b ∷ bs) = counts_step b bs (counts bs)
 
 -- ------------------------------------------------------------ `start_of`
 
-counting-is : (b : ℕ) (bs : List ℕ) (t : Bool) → zero_digit b ≡ t → counting (b ∷ bs) ≡ elim t as (λ _. List ℕ) [ true ↦ counting bs | false ↦ b ∷ bs ]
+-- the bytes that `start_of` looks for
+abbrev pub counts_byte : ℕ → Bool
+counts_byte b = not (zero_digit b)
+
+counting_at : (t : List ℕ) → drop (position_or_len counts_byte t) t ≡ counting t
 unfolding counting
-counting-is b bs t e = ap (λ t. elim t as (λ _. List ℕ) [ true ↦ counting bs | false ↦ b ∷ bs ]) e
+counting_at [] = refl
+counting_at (b ∷ bs) = by_cases (zero_digit b) (counting_at bs)
+  where
+    n : ℕ
+    n = position_or_len counts_byte bs
 
-module _ (t : List ℕ) (i : ℕ) (e : counting t ≡ counting (drop i t)) where
-  pub start_stop : zero_digit (get_or t i 0) ≡ false → i < length t → drop i t ≡ counting t
-  start_stop f h = sym (e ∙ rw (drop-cons t i 0 h) (counting-is (get_or t i 0) (drop (suc i) t) false f))
+    by_cases : (z : Bool) → drop n bs ≡ counting bs → drop (cond (not (not z)) (1 + n) 0) (b ∷ bs) ≡ elim z as (λ _. List ℕ) [ true ↦ counting bs | false ↦ b ∷ bs ]
+    by_cases true e = rw (let q : 1 + n ≡ suc n = omega arith in q) e
+    by_cases false e = refl
 
-  pub start_more : zero_digit (get_or t i 0) ≡ true → i < length t → counting t ≡ counting (drop (i + 1) t)
-  start_more f h = e ∙ rw (add-one, drop-cons t i 0 h) (counting-is (get_or t i 0) (drop (suc i) t) true f)
+module _ (t : List ℕ) (r : ℕ) (e : r ≡ unwrap_or (position counts_byte t) (length t)) where
+  start_at : r ≡ position_or_len counts_byte t
+  start_at = e ∙ by_cases (ltb n (length t)) refl
+    where
+      n : ℕ
+      n = position_or_len counts_byte t
 
-  pub start_over : length t ≤ i → drop i t ≡ counting t
-  unfolding counting
-  start_over h = sym (e ∙ rw (drop_of_length-le t h) refl)
+      by_cases : (z : Bool) → ltb n (length t) ≡ z → unwrap_or (cond z (Some n) None) (length t) ≡ n
+      by_cases true f = refl
+      by_cases false f = omega (arith, ltb-false n (length t) f, prefix_len-le-length (λ b. not (counts_byte b)) t)
+
+  pub start_counts : drop r t ≡ counting t
+  start_counts = ap (λ k. drop k t) start_at ∙ counting_at t
+
+  pub start_within : r ≤ length t
+  start_within = rw start_at (prefix_len-le-length (λ b. not (counts_byte b)) t)
 
 -- ------------------------------------------------------------ `add_digits`
 
@@ -178,12 +200,10 @@ module _ (t B : List ℕ) (a : ℕ) (U : List ℕ) (b i : ℕ) (x : Adds (no_und
   digits-skip e h =
       rw (add-one i, take-suc t i 0 h, e, no_underscores_append (take i t) (95 ∷ []), append-nil (no_underscores (take i t))) x
 
-  pub digits_add : (W : List ℕ) (c : ℕ) → length B < 18446744073709551616 → get_or t i 0 ≢ 95 → i < length t → Adds (take (i + 1 - i) (drop i t)) U b W c → Adds (no_underscores (take (i + 1) t)) B a W c
+  pub digits_add : (W : List ℕ) (c : ℕ) → length B < 18446744073709551616 → get_or t i 0 ≢ 95 → i < length t → Adds (get_or t i 0 ∷ []) U b W c → Adds (no_underscores (take (i + 1) t)) B a W c
   unfolding no_underscores
   digits_add W c l e h y =
-      let p : take (i + 1 - i) (drop i t) ≡ get_or t i 0 ∷ [] = rw (let q : i + 1 - i ≡ 1 = omega arith in q, drop-cons t i 0 h) refl in
-      let z : Adds (get_or t i 0 ∷ []) U b W c = rw p at y in
-      rw (add-one i, take-suc t i 0 h, no_underscores_append (take i t) (get_or t i 0 ∷ []), no_underscore (get_or t i 0) [] e) (both (no_underscores (take i t)) (get_or t i 0 ∷ []) B a U b W c l x z)
+      rw (add-one i, take-suc t i 0 h, no_underscores_append (take i t) (get_or t i 0 ∷ []), no_underscore (get_or t i 0) [] e) (both (no_underscores (take i t)) (get_or t i 0 ∷ []) B a U b W c l x y)
 
   pub digits_over : length t ≤ i → Adds (no_underscores t) B a U b
   digits_over h = rw (take_all i t h) at x

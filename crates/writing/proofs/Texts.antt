@@ -9,9 +9,8 @@ use lib.Dec.{leb}
 use lib.ListN.{length}
 use borrow.Author.Tests.{leb-true}
 use Rattle.text.specs.Text.{all}
-use Rattle.text.specs.Field.{plain, is_plain, is_name, is_text}
-use Rattle.text.specs.declared.field.Number.{Number}
-use Rattle.text.specs.declared.field.Number.TheVariants.{Is, Bad}
+use Rattle.std.specs.Prelude.{Some, None}
+use Rattle.text.specs.Field.{Number, plain, is_plain, is_name, is_text}
 use Rattle.grammar.specs.Grammar.{Sort, Rule, span, name, text, assign_op, un_op, bin_op, count, flag, record_of, kind_for}
 use Rattle.sheet.specs.Line.{Line, with_name, begun, when, on_number, read_field, read_fields, and_then, good, read_pieces, read_line, fields_of}
 use Rattle.sheet.specs.Load.{LoadResult as Load, lines, refused, lines_of, scan}
@@ -22,7 +21,8 @@ use Rattle.sheet.specs.Tree.{node, Nodes}
 use Rattle.sheet.proofs.Holds.{judged_lines}
 use Rattle.sheet.proofs.Loaded.{built, every_first, every_line}
 use Rattle.sheet.proofs.ReadAs.{read_as_lem}
-use Rattle.rules.specs.Standing.{read_lines, lines_in, drop_lines, trees_from, Loaded}
+use Rattle.rules.specs.Standing.{drop_lines, trees_from, Loaded}
+use Rattle.sheet.specs.Loaded.{read_lines, lines_in}
 use Rattle.rules.proofs.Standing.{Stands, stands, spells_before}
 use Rattle.grammar.specs.Kinds as kinds
 
@@ -49,8 +49,8 @@ when_some false l m e = absurd (let z : ◌≡◌ {A = ℕ} 0 1 = cc in omega ar
 
 number_some : (v : Number) (f : ℕ → Line) (m : Line) → on_number v f ≡ some m → (n : ℕ) × (m ≡ f n)
 unfolding on_number
-number_some (Is v) f m e = (v, let q : f v ≡ m = cc in sym q)
-number_some Bad f m e = absurd (let z : ◌≡◌ {A = ℕ} 0 1 = cc in omega arith)
+number_some (Some v) f m e = (v, let q : f v ≡ m = cc in sym q)
+number_some None f m e = absurd (let z : ◌≡◌ {A = ℕ} 0 1 = cc in omega arith)
 
 -- a line of kind k with some of its fields read
 abbrev Begun : ℕ → Line → Type 0

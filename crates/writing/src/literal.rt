@@ -12,14 +12,9 @@ fn start_of(text: &[u8]) -> usize
     ensures text_value { drop result text.now ≡ counting text.now }
     ensures upper_bound { result ≤ length text.now }
 {
-    let mut i = 0;
-    while i < text.len() {
-        if !zero_digit(text[i]) {
-            return i;
-        }
-        i += 1;
-    }
-    i
+    text.iter()
+        .position(|b| !zero_digit(*b))
+        .unwrap_or(text.len())
 }
 
 // Adds a text without its underscores.
@@ -27,14 +22,11 @@ fn add_digits(buffer: &mut [u8], at: usize, text: &[u8]) -> usize
     ensures { Adds (no_underscores text.now) buffer.old at buffer.new result }
 {
     let mut end = at;
-    let mut i = 0;
-    while i < text.len() {
-        if text[i] == b'_' {
-            i += 1;
+    for &b in text {
+        if b == b'_' {
             continue;
         }
-        end = add(buffer, end, &text[i..i + 1]);
-        i += 1;
+        end = add(buffer, end, &[b]);
     }
     end
 }

@@ -18,17 +18,15 @@ fn decimal_of(n: u64) -> Digits
     ensures text_len { length result.text ≡ 20 }
 {
     let mut text = [0u8; 20];
-    let mut start: usize = 20;
     let mut left = n;
-    while 0 < start {
-        start -= 1;
+    for start in (0..20).rev() {
         text[start] = 48 + ((left % 10) as u8);
-        left = left / 10;
+        left /= 10;
         if left == 0 {
             return Digits { text, start };
         }
     }
-    Digits { text, start }
+    Digits { text, start: 0 }
 }
 
 // Adds the decimal digits of n.

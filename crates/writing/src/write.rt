@@ -9,14 +9,8 @@ const MOST: usize = 18446744073709551615;
 fn put(rest: &mut [u8], piece: &[u8])
     ensures { rest.new ≡ overlay rest.old 0 piece.now }
 {
-    let mut i = 0;
-    while i < piece.len() {
-        if rest.len() <= i {
-            return;
-        }
-        rest[i] = piece[i];
-        i += 1;
-    }
+    let n = rest.len().min(piece.len());
+    rest[..n].copy_from_slice(&piece[..n]);
 }
 
 // Writes the piece into the rest of the buffer from `at` on.

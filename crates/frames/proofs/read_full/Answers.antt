@@ -1,6 +1,6 @@
-use Rattle.std.proofs.Common.{◌≡◌, ◌≤◌, ℕ, ◌+◌, List, ◌++◌, rules, length, take, sym, ap, ◌∙◌, subst, le_refl, drop_at, length-take-le, take-add, drop}
+use Rattle.std.proofs.Common.{◌≡◌, ◌≤◌, ℕ, ◌+◌, List, ◌++◌, rules, length, take, sym, subst, length-take-le}
+use Rattle.std.proofs.Math.Seq.{take-append-add}
 use Rattle.std.proofs.lemmas.List.{take-append-le}
-use Rattle.std.proofs.lemmas.Slice.{take-put_mid_below}
 use Rattle.std.proofs.KnownBytes.{Consumes-trans}
 use Rattle.std.specs.Io.KnownBytes.{Consumes}
 use borrow.Rule.Slice.PartMut.{put_mid, post_of}
@@ -10,10 +10,8 @@ use Rattle.frames.proofs.read_full.Goals as goal
 take_filled : (a k n : ℕ) (xs ys : List ℕ) → a ≤ length xs → n ≤ length ys → take (a + n) (put_mid a k xs ys) ≡ take a xs ++ take n ys
 take_filled a k n xs ys within fits =
     let after = post_of a k xs in
-    take-add a n (put_mid a k xs ys)
-    ∙ ap (λ l. l ++ take n (drop a (put_mid a k xs ys))) (take-put_mid_below a k xs ys a (le_refl a) within)
-    ∙ ap (λ l. take a xs ++ take n l) (drop_at (take a xs) (ys ++ after) a (length-take-le a xs within))
-    ∙ ap (λ l. take a xs ++ l) (take-append-le n ys after fits)
+    let seam = rw (length-take-le a xs within) at (take-append-add (take a xs) (ys ++ after) n) in
+    rw (take-append-le n ys after fits) at seam
 
 pub loop-count-preserved : goal.loop-count-preserved
 loop-count-preserved g c = record {

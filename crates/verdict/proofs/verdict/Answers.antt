@@ -8,14 +8,14 @@ overflow_mul-n c = search (rules, cells_fit)
 pub slice_bounds-judge_lines-end : goal.slice_bounds-judge_lines-end
 slice_bounds-judge_lines-end c = search (rules, cells_within)
 
-pub slice_bounds-judge_lines-end-in-Lines : goal.slice_bounds-judge_lines-end-in-Lines
-slice_bounds-judge_lines-end-in-Lines c = search (rules, cells_length)
+pub slice_bounds-judge_lines-end-in-Ok : goal.slice_bounds-judge_lines-end-in-Ok
+slice_bounds-judge_lines-end-in-Ok c = search (rules, cells_length)
 
-pub slice_bounds-judge_lines-end-in-Lines-2 : goal.slice_bounds-judge_lines-end-in-Lines-2
-slice_bounds-judge_lines-end-in-Lines-2 c = search (rules, table_within)
+pub slice_bounds-judge_lines-end-in-Ok-2 : goal.slice_bounds-judge_lines-end-in-Ok-2
+slice_bounds-judge_lines-end-in-Ok-2 c = search (rules, table_within)
 
-pub slice_bounds-judge_lines-end-in-Lines-3 : goal.slice_bounds-judge_lines-end-in-Lines-3
-slice_bounds-judge_lines-end-in-Lines-3 c = search (rules, table_length)
+pub slice_bounds-judge_lines-end-in-Ok-3 : goal.slice_bounds-judge_lines-end-in-Ok-3
+slice_bounds-judge_lines-end-in-Ok-3 c = search (rules, table_length)
 
 pub judge_lines-requires : goal.judge_lines-requires
 judge_lines-requires c = search (rules, exact)
@@ -23,8 +23,8 @@ judge_lines-requires c = search (rules, exact)
 pub overflow_cast-result : goal.overflow_cast-result
 overflow_cast-result c = search (rules, place_fits)
 
-pub returns-in-Lines : goal.returns-in-Lines
-returns-in-Lines c = record { equals_outcome = search (rules, outcome_lines); message_fits = search (rules, outcome_lines) }
+pub returns-in-Ok : goal.returns-in-Ok
+returns-in-Ok c = record { equals_outcome = search (rules, outcome_lines); message_fits = search (rules, outcome_lines) }
 
-pub returns-in-Refused : goal.returns-in-Refused
-returns-in-Refused c = record { equals_outcome = search (rules, outcome-refused); message_fits = search (rules, outcome-refused) }
+pub returns-in-Err : goal.returns-in-Err
+returns-in-Err c = record { equals_outcome = search (rules, outcome-refused); message_fits = search (rules, outcome-refused) }

@@ -3,8 +3,5 @@ use Rattle.rules.specs.Standing.{entry_at}
 use Rattle.arithmetic.proofs.Rows.{Clauses}
 use Rattle.arithmetic.proofs.limits.limits_bound.Given as goal
 
-abbrev pub invariant-loop-left : goal.invariant-loop-left
-invariant-loop-left l = Clauses l.sheet l.lines (limits_cap l.x) (limits_bound (entry_at l.sheet l.entry) l.x) l.left l.at
-
-abbrev pub decreases-loop-left : goal.decreases-loop-left
-decreases-loop-left l = l.left
+abbrev pub invariant-loop-at : goal.invariant-loop-at
+invariant-loop-at l = Clauses l.sheet.bytes.now l.sheet.lines.now (limits_cap l.x) (limits_bound (entry_at l.sheet.bytes.now l.entry) l.x) l.at-iterator

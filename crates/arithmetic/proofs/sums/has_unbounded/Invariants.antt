@@ -7,7 +7,7 @@ use Rattle.arithmetic.proofs.Terms.{Unbounded}
 use Rattle.arithmetic.proofs.sums.has_unbounded.Given as goal
 
 abbrev pub invariant-loop-at : goal.invariant-loop-at
-invariant-loop-at l = Unbounded l.sheet l.lines (entry_at l.sheet l.entry) (expr_at l.sheet l.target) l.due (any (λ t. not (bounded (entry_at l.sheet l.entry) t)) (others l.own (expr_at l.sheet l.target) (sum_terms (expr_at l.sheet l.value)))) l.stop l.at
+invariant-loop-at l = Unbounded l.sheet.bytes.now l.sheet.lines.now (entry_at l.sheet.bytes.now l.entry) (expr_at l.sheet.bytes.now l.target) l.due (any (λ t. not (bounded (entry_at l.sheet.bytes.now l.entry) t)) (others l.own (expr_at l.sheet.bytes.now l.target) (sum_terms (expr_at l.sheet.bytes.now l.value)))) l.stop l.at
 
 abbrev pub decreases-loop-at : goal.decreases-loop-at
 decreases-loop-at l = l.stop - l.at

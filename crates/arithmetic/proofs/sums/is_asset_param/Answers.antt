@@ -1,33 +1,18 @@
 use Rattle.lookups.proofs.Rows.{seeks}
-use Rattle.arithmetic.proofs.Rows.{entry_next, assets_start}
+use Rattle.arithmetic.proofs.Rows.{assets_start}
 use Rattle.arithmetic.proofs.sums.is_asset_param.Goals as goal
 
-pub overflow_add-at : goal.overflow_add-at
-overflow_add-at c = search (seeks, entry_next)
-
-pub param_count-left-requires : goal.param_count-left-requires
-param_count-left-requires c = search seeks
-
-pub loop-left-init : goal.loop-left-init
-loop-left-init c = search (seeks, assets_start)
+pub loop-at-init : goal.loop-at-init
+loop-at-init c = assets_start _ _ _ _ _ c.requires (cc) (cc) (cc)
 
 pub is_asset-requires : goal.is_asset-requires
-is_asset-requires c = search seeks
+is_asset-requires c = search (seeks, c.in-Some.ensures.steps)
 
 pub returns-then-is_asset : goal.returns-then-is_asset
-returns-then-is_asset c = search seeks
+returns-then-is_asset c = search (seeks, c.in-Some.ensures.steps)
 
-pub end-at-requires : goal.end-at-requires
-end-at-requires c = search seeks
-
-pub overflow_sub-left : goal.overflow_sub-left
-overflow_sub-left c = search seeks
-
-pub loop-left-smaller : goal.loop-left-smaller
-loop-left-smaller c = search seeks
-
-pub loop-left-preserved : goal.loop-left-preserved
-loop-left-preserved c = search seeks
+pub loop-at-preserved : goal.loop-at-preserved
+loop-at-preserved c = search (seeks, c.in-Some.ensures.steps)
 
 pub returns : goal.returns
-returns c = search seeks
+returns c = search (seeks, c.in-None.ensures.steps)

@@ -1,6 +1,6 @@
 use borrow.Author.Rules.{rules}
 use Rattle.arithmetic.proofs.Rows.{entry_next}
-use Rattle.arithmetic.proofs.Bounds.{params_stretch, a_param, no_param}
+use Rattle.arithmetic.proofs.Bounds.{params_stretch, a_param}
 use Rattle.arithmetic.proofs.sums.is_param.Goals as goal
 
 pub overflow_add-entry : goal.overflow_add-entry
@@ -9,8 +9,5 @@ overflow_add-entry c = search (rules, entry_next)
 pub last_named-requires : goal.last_named-requires
 last_named-requires c = search (rules, params_stretch)
 
-pub returns-in-At : goal.returns-in-At
-returns-in-At c = search (rules, a_param)
-
-pub returns-in-Nothing : goal.returns-in-Nothing
-returns-in-Nothing c = search (rules, no_param)
+pub returns : goal.returns
+returns c = search (rules, a_param)

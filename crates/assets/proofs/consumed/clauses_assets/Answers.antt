@@ -1,32 +1,18 @@
+use Rattle.refusals.proofs.Answers.{handed_on}
 use Rattle.lookups.proofs.Rows.{turns}
 use Rattle.assets.proofs.consumed.clauses_assets.Goals as goal
 
-pub loop-left-init : goal.loop-left-init
-loop-left-init c = search turns
+pub loop-at-init : goal.loop-at-init
+loop-at-init c = search turns
 
-pub clause_assets-judged-requires : goal.clause_assets-judged-requires
-clause_assets-judged-requires c = search turns
+pub clause_assets-requires : goal.clause_assets-requires
+clause_assets-requires c = search (turns, c.in-Some.ensures.steps)
 
-pub enum_known-judged : goal.enum_known-judged
-enum_known-judged c = search turns
+pub returns-in_err-clause_assets : goal.returns-in_err-clause_assets
+returns-in_err-clause_assets c = rw (handed_on _ _ c.from_residual.ensures) (search (turns, c.in-Some.ensures.steps, c.in_err-clause_assets.was))
 
-pub returns-in-Refused : goal.returns-in-Refused
-returns-in-Refused c = search turns
-
-pub enum_told-1 : goal.enum_told-1
-enum_told-1 c = search turns
-
-pub end-at-requires : goal.end-at-requires
-end-at-requires c = search turns
-
-pub overflow_sub-left : goal.overflow_sub-left
-overflow_sub-left c = search turns
-
-pub loop-left-smaller : goal.loop-left-smaller
-loop-left-smaller c = search turns
-
-pub loop-left-preserved : goal.loop-left-preserved
-loop-left-preserved c = search turns
+pub loop-at-preserved : goal.loop-at-preserved
+loop-at-preserved c = search (turns, c.in-Some.ensures.steps, c.in_ok-clause_assets.was)
 
 pub returns : goal.returns
-returns c = search turns
+returns c = search (turns, c.in-None.ensures.steps)

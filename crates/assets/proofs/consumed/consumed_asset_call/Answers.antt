@@ -1,4 +1,5 @@
 use borrow.Author.Rules.{rules}
+use Rattle.refusals.proofs.Answers.{handed_on}
 use Rattle.assets.proofs.Consuming.{consumes, other_walked, callee_refused, call-args, args_walked}
 use Rattle.assets.proofs.Walk.{callee_here}
 use Rattle.assets.proofs.consumed.consumed_asset_call.Goals as goal
@@ -6,14 +7,14 @@ use Rattle.assets.proofs.consumed.consumed_asset_call.Goals as goal
 pub returns-then-kind-ne-CALL : goal.returns-then-kind-ne-CALL
 returns-then-kind-ne-CALL c = search (rules, other_walked consumes)
 
-pub no_asset_call-callee-requires : goal.no_asset_call-callee-requires
-no_asset_call-callee-requires c = search (rules, callee_here)
+pub no_asset_call-requires-2 : goal.no_asset_call-requires-2
+no_asset_call-requires-2 c = search (rules, callee_here)
 
-pub returns-in-Refused : goal.returns-in-Refused
-returns-in-Refused c = search (rules, callee_refused consumes)
+pub returns-in_err-no_asset_call : goal.returns-in_err-no_asset_call
+returns-in_err-no_asset_call c = rw (handed_on _ _ c.from_residual.ensures) (search (rules, callee_refused consumes, c.in_err-no_asset_call.was))
 
 pub no_asset_calls-requires : goal.no_asset_calls-requires
 no_asset_calls-requires c = search (rules, call-args consumes)
 
 pub returns : goal.returns
-returns c = search (rules, args_walked consumes)
+returns c = search (rules, args_walked consumes, c.in_ok-no_asset_call.was)

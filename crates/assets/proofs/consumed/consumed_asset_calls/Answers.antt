@@ -1,32 +1,18 @@
+use Rattle.refusals.proofs.Answers.{handed_on}
 use Rattle.lookups.proofs.Rows.{turns}
 use Rattle.assets.proofs.consumed.consumed_asset_calls.Goals as goal
 
-pub loop-left-init : goal.loop-left-init
-loop-left-init c = search turns
+pub loop-at-init : goal.loop-at-init
+loop-at-init c = search turns
 
-pub consumed_asset_call-judged-requires : goal.consumed_asset_call-judged-requires
-consumed_asset_call-judged-requires c = search turns
+pub consumed_asset_call-requires : goal.consumed_asset_call-requires
+consumed_asset_call-requires c = search (turns, c.in-Some.ensures.steps)
 
-pub enum_known-judged : goal.enum_known-judged
-enum_known-judged c = search turns
+pub returns-in_err-consumed_asset_call : goal.returns-in_err-consumed_asset_call
+returns-in_err-consumed_asset_call c = rw (handed_on _ _ c.from_residual.ensures) (search (turns, c.in-Some.ensures.steps, c.in_err-consumed_asset_call.was))
 
-pub returns-in-Refused : goal.returns-in-Refused
-returns-in-Refused c = search turns
-
-pub enum_told-1 : goal.enum_told-1
-enum_told-1 c = search turns
-
-pub end-at-requires : goal.end-at-requires
-end-at-requires c = search turns
-
-pub overflow_sub-left : goal.overflow_sub-left
-overflow_sub-left c = search turns
-
-pub loop-left-smaller : goal.loop-left-smaller
-loop-left-smaller c = search turns
-
-pub loop-left-preserved : goal.loop-left-preserved
-loop-left-preserved c = search turns
+pub loop-at-preserved : goal.loop-at-preserved
+loop-at-preserved c = search (turns, c.in-Some.ensures.steps, c.in_ok-consumed_asset_call.was)
 
 pub returns : goal.returns
-returns c = search turns
+returns c = search (turns, c.in-None.ensures.steps)

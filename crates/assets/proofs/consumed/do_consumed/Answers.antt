@@ -1,4 +1,5 @@
 use borrow.Author.Rules.{rules}
+use Rattle.refusals.proofs.Answers.{handed_on}
 use Rattle.assets.proofs.Consuming.{does, other_walked, callee_refused, call-args, args_walked}
 use Rattle.assets.proofs.Walk.{callee_here}
 use Rattle.assets.proofs.consumed.do_consumed.Goals as goal
@@ -6,14 +7,14 @@ use Rattle.assets.proofs.consumed.do_consumed.Goals as goal
 pub returns-then-kind-ne-CALL : goal.returns-then-kind-ne-CALL
 returns-then-kind-ne-CALL c = search (rules, other_walked does)
 
-pub no_asset_call-callee-requires : goal.no_asset_call-callee-requires
-no_asset_call-callee-requires c = search (rules, callee_here)
+pub no_asset_call-requires-2 : goal.no_asset_call-requires-2
+no_asset_call-requires-2 c = search (rules, callee_here)
 
-pub returns-in-Refused : goal.returns-in-Refused
-returns-in-Refused c = search (rules, callee_refused does)
+pub returns-in_err-no_asset_call : goal.returns-in_err-no_asset_call
+returns-in_err-no_asset_call c = rw (handed_on _ _ c.from_residual.ensures) (search (rules, callee_refused does, c.in_err-no_asset_call.was))
 
 pub consumed_asset_calls-requires : goal.consumed_asset_calls-requires
 consumed_asset_calls-requires c = search (rules, call-args does)
 
 pub returns : goal.returns
-returns c = search (rules, args_walked does)
+returns c = search (rules, args_walked does, c.in_ok-no_asset_call.was)

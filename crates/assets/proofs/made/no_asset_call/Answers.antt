@@ -1,5 +1,4 @@
 use borrow.Author.Rules.{rules}
-use native.Mathlib.Omega.{arith}
 use Rattle.assets.proofs.Walk.{walk_start, walk_here, walk_found, walk_next, walk_over}
 use Rattle.assets.proofs.made.no_asset_call.Goals as goal
 
@@ -11,9 +10,6 @@ is_asset_call-requires c = search (rules, walk_here)
 
 pub returns-then-is_asset_call : goal.returns-then-is_asset_call
 returns-then-is_asset_call c = search (rules, walk_found)
-
-pub overflow_add-at : goal.overflow_add-at
-overflow_add-at c = omega (arith, (walk_here _ _ _ _ _ c.loop-at.invariant c.loop-at-test.true).here.within)
 
 pub loop-at-preserved : goal.loop-at-preserved
 loop-at-preserved c = search (rules, walk_next)

@@ -1,5 +1,5 @@
 use borrow.Author.Rules.{rules}
-use Rattle.typing.proofs.Calls.{does_length}
+use Rattle.refusals.proofs.Answers.{handed_on}
 use Rattle.checking.proofs.Entries.{entry_few, entry_lines, entry_ok, entry_types_no, entry_no}
 use Rattle.checking.proofs.entry.check_entry.Goals as goal
 
@@ -9,17 +9,11 @@ narrow_wrapping-requires c = search (rules, entry_few)
 pub entry_uses-requires : goal.entry_uses-requires
 entry_uses-requires c = search (rules, entry_lines)
 
-pub shape_of-table-in-Fine-entry_types : goal.shape_of-table-in-Fine-entry_types
-shape_of-table-in-Fine-entry_types c = search (rules, does_length)
+pub returns : goal.returns
+returns c = search (rules, entry_ok, c.in_ok-narrow_wrapping.was, c.in_ok-entry_types.was)
 
-pub returns-in-Fine-entry_types : goal.returns-in-Fine-entry_types
-returns-in-Fine-entry_types c = search (rules, entry_ok)
+pub returns-in_err-entry_types : goal.returns-in_err-entry_types
+returns-in_err-entry_types c = rw (handed_on _ _ c.from_residual-in_err-entry_types.ensures) (search (rules, entry_types_no, c.in_ok-narrow_wrapping.was, c.in_err-entry_types.was))
 
-pub shape_of-table-in-Refused-entry_types : goal.shape_of-table-in-Refused-entry_types
-shape_of-table-in-Refused-entry_types c = search (rules, does_length)
-
-pub returns-in-Refused-entry_types : goal.returns-in-Refused-entry_types
-returns-in-Refused-entry_types c = search (rules, entry_types_no)
-
-pub returns-in-Refused : goal.returns-in-Refused
-returns-in-Refused c = search (rules, entry_no)
+pub returns-in_err-narrow_wrapping : goal.returns-in_err-narrow_wrapping
+returns-in_err-narrow_wrapping c = rw (handed_on _ _ c.from_residual.ensures) (search (rules, entry_no, c.in_err-narrow_wrapping.was))

@@ -1,19 +1,13 @@
 use borrow.Author.Rules.{rules}
-use Rattle.typing.proofs.Calls.{does_length}
+use Rattle.refusals.proofs.Answers.{handed_on}
 use Rattle.checking.proofs.Entries.{types_ok, types_no, types_on}
 use Rattle.checking.proofs.entry.entry_types.Goals as goal
 
 pub entry_body-requires : goal.entry_body-requires
-entry_body-requires c = search (rules, types_on)
+entry_body-requires c = search (rules, types_on, c.in_ok-entry_clauses.was)
 
-pub shape_of-table-in-Fine : goal.shape_of-table-in-Fine
-shape_of-table-in-Fine c = search (rules, does_length)
+pub returns : goal.returns
+returns c = search (rules, types_ok, c.in_ok-entry_clauses.was)
 
-pub returns-in-Fine : goal.returns-in-Fine
-returns-in-Fine c = search (rules, types_ok)
-
-pub shape_of-table-in-Refused : goal.shape_of-table-in-Refused
-shape_of-table-in-Refused c = search (rules, does_length)
-
-pub returns-in-Refused : goal.returns-in-Refused
-returns-in-Refused c = search (rules, types_no)
+pub returns-in_err-entry_clauses : goal.returns-in_err-entry_clauses
+returns-in_err-entry_clauses c = rw (handed_on _ _ c.from_residual.ensures) (search (rules, types_no, c.in_err-entry_clauses.was))

@@ -1,4 +1,5 @@
 use borrow.Author.Rules.{rules}
+use Rattle.refusals.proofs.Answers.{handed_on}
 use Rattle.checking.proofs.Entries.{uses-within, uses_clauses, uses_body, uses_ok, uses_body_no, uses_no}
 use Rattle.checking.proofs.entry.entry_uses.Goals as goal
 
@@ -14,11 +15,11 @@ body_line-requires c = search (rules, uses-within)
 pub body_assets-requires : goal.body_assets-requires
 body_assets-requires c = search (rules, uses_body)
 
-pub returns-in-Fine-body_assets : goal.returns-in-Fine-body_assets
-returns-in-Fine-body_assets c = search (rules, uses_ok)
+pub returns : goal.returns
+returns c = search (rules, uses_ok, c.in_ok-clauses_assets.was, c.in_ok-body_assets.was)
 
-pub returns-in-Refused-body_assets : goal.returns-in-Refused-body_assets
-returns-in-Refused-body_assets c = search (rules, uses_body_no)
+pub returns-in_err-body_assets : goal.returns-in_err-body_assets
+returns-in_err-body_assets c = rw (handed_on _ _ c.from_residual-in_err-body_assets.ensures) (search (rules, uses_body_no, c.in_ok-clauses_assets.was, c.in_err-body_assets.was))
 
-pub returns-in-Refused : goal.returns-in-Refused
-returns-in-Refused c = search (rules, uses_no)
+pub returns-in_err-clauses_assets : goal.returns-in_err-clauses_assets
+returns-in_err-clauses_assets c = rw (handed_on _ _ c.from_residual.ensures) (search (rules, uses_no, c.in_err-clauses_assets.was))

@@ -1,19 +1,13 @@
 use borrow.Author.Rules.{rules}
-use Rattle.typing.proofs.Calls.{does_length}
+use Rattle.refusals.proofs.Answers.{handed_on}
 use Rattle.checking.proofs.Passing.{pass_in, sheet_on, after_ok, after_no}
 use Rattle.checking.proofs.items.after_fields.Goals as goal
 
 pub check_pass-requires : goal.check_pass-requires
-check_pass-requires c = search (rules, pass_in, sheet_on)
+check_pass-requires c = search (rules, pass_in, sheet_on, c.in_ok-check_names.was)
 
-pub shape_of-table-in-Fine : goal.shape_of-table-in-Fine
-shape_of-table-in-Fine c = search (rules, does_length)
+pub returns : goal.returns
+returns c = search (rules, after_ok, c.in_ok-check_names.was)
 
-pub returns-in-Fine : goal.returns-in-Fine
-returns-in-Fine c = search (rules, after_ok)
-
-pub shape_of-table-in-Refused : goal.shape_of-table-in-Refused
-shape_of-table-in-Refused c = search (rules, does_length)
-
-pub returns-in-Refused : goal.returns-in-Refused
-returns-in-Refused c = search (rules, after_no)
+pub returns-in_err-check_names : goal.returns-in_err-check_names
+returns-in_err-check_names c = rw (handed_on _ _ c.from_residual.ensures) (search (rules, after_no, c.in_err-check_names.was))

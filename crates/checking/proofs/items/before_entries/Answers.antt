@@ -1,5 +1,5 @@
 use borrow.Author.Rules.{rules}
-use Rattle.typing.proofs.Calls.{does_length}
+use Rattle.refusals.proofs.Answers.{handed_on}
 use Rattle.checking.proofs.Passing.{pass_in, sheet_on, before_ok, before_no}
 use Rattle.checking.proofs.items.before_entries.Goals as goal
 
@@ -7,16 +7,10 @@ pub check_pass-requires : goal.check_pass-requires
 check_pass-requires c = search (rules, pass_in)
 
 pub after_fields-requires : goal.after_fields-requires
-after_fields-requires c = search (rules, sheet_on)
+after_fields-requires c = search (rules, sheet_on, c.in_ok-check_pass.was)
 
-pub shape_of-table-in-Fine : goal.shape_of-table-in-Fine
-shape_of-table-in-Fine c = search (rules, does_length)
+pub returns : goal.returns
+returns c = search (rules, before_ok, c.in_ok-check_pass.was)
 
-pub returns-in-Fine : goal.returns-in-Fine
-returns-in-Fine c = search (rules, before_ok)
-
-pub shape_of-table-in-Refused : goal.shape_of-table-in-Refused
-shape_of-table-in-Refused c = search (rules, does_length)
-
-pub returns-in-Refused : goal.returns-in-Refused
-returns-in-Refused c = search (rules, before_no)
+pub returns-in_err-check_pass : goal.returns-in_err-check_pass
+returns-in_err-check_pass c = rw (handed_on _ _ c.from_residual.ensures) (search (rules, before_no, c.in_err-check_pass.was))

@@ -1,5 +1,5 @@
 use borrow.Author.Rules.{rules}
-use Rattle.typing.proofs.Calls.{does_length}
+use Rattle.refusals.proofs.Answers.{handed_on}
 use Rattle.checking.proofs.Passing.{pass_in, sheet_loaded, sheet_on, names_ok, bounds_no, names_no}
 use Rattle.checking.proofs.items.check_names.Goals as goal
 
@@ -9,23 +9,14 @@ check_pass-requires c = search (rules, pass_in)
 pub guardian_fields-requires : goal.guardian_fields-requires
 guardian_fields-requires c = search (rules, sheet_loaded)
 
-pub check_pass-requires-in-Fine-guardian_fields : goal.check_pass-requires-in-Fine-guardian_fields
-check_pass-requires-in-Fine-guardian_fields c = search (rules, pass_in, sheet_on)
+pub check_pass-requires-2 : goal.check_pass-requires-2
+check_pass-requires-2 c = search (rules, pass_in, sheet_on, c.in_ok-check_pass.was, c.in_ok-guardian_fields.was)
 
-pub shape_of-table-in-Fine-guardian_fields : goal.shape_of-table-in-Fine-guardian_fields
-shape_of-table-in-Fine-guardian_fields c = search (rules, does_length)
+pub returns : goal.returns
+returns c = search (rules, names_ok, c.in_ok-check_pass.was, c.in_ok-guardian_fields.was)
 
-pub returns-in-Fine-guardian_fields : goal.returns-in-Fine-guardian_fields
-returns-in-Fine-guardian_fields c = search (rules, names_ok)
+pub returns-in_err-guardian_fields : goal.returns-in_err-guardian_fields
+returns-in_err-guardian_fields c = rw (handed_on _ _ c.from_residual-in_err-guardian_fields.ensures) (search (rules, bounds_no, c.in_ok-check_pass.was, c.in_err-guardian_fields.was))
 
-pub shape_of-table-in-Refused-guardian_fields : goal.shape_of-table-in-Refused-guardian_fields
-shape_of-table-in-Refused-guardian_fields c = search (rules, does_length)
-
-pub returns-in-Refused-guardian_fields : goal.returns-in-Refused-guardian_fields
-returns-in-Refused-guardian_fields c = search (rules, bounds_no)
-
-pub shape_of-table-in-Refused : goal.shape_of-table-in-Refused
-shape_of-table-in-Refused c = search (rules, does_length)
-
-pub returns-in-Refused : goal.returns-in-Refused
-returns-in-Refused c = search (rules, names_no)
+pub returns-in_err-check_pass : goal.returns-in_err-check_pass
+returns-in_err-check_pass c = rw (handed_on _ _ c.from_residual.ensures) (search (rules, names_no, c.in_err-check_pass.was))

@@ -1,4 +1,5 @@
 use borrow.Author.Rules.{rules}
+use Rattle.refusals.proofs.Answers.{handed_on}
 use Rattle.checking.proofs.Recording.{param_named, param_no, param_ok, param_typed}
 use Rattle.checking.proofs.records.check_param.Goals as goal
 
@@ -8,8 +9,8 @@ param_type-requires c = search (rules, param_typed)
 pub refuse_word64_as_digest-requires : goal.refuse_word64_as_digest-requires
 refuse_word64_as_digest-requires c = search (rules, param_named)
 
-pub returns-in-Fine : goal.returns-in-Fine
-returns-in-Fine c = search (rules, param_ok)
+pub returns : goal.returns
+returns c = search (rules, param_ok, c.in_ok-param_type.was)
 
-pub returns-in-Refused : goal.returns-in-Refused
-returns-in-Refused c = search (rules, param_no)
+pub returns-in_err-param_type : goal.returns-in_err-param_type
+returns-in_err-param_type c = rw (handed_on _ _ c.from_residual.ensures) (search (rules, param_no, c.in_err-param_type.was))

@@ -1,32 +1,18 @@
+use Rattle.refusals.proofs.Answers.{handed_on}
 use Rattle.lookups.proofs.Rows.{turns}
 use Rattle.checking.proofs.records.check_params.Goals as goal
 
-pub loop-left-init : goal.loop-left-init
-loop-left-init c = search turns
+pub loop-at-init : goal.loop-at-init
+loop-at-init c = search turns
 
 pub check_param-requires : goal.check_param-requires
-check_param-requires c = search turns
+check_param-requires c = search (turns, c.in-Some.ensures.steps)
 
-pub enum_known-r : goal.enum_known-r
-enum_known-r c = search turns
+pub returns-in_err-check_param : goal.returns-in_err-check_param
+returns-in_err-check_param c = rw (handed_on _ _ c.from_residual.ensures) (search (turns, c.in-Some.ensures.steps, c.in_err-check_param.was))
 
-pub returns-in-Refused : goal.returns-in-Refused
-returns-in-Refused c = search turns
-
-pub enum_told-1 : goal.enum_told-1
-enum_told-1 c = search turns
-
-pub end-at-requires : goal.end-at-requires
-end-at-requires c = search turns
-
-pub overflow_sub-left : goal.overflow_sub-left
-overflow_sub-left c = search turns
-
-pub loop-left-smaller : goal.loop-left-smaller
-loop-left-smaller c = search turns
-
-pub loop-left-preserved : goal.loop-left-preserved
-loop-left-preserved c = search turns
+pub loop-at-preserved : goal.loop-at-preserved
+loop-at-preserved c = search (turns, c.in-Some.ensures.steps, c.in_ok-check_param.was)
 
 pub returns : goal.returns
-returns c = search turns
+returns c = search (turns, c.in-None.ensures.steps)

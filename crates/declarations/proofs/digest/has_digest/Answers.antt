@@ -1,22 +1,14 @@
-use mathlib.Core.Path.{refl}
+use mathlib.Core.Path.{◌∙◌}
+use native.Mathlib.Omega.{arith}
 use borrow.Author.Rules.{rules}
-use Rattle.declarations.proofs.Digests.{index_in_lem, place_over, word_hit, word_miss, word_over}
+use borrow.Author.Tests.{tests}
+use lib.ListN.{length}
+use Rattle.std.proofs.lemmas.Iterator.{YieldsList-from_range}
+use Rattle.std.proofs.lemmas.Iterator.Search.{any_from_yields_List}
+use Rattle.declarations.proofs.Digests.{at_place, any_place, place_part}
 use Rattle.declarations.proofs.digest.has_digest.Goals as goal
 
-pub places-init : goal.places-init
-places-init c = (refl, refl)
-
-pub loop-k-init : goal.loop-k-init
-loop-k-init c = search (rules, index_in_lem)
-
-pub loop-k-preserved : goal.loop-k-preserved
-loop-k-preserved c = search (rules, word_miss)
-
-pub places-preserved : goal.places-preserved
-places-preserved c = search (rules, word_over)
-
-pub returns-after-places : goal.returns-after-places
-returns-after-places c = search (rules, place_over)
-
-pub returns-then-word_at : goal.returns-then-word_at
-returns-then-word_at c = search (rules, word_hit)
+pub returns : goal.returns
+returns c =
+    let s = c.args.name.now in
+    any_from_yields_List (at_place s) _ _ c.any.result c.any.ensures.ran (YieldsList-from_range 0 (length s) (length s) (cc) (omega arith)) (λ x b q k. search (rules, tests, place_part)) ∙ any_place s

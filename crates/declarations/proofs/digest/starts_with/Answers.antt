@@ -1,16 +1,18 @@
+use mathlib.Core.Path.{ap, ◌∙◌}
+use mathlib.Core.Bool.{◌&&◌}
 use borrow.Author.Rules.{rules}
-use Rattle.declarations.proofs.Digests.{starts_short, starts_stop, starts_more, starts_over}
+use borrow.Author.Tests.{tests}
+use lib.Dec.{leb, eqb}
+use lib.ListN.{length}
+use Rattle.std.proofs.lemmas.Iterator.{YieldsList-from_slice, YieldsList-from_zip}
+use Rattle.std.proofs.lemmas.Iterator.Search.{all_from_yields_List}
+use Rattle.declarations.specs.Tests.{small}
+use Rattle.declarations.proofs.Digests.{leads}
 use Rattle.declarations.proofs.digest.starts_with.Goals as goal
 
-pub returns-then-s-i : goal.returns-then-s-i
-returns-then-s-i c = search (rules, starts_short)
-
-pub returns-then-lower-word : goal.returns-then-lower-word
-returns-then-lower-word c = search (rules, starts_stop)
-
-pub loop-i-preserved : goal.loop-i-preserved
-loop-i-preserved c =
-    starts_more _ _ _ _ c.loop-i.invariant c.loop-i-test.true _ c.if-s-i.false c.lower.ensures c.if-lower-word.false
-
 pub returns : goal.returns
-returns c = search (rules, starts_over)
+returns c =
+    let s = c.args.s.now in
+    let w = c.args.word.now in
+    let e = all_from_yields_List (λ p. eqb (small p.0) p.1) c.all.new.self _ c.all.result c.all.ensures.ran (YieldsList-from_zip (YieldsList-from_slice s cc) (YieldsList-from_slice w cc)) (λ x b q k. search (rules, tests)) in
+    ap (λ b. leb (length w) (length s) && b) e ∙ leads s w

@@ -1,8 +1,8 @@
 use Rattle.declarations.proofs.Bounds.{WalkGoing}
 use Rattle.declarations.proofs.state_guardians.guardian_fields.Given as goal
 
-abbrev pub invariant-loop-items : goal.invariant-loop-items
-invariant-loop-items l = WalkGoing l.sheet l.lines l.items l.at
+abbrev pub invariant-loop-at : goal.invariant-loop-at
+invariant-loop-at l = WalkGoing l.sheet.bytes.now l.sheet.lines.now l.items
 
-abbrev pub decreases-loop-items : goal.decreases-loop-items
-decreases-loop-items l = l.items
+abbrev pub decreases-loop-at : goal.decreases-loop-at
+decreases-loop-at l = l.items.left

@@ -1,8 +1,8 @@
 use Rattle.declarations.proofs.Bounds.{BoundsGoing}
 use Rattle.declarations.proofs.state_guardians.item_bounds.Given as goal
 
-abbrev pub invariant-loop-left : goal.invariant-loop-left
-invariant-loop-left l = BoundsGoing l.sheet l.lines l.item l.more l.next l.left l.at
+abbrev pub invariant-loop-at : goal.invariant-loop-at
+invariant-loop-at l = BoundsGoing l.sheet.bytes.now l.sheet.lines.now l.item l.more l.next l.fields
 
-abbrev pub decreases-loop-left : goal.decreases-loop-left
-decreases-loop-left l = l.left
+abbrev pub decreases-loop-at : goal.decreases-loop-at
+decreases-loop-at l = l.fields.left

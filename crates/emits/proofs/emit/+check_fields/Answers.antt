@@ -1,24 +1,26 @@
 use borrow.Author.Rules.{rules}
+use Rattle.refusals.proofs.Answers.{handed_on}
 use Rattle.emits.proofs.Emitted.{fields_stop, fields_first, fields_falls, some_args, some_params, fields_no, fields_rest, fields_ok}
+use Rattle.rules.proofs.Standing.{loaded_sheet}
 use Rattle.emits.proofs.emit.+check_fields.Goals as goal
 
 pub returns-then-args-params : goal.returns-then-args-params
-returns-then-args-params t c = search (rules, fields_stop)
+returns-then-args-params t c = search (loaded_sheet, rules, fields_stop)
 
 pub check_field-requires : goal.check_field-requires
-check_field-requires t c = search (rules, fields_first)
+check_field-requires t c = search (loaded_sheet, rules, fields_first)
 
 pub overflow_sub-args : goal.overflow_sub-args
-overflow_sub-args t c = search (rules, some_args, some_params)
+overflow_sub-args t c = search (loaded_sheet, rules, some_args, some_params)
 
 pub overflow_sub-params : goal.overflow_sub-params
-overflow_sub-params t c = search (rules, some_args, some_params)
+overflow_sub-params t c = search (loaded_sheet, rules, some_args, some_params)
 
 pub check_fields-requires : goal.check_fields-requires
-check_fields-requires t c = (fields_falls _ _ _ _ _ _ _ _ c.requires c.if-args-params.false _ c.decreases, fields_rest _ _ _ _ _ _ _ _ c.requires c.if-args-params.false _ _ c.check_field.ensures c.in-Fine.is _ _ c.end.ensures c.end-in-Fine.ensures)
+check_fields-requires t c = (fields_falls _ _ _ _ _ _ _ _ c.requires c.if-args-params.false _ c.decreases, fields_rest _ _ _ _ _ _ _ _ c.requires c.if-args-params.false _ _ c.check_field.ensures c.in_ok-check_field.was _ _ c.end.ensures c.end-2.ensures)
 
-pub returns-in-Fine : goal.returns-in-Fine
-returns-in-Fine t c = search (rules, fields_ok)
+pub returns : goal.returns
+returns t c = search (loaded_sheet, rules, fields_ok, c.in_ok-check_field.was)
 
-pub returns-in-Refused : goal.returns-in-Refused
-returns-in-Refused t c = search (rules, fields_no)
+pub returns-in_err-check_field : goal.returns-in_err-check_field
+returns-in_err-check_field t c = rw (handed_on _ _ c.from_residual.ensures) (search (loaded_sheet, rules, fields_no, c.in_err-check_field.was))

@@ -8,8 +8,8 @@ overflow_add-event c = search (rules, event_fits)
 pub check_fields-requires : goal.check_fields-requires
 check_fields-requires c = search (rules, event-fields)
 
-pub returns-in-At : goal.returns-in-At
-returns-in-At c = search (rules, event_done)
+pub returns-in-Some : goal.returns-in-Some
+returns-in-Some c = search (rules, event_done)
 
-pub returns-in-Nothing : goal.returns-in-Nothing
-returns-in-Nothing c = search (rules, no_event)
+pub returns-in-None : goal.returns-in-None
+returns-in-None c = search (rules, no_event)

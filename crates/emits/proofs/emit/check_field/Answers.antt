@@ -1,4 +1,5 @@
 use borrow.Author.Rules.{rules}
+use Rattle.refusals.proofs.Answers.{handed_on}
 use Rattle.emits.proofs.Emitted.{field_asks, field_fits, field_type, field_arg, field_no, field_ok}
 use Rattle.emits.proofs.emit.check_field.Goals as goal
 
@@ -14,8 +15,8 @@ ty_of_decl-want-requires c = search (rules, field_type)
 pub judge_field-requires : goal.judge_field-requires
 judge_field-requires c = search (rules, field_arg)
 
-pub returns-in-Is : goal.returns-in-Is
-returns-in-Is c = search (rules, field_ok)
+pub returns : goal.returns
+returns c = search (rules, field_ok, c.in_ok-got.was)
 
-pub returns-in-Refused : goal.returns-in-Refused
-returns-in-Refused c = search (rules, field_no)
+pub returns-in_err-got : goal.returns-in_err-got
+returns-in_err-got c = rw (handed_on _ _ c.from_residual.ensures) (search (rules, field_no, c.in_err-got.was))

@@ -16,8 +16,8 @@ overflow_add-field c = search (rules, found_next kinds.field)
 pub ty_of_get-requires : goal.ty_of_get-requires
 ty_of_get-requires c = search (rules, found_typed kinds.field)
 
-pub returns-in-At : goal.returns-in-At
-returns-in-At c = search (rules, by_get)
+pub returns-in-Some : goal.returns-in-Some
+returns-in-Some c = search (rules, by_get)
 
-pub returns-in-Nothing : goal.returns-in-Nothing
-returns-in-Nothing c = search (rules, no_get)
+pub returns-in-None : goal.returns-in-None
+returns-in-None c = search (rules, no_get)

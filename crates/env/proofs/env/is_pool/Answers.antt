@@ -6,8 +6,8 @@ use Rattle.env.proofs.env.is_pool.Goals as goal
 pub overflow_add-i : goal.overflow_add-i
 overflow_add-i c = search (rules, found_next kinds.field)
 
-pub returns-in-At : goal.returns-in-At
-returns-in-At c = search (rules, pool)
+pub returns-in-Some : goal.returns-in-Some
+returns-in-Some c = search (rules, pool)
 
-pub returns-in-Nothing : goal.returns-in-Nothing
-returns-in-Nothing c = search (rules, no_pool)
+pub returns-in-None : goal.returns-in-None
+returns-in-None c = search (rules, no_pool)

@@ -1,4 +1,3 @@
-use borrow.Author.Tests.{not-true, not-false}
 use Rattle.env.specs.Answers.{both_of}
 use Rattle.env.proofs.judge.both.Goals as goal
 

@@ -8,8 +8,8 @@ returns-then-kind-ne-ID c = search (rules, no_id)
 pub last_named-requires : goal.last_named-requires
 last_named-requires c = search (rules, bound-lets)
 
-pub returns-in-At : goal.returns-in-At
-returns-in-At c = search (rules, is_later)
+pub returns-in-Some : goal.returns-in-Some
+returns-in-Some c = search (rules, is_later)
 
-pub returns-in-Nothing : goal.returns-in-Nothing
-returns-in-Nothing c = search (rules, not_later)
+pub returns-in-None : goal.returns-in-None
+returns-in-None c = search (rules, not_later)

@@ -1,18 +1,20 @@
+use mathlib.Core.Path.{refl, ◌∙◌}
+use Prim.Native.Nat.{◌-◌}
 use borrow.Author.Rules.{rules}
-use Rattle.env.proofs.Mentioned.{past_next, look_start, look_over, look_found, look_next}
+use borrow.Author.Tests.{tests}
+use Rattle.std.proofs.lemmas.Iterator.{YieldsList-from_range}
+use Rattle.std.proofs.lemmas.Iterator.Search.{any_from_yields_List}
+use Rattle.rules.specs.Typing.{later}
+use Rattle.env.specs.Force.{ends_in}
+use Rattle.env.proofs.Mentioned.{past_next, hit, any_line}
 use Rattle.env.proofs.later.stale.Goals as goal
 
 pub returns-then-env-i : goal.returns-then-env-i
 returns-then-env-i c = search (rules, past_next)
 
-pub loop-at-init : goal.loop-at-init
-loop-at-init c = search (rules, look_start)
-
-pub returns-then-is_later : goal.returns-then-is_later
-returns-then-is_later c = search (rules, look_found)
-
-pub loop-at-preserved : goal.loop-at-preserved
-loop-at-preserved c = search (rules, look_next)
-
 pub returns : goal.returns
-returns c = search (rules, look_over)
+returns c =
+    let s = c.args.sheet.now.bytes.now in
+    let S = c.args.sheet.now.lines.now in
+    any_from_yields_List (hit s S (later c.args.i (ends_in s c.args.env))) _ _ c.any.result c.any.ensures.ran (YieldsList-from_range c.args.i c.end.result (c.end.result - c.args.i) (cc) refl) (λ x b q k. search (rules, tests))
+    ∙ any_line s S c.args.env c.args.i _ c.requires c.end.ensures

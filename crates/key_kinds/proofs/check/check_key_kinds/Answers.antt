@@ -1,18 +1,19 @@
 use borrow.Author.Rules.{rules}
+use Rattle.refusals.proofs.Answers.{handed_on}
 use Rattle.key_kinds.proofs.Checking.{items_start, items_over, item_here, items_next, items_refused}
 use Rattle.key_kinds.proofs.check.check_key_kinds.Goals as goal
 
-pub loop-left-init : goal.loop-left-init
-loop-left-init c = search (rules, items_start)
+pub loop-item-init : goal.loop-item-init
+loop-item-init c = items_start _ _ _ c.requires (cc) (cc) (cc)
 
-pub check_item-judged-requires : goal.check_item-judged-requires
-check_item-judged-requires c = record { few_lines = search (rules, item_here); item_at = search (rules, item_here) }
+pub check_item-requires : goal.check_item-requires
+check_item-requires c = record { few_lines = search (rules, item_here); item_at = search (rules, item_here, c.in-Some.ensures.steps) }
 
-pub returns-in-Refused : goal.returns-in-Refused
-returns-in-Refused c = search (rules, items_refused)
+pub returns-in_err-check_item : goal.returns-in_err-check_item
+returns-in_err-check_item c = rw (handed_on _ _ c.from_residual.ensures) (search (rules, items_refused, c.in-Some.ensures.steps, c.in_err-check_item.was))
 
-pub loop-left-preserved : goal.loop-left-preserved
-loop-left-preserved c = search (rules, items_next)
+pub loop-item-preserved : goal.loop-item-preserved
+loop-item-preserved c = search (rules, items_next, c.in-Some.ensures.steps, c.in_ok-check_item.was)
 
 pub returns : goal.returns
-returns c = search (rules, items_over)
+returns c = search (rules, items_over, c.in-None.ensures.steps)

@@ -11,8 +11,8 @@ is_name_key-named-requires c = record { entry_at = search (rules, key_here); key
 pub note-requires : goal.note-requires
 note-requires c = search (rules, mark-within)
 
-pub returns-in-Nothing : goal.returns-in-Nothing
-returns-in-Nothing c = search (rules, no_use)
+pub returns-in_default : goal.returns-in_default
+returns-in_default c = search (rules, no_use)
 
-pub returns-in-At : goal.returns-in-At
-returns-in-At c = search (rules, use_fits)
+pub returns : goal.returns
+returns c = search (rules, use_fits)

@@ -1,15 +1,13 @@
 use borrow.Author.Rules.{rules}
-use Rattle.key_kinds.proofs.Keys.{no_field, behind_fits, is-map, no_map}
+use Rattle.key_kinds.proofs.Keys.{no_field, behind_fits, is-map}
+use Rattle.rules.proofs.Standing.{loaded_sheet}
 use Rattle.key_kinds.proofs.keyed.map_named.Goals as goal
 
+pub returns-in_err-field : goal.returns-in_err-field
+returns-in_err-field c = search (loaded_sheet, rules, no_field, c.in_err-field.was, c.from_residual.ensures)
+
 pub overflow_add-field : goal.overflow_add-field
-overflow_add-field c = search (rules, behind_fits)
+overflow_add-field c = search (loaded_sheet, rules, behind_fits, c.in_ok-field.was)
 
-pub returns-then-index_in-lt2 : goal.returns-then-index_in-lt2
-returns-then-index_in-lt2 c = search (rules, is-map)
-
-pub returns-in-Nothing : goal.returns-in-Nothing
-returns-in-Nothing c = search (rules, no_field)
-
-pub returns-else-index_in-lt2 : goal.returns-else-index_in-lt2
-returns-else-index_in-lt2 c = search (rules, no_map)
+pub returns : goal.returns
+returns c = search (loaded_sheet, rules, is-map, c.in_ok-field.was)

@@ -1,15 +1,16 @@
 use borrow.Author.Rules.{rules}
 use Rattle.lookups.proofs.Events.{events_start, events_hit, events_turn, events_over}
+use Rattle.rules.proofs.Standing.{loaded_sheet}
 use Rattle.lookups.proofs.event.event_named.Goals as goal
 
-pub loop-left-init : goal.loop-left-init
-loop-left-init c = search (rules, events_start)
+pub loop-at-init : goal.loop-at-init
+loop-at-init c = events_start _ _ _ _ (search (loaded_sheet, rules)) (cc) (cc) (cc)
 
 pub returns-then-is_named : goal.returns-then-is_named
-returns-then-is_named c = search (rules, events_hit)
+returns-then-is_named c = search (rules, events_hit, c.in-Some.ensures.steps)
 
-pub loop-left-preserved : goal.loop-left-preserved
-loop-left-preserved c = search (rules, events_turn)
+pub loop-at-preserved : goal.loop-at-preserved
+loop-at-preserved c = search (rules, events_turn, c.in-Some.ensures.steps)
 
 pub returns : goal.returns
-returns c = search (rules, events_over)
+returns c = search (rules, events_over, c.in-None.ensures.steps)

@@ -1,9 +1,7 @@
 use mathlib.Core.Path.{◌≡◌}
+use Prim.Native.Nat.{◌-◌}
 use Rattle.sheet.specs.Scratch.{skip}
 use Rattle.lookups.proofs.lines.after.Given as goal
 
-abbrev pub invariant-loop-left : goal.invariant-loop-left
-invariant-loop-left l = skip l.lines l.left l.at ≡ skip l.lines l.count l.from
-
-abbrev pub decreases-loop-left : goal.decreases-loop-left
-decreases-loop-left l = l.left
+abbrev pub invariant-loop : goal.invariant-loop
+invariant-loop l = skip l.lines (l.count - l.counter) l.at ≡ skip l.lines l.count l.from

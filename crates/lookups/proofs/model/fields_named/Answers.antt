@@ -2,17 +2,17 @@ use borrow.Author.Rules.{rules}
 use Rattle.lookups.proofs.Fields.{fields_start, fields_item, fields_turn, fields-skip, fields_over}
 use Rattle.lookups.proofs.model.fields_named.Goals as goal
 
-pub loop-left-init : goal.loop-left-init
-loop-left-init c = search (rules, fields_start)
-
-pub loop-left-preserved-then-kind-ne-STATE : goal.loop-left-preserved-then-kind-ne-STATE
-loop-left-preserved-then-kind-ne-STATE c = search (rules, fields-skip)
+pub loop-at-init : goal.loop-at-init
+loop-at-init c = fields_start _ _ _ _ _ _ c.requires (cc) (cc) (cc)
 
 pub newest_field-found-requires : goal.newest_field-found-requires
-newest_field-found-requires c = search (rules, fields_item)
+newest_field-found-requires c = search (rules, fields_item, c.in-Some.ensures.steps)
 
-pub loop-left-preserved : goal.loop-left-preserved
-loop-left-preserved c = search (rules, fields_turn)
+pub loop-at-preserved-then-kind-eq-STATE : goal.loop-at-preserved-then-kind-eq-STATE
+loop-at-preserved-then-kind-eq-STATE c = search (rules, fields_turn, c.in-Some.ensures.steps)
+
+pub loop-at-preserved : goal.loop-at-preserved
+loop-at-preserved c = search (rules, fields-skip, c.in-Some.ensures.steps)
 
 pub returns : goal.returns
-returns c = search (rules, fields_over)
+returns c = search (rules, fields_over, c.in-None.ensures.steps)

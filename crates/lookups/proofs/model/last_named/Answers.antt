@@ -2,14 +2,14 @@ use borrow.Author.Rules.{rules}
 use Rattle.lookups.proofs.Finding.{start, turn_hit, turn_miss, over}
 use Rattle.lookups.proofs.model.last_named.Goals as goal
 
-pub loop-left-init : goal.loop-left-init
-loop-left-init c = search (rules, start)
+pub loop-at-init : goal.loop-at-init
+loop-at-init c = start _ _ _ _ _ _ _ c.requires (cc) (cc) (cc)
 
-pub loop-left-preserved-then-is_named : goal.loop-left-preserved-then-is_named
-loop-left-preserved-then-is_named c = search (rules, turn_hit)
+pub loop-at-preserved-then-is_named : goal.loop-at-preserved-then-is_named
+loop-at-preserved-then-is_named c = search (rules, turn_hit, c.in-Some.ensures.steps)
 
-pub loop-left-preserved : goal.loop-left-preserved
-loop-left-preserved c = search (rules, turn_miss)
+pub loop-at-preserved : goal.loop-at-preserved
+loop-at-preserved c = search (rules, turn_miss, c.in-Some.ensures.steps)
 
 pub returns : goal.returns
-returns c = search (rules, over)
+returns c = search (rules, over, c.in-None.ensures.steps)

@@ -1,5 +1,5 @@
 use borrow.Author.Rules.{rules}
-use Rattle.lookups.proofs.Fields.{other, fields_behind, newer, older}
+use Rattle.lookups.proofs.Fields.{other, fields_behind, newer}
 use Rattle.lookups.proofs.model.newest_field.Goals as goal
 
 pub returns-then-kind-ne-STATE : goal.returns-then-kind-ne-STATE
@@ -8,8 +8,5 @@ returns-then-kind-ne-STATE c = search (rules, other)
 pub last_named-requires : goal.last_named-requires
 last_named-requires c = search (rules, fields_behind)
 
-pub returns-in-At : goal.returns-in-At
-returns-in-At c = search (rules, newer)
-
-pub returns-in-Nothing : goal.returns-in-Nothing
-returns-in-Nothing c = search (rules, older)
+pub returns : goal.returns
+returns c = search (rules, newer)

@@ -1,15 +1,18 @@
-use mathlib.Core.Path.{sym, ◌∙◌}
-use Rattle.text.proofs.Fields.{all_stop, all_more, all_over}
+use mathlib.Core.Path.{refl, ◌∙◌}
+use mathlib.Core.Bool.{◌&&◌}
+use borrow.Author.Rules.{rules}
+use borrow.Author.Tests.{tests}
+use Rattle.std.specs.List.{list_all}
+use Rattle.std.proofs.lemmas.Iterator.{YieldsList-from_slice}
+use Rattle.std.proofs.lemmas.Iterator.Search.{all_from_yields_List}
+use Rattle.std.proofs.lemmas.List.Recursion.{same_from_clauses}
+use Rattle.text.specs.Text.{all}
 use Rattle.rules.specs.Types.{zero_digit}
 use Rattle.lookups.proofs.ty.all_zero.Goals as goal
 
-pub returns-then-not-zero_digit : goal.returns-then-not-zero_digit
-returns-then-not-zero_digit c =
-    all_stop zero_digit _ _ _ c.loop-i.invariant (sym c.zero_digit.ensures ∙ c.if-not-zero_digit.true) c.loop-i-test.true
-
-pub loop-i-preserved : goal.loop-i-preserved
-loop-i-preserved c =
-    all_more zero_digit _ _ _ c.loop-i.invariant (sym c.zero_digit.ensures ∙ c.if-not-zero_digit.false) c.loop-i-test.true
-
 pub returns : goal.returns
-returns c = all_over zero_digit _ _ _ c.loop-i.invariant c.loop-i-test.false
+unfolding all
+returns c =
+    let t = c.args.text.now in
+    all_from_yields_List zero_digit _ _ c.all.result c.all.ensures.ran (YieldsList-from_slice t cc) (λ x b q k. search (rules, tests))
+    ∙ same_from_clauses (list_all zero_digit) (all zero_digit) (λ x r. zero_digit x && r) refl (λ _ _. refl) (λ _ _. refl) t

@@ -2,13 +2,14 @@ use borrow.Author.Rules.{rules}
 use Rattle.lookups.proofs.Behind.{found_next}
 use Rattle.narrow.proofs.Slots.{field_none, field_most}
 use Rattle.grammar.specs.Kinds as kinds
+use Rattle.rules.proofs.Standing.{loaded_sheet}
 use Rattle.narrow.proofs.slot.narrow_field.Goals as goal
 
 pub overflow_add-f : goal.overflow_add-f
-overflow_add-f c = search (rules, found_next kinds.field)
+overflow_add-f c = search (loaded_sheet, rules, found_next kinds.field)
 
-pub returns-in-At : goal.returns-in-At
-returns-in-At c = search (rules, field_most)
+pub returns-in-Some : goal.returns-in-Some
+returns-in-Some c = search (loaded_sheet, rules, field_most)
 
-pub returns-in-Nothing : goal.returns-in-Nothing
-returns-in-Nothing c = search (rules, field_none)
+pub returns-in-None : goal.returns-in-None
+returns-in-None c = search (loaded_sheet, rules, field_none)

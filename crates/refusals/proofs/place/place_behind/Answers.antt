@@ -2,6 +2,7 @@ use borrow.Author.Rules.{rules}
 use native.Mathlib.Numerals.{add-one}
 use native.Mathlib.Omega.{arith}
 use Rattle.refusals.proofs.Spans.{behind_none}
+use Rattle.rules.proofs.Standing.{loaded_sheet}
 use Rattle.refusals.proofs.place.place_behind.Goals as goal
 
 pub overflow_add-i : goal.overflow_add-i
@@ -11,4 +12,4 @@ pub returns-then-i-line_count : goal.returns-then-i-line_count
 returns-then-i-line_count c = rw (← add-one) c.place_at.ensures
 
 pub returns-else-i-line_count : goal.returns-else-i-line_count
-returns-else-i-line_count c = search (rules, behind_none)
+returns-else-i-line_count c = search (loaded_sheet, rules, behind_none)

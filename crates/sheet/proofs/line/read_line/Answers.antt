@@ -1,5 +1,5 @@
 -- `sheet::line::read_line` meets its contract: each answer is that of a law of `Told.antt`. Assumes nothing.
-use mathlib.Core.Path.{sym}
+use mathlib.Core.Path.{sym, ◌∙◌}
 use native.Mathlib.Omega.{arith}
 use lib.Seq.{length-take-le}
 use Rattle.grammar.proofs.KindLaws.{kind_known}
@@ -8,13 +8,13 @@ use Rattle.sheet.proofs.Told.{line_empty, line-unknown, line-fields, line_left, 
 use Rattle.sheet.proofs.line.read_line.Goals as goal
 
 pub returns-then-y-end : goal.returns-then-y-end
-returns-then-y-end c = line_empty _ _ _ c.find-end.ensures _ c.if-y-end.true
+returns-then-y-end c = line_empty _ _ _ _ c.find-end.ensures _ c.refuse.ensures c.if-y-end.true
 
 pub slice_bounds-kind_for-end : goal.slice_bounds-kind_for-end
 slice_bounds-kind_for-end c = sym (length-take-le _ _ (omega arith))
 
 pub returns-then-kind-eq-NONE : goal.returns-then-kind-eq-NONE
-returns-then-kind-eq-NONE c = line-unknown _ _ _ c.find-end.ensures c.if-y-end.false _ c.kind_for-kind.ensures _ c.if-kind-eq-NONE.true
+returns-then-kind-eq-NONE c = line-unknown _ _ _ _ c.find-end.ensures c.if-y-end.false _ c.kind_for-kind.ensures _ c.refuse-then-kind-eq-NONE.ensures c.if-kind-eq-NONE.true
 
 pub fields-n-requires : goal.fields-n-requires
 fields-n-requires c = kind_known _ _ _ c.kind_for-kind.ensures c.if-kind-eq-NONE.false
@@ -26,8 +26,8 @@ overflow_add-n c =
 
 pub returns-then-count-n : goal.returns-then-count-n
 returns-then-count-n c =
-    line-fields _ _ _ c.find-end.ensures c.if-y-end.false _ c.kind_for-kind.ensures
-    c.if-kind-eq-NONE.false _ _ c.count.ensures c.fields-n.ensures _ c.if-count-n.true
+    line-fields _ _ _ _ c.find-end.ensures c.if-y-end.false _ c.kind_for-kind.ensures
+    c.if-kind-eq-NONE.false _ _ c.count.ensures c.fields-n.ensures _ c.refuse-then-count-n.ensures c.if-count-n.true
 
 pub always-requires : goal.always-requires
 always-requires c = kind_known _ _ _ c.kind_for-kind.ensures c.if-kind-eq-NONE.false
@@ -38,13 +38,14 @@ read_fields-requires c =
     record {
       known = known;
       all = fields_at _ _ known c.fields-n.ensures;
-      left = line_left _ _ _ c.find-end.ensures c.if-y-end.false _ c.kind_for-kind.ensures
+      left = line_left _ c.args.place _ _ c.find-end.ensures c.if-y-end.false _ c.kind_for-kind.ensures
           c.if-kind-eq-NONE.false _ _ c.count.ensures c.fields-n.ensures c.if-count-n.false;
       within = c.requires;
     }
 
 pub returns : goal.returns
 returns c =
-    line_read _ _ _ c.find-end.ensures c.if-y-end.false _ c.kind_for-kind.ensures
+    c.ok_or.ensures.value
+    ∙ line_read _ _ _ _ c.find-end.ensures c.if-y-end.false _ c.kind_for-kind.ensures
     c.if-kind-eq-NONE.false _ _ c.count.ensures c.fields-n.ensures _ c.if-count-n.false
-    _ _ c.always.ensures c.read_fields.ensures
+    _ _ c.always.ensures c.read_fields.ensures c.refuse-2.ensures

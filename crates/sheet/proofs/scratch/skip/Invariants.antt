@@ -1,12 +1,9 @@
 -- `sheet::scratch::skip` meets its contract. The invariant: what is left to skip, from the line that is reached, ends where
 -- all does. Assumes nothing.
 use mathlib.Core.Path.{◌≡◌}
-use Prim.Native.Nat.{◌<◌}
+use Prim.Native.Nat.{◌<◌, ◌-◌}
 use Rattle.sheet.specs.Scratch.{skip}
 use Rattle.sheet.proofs.scratch.skip.Given as goal
 
-abbrev pub invariant-loop-left : goal.invariant-loop-left
-invariant-loop-left l = (l.at < 65536) × (skip l.lines l.k l.j ≡ skip l.lines l.left l.at)
-
-abbrev pub decreases-loop-left : goal.decreases-loop-left
-decreases-loop-left l = l.left
+abbrev pub invariant-loop : goal.invariant-loop
+invariant-loop l = (l.at < 65536) × (skip l.lines l.k l.j ≡ skip l.lines (l.k - l.counter) l.at)

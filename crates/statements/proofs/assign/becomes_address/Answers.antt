@@ -1,12 +1,13 @@
 use borrow.Author.Rules.{rules}
 use Rattle.statements.proofs.Tests.{address_no_name, address_other, address_named}
+use Rattle.rules.proofs.Standing.{loaded_sheet}
 use Rattle.statements.proofs.assign.becomes_address.Goals as goal
 
 pub returns-then-not-bare : goal.returns-then-not-bare
-returns-then-not-bare c = search (rules, address_no_name)
+returns-then-not-bare c = search (loaded_sheet, rules, address_no_name)
 
 pub returns-then-is_set-given : goal.returns-then-is_set-given
-returns-then-is_set-given c = search (rules, address_named)
+returns-then-is_set-given c = search (loaded_sheet, rules, address_named)
 
 pub returns : goal.returns
-returns c = search (rules, address_other)
+returns c = search (loaded_sheet, rules, address_other)

@@ -1,12 +1,13 @@
 use borrow.Author.Rules.{rules}
+use Rattle.refusals.proofs.Answers.{handed_on}
 use Rattle.statements.proofs.Checking.{condition, not_condition, no_condition}
 use Rattle.statements.proofs.check.expect_predicate.Goals as goal
 
 pub returns-then-ty : goal.returns-then-ty
-returns-then-ty c = search (rules, condition)
+returns-then-ty c = search (rules, condition, c.in_ok-ty.was)
 
 pub returns-else-ty : goal.returns-else-ty
-returns-else-ty c = search (rules, not_condition)
+returns-else-ty c = search (rules, not_condition, c.in_ok-ty.was)
 
-pub returns-in-Refused : goal.returns-in-Refused
-returns-in-Refused c = search (rules, no_condition)
+pub returns-in_err-ty : goal.returns-in_err-ty
+returns-in_err-ty c = rw (handed_on _ _ c.from_residual.ensures) (search (rules, no_condition, c.in_err-ty.was))

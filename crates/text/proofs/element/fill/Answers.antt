@@ -1,11 +1,12 @@
+use native.Mathlib.Omega.{arith}
 use Rattle.text.proofs.Filling.{filled_none, filled_more, filled_all}
 use Rattle.text.proofs.element.fill.Goals as goal
 
-pub loop-i-init : goal.loop-i-init
-loop-i-init c = search filled_none
+pub loop-cell-init : goal.loop-cell-init
+loop-cell-init g c = filled_none _ _
 
-pub loop-i-preserved : goal.loop-i-preserved
-loop-i-preserved c = search filled_more
+pub loop-cell-preserved : goal.loop-cell-preserved
+loop-cell-preserved g c = filled_more _ _ _ _ c.loop-cell.invariant (omega arith)
 
 pub returns : goal.returns
-returns c = search filled_all
+returns g c = filled_all _ _ _ _ c.loop-cell.invariant (omega arith)

@@ -1,11 +1,10 @@
-use borrow.Author.Tests.{lt-leb}
 use Rattle.text.specs.Field.{is_name}
 use Rattle.text.proofs.field.is_name.Goals as goal
 
-pub returns-then-part-lt1 : goal.returns-then-part-lt1
+pub returns-then-is_plain : goal.returns-then-is_plain
 unfolding is_name
-returns-then-part-lt1 c = rw (lt-leb _ _ c.if-part-lt1.true)
+returns-then-is_plain c = rw (← c.is_plain.ensures, c.if-is_plain.true, c.is_ascii_digit.ensures.value)
 
-pub returns : goal.returns
+pub returns-else-is_plain : goal.returns-else-is_plain
 unfolding is_name
-returns c = rw (c.is_plain.ensures, c.is_digit.ensures)
+returns-else-is_plain c = rw (← c.is_plain.ensures, c.if-is_plain.false)

@@ -1,44 +1,37 @@
 use mathlib.Core.Path.{sym, ◌∙◌}
 use Prim.Native.Nat.{◌+◌}
-use borrow.Author.Tests.{le-leb, lt-leb}
 use native.Mathlib.Omega.{arith}
-use lib.ListN.{get_or}
+use Rattle.std.proofs.lemmas.Bool.Decides.{nat_tests}
 use Rattle.text.specs.Field.{is_decimal, number_of}
-use Rattle.text.proofs.Fields.{digit_range, number_stop, number_more, number_high, number_over}
+use Rattle.text.proofs.Fields.{number_stop, number_more, number_high, number_over}
 use Rattle.text.proofs.field.number_of.Goals as goal
+use Rattle.text.proofs.field.number_of.Goals.{in_default, in_default-2}
 
-pub returns-then-part-lt1 : goal.returns-then-part-lt1
+pub returns-in-empty : goal.returns-in-empty
 unfolding number_of is_decimal
-returns-then-part-lt1 c = rw (lt-leb _ _ c.if-part-lt1.true)
+returns-in-empty c = grind (arith, nat_tests)
 
-pub returns-then-part : goal.returns-then-part
+pub returns-in-empty-2 : goal.returns-in-empty-2
 unfolding number_of is_decimal
-returns-then-part c = rw (le-leb _ _ c.if-part-lt1.false, c.if-part.true)
+returns-in-empty-2 c = grind (arith, nat_tests)
 
-pub loop-i-init : goal.loop-i-init
+pub loop-b-init : goal.loop-b-init
 unfolding number_of is_decimal
-loop-i-init c = (omega arith, rw (le-leb _ _ c.if-part-lt1.false, c.if-part.false))
+loop-b-init c = (omega arith, elim c.if-part-lt2.branch [ in_default w ↦ grind (arith, nat_tests) | in_default-2 w ↦ grind (arith, nat_tests) ])
 
-pub returns-then-not-is_digit : goal.returns-then-not-is_digit
-returns-then-not-is_digit c =
-    number_stop _ _ _ _ _ c.loop-i.invariant.1 (sym c.is_digit.ensures ∙ c.if-not-is_digit.true) c.loop-i-test.true
-
-pub overflow_sub-v : goal.overflow_sub-v
-overflow_sub-v c = (digit_range _ (sym c.is_digit.ensures ∙ c.if-not-is_digit.false)).0
-
-pub overflow_cast-v : goal.overflow_cast-v
-overflow_cast-v c = omega (arith, digit_range (get_or c.args.part.now c.loop-i.i 0) (sym c.is_digit.ensures ∙ c.if-not-is_digit.false))
-
-pub overflow_add-v : goal.overflow_add-v
-overflow_add-v c = omega (arith, digit_range (get_or c.args.part.now c.loop-i.i 0) (sym c.is_digit.ensures ∙ c.if-not-is_digit.false))
+pub returns-then-not-is_ascii_digit : goal.returns-then-not-is_ascii_digit
+returns-then-not-is_ascii_digit c =
+    number_stop _ _ _ _ _ c.loop-b.invariant.1 (sym c.is_ascii_digit.ensures.value ∙ c.if-not-is_ascii_digit.true) c.loop-b-test.true
 
 pub returns-then-top-v : goal.returns-then-top-v
 returns-then-top-v c =
-    number_high c.args.part.now (c.loop-i.i + 1) _ _ _ (number_more _ _ _ _ _ c.loop-i.invariant.1 (sym c.is_digit.ensures ∙ c.if-not-is_digit.false) c.loop-i-test.true) c.if-top-v.true
+    number_high c.args.part.now (c.loop-b.b-index + 1) _ _ _ (number_more _ _ _ _ _ c.loop-b.invariant.1 (sym c.is_ascii_digit.ensures.value ∙ c.if-not-is_ascii_digit.false) c.loop-b-test.true) (omega arith)
 
-pub loop-i-preserved : goal.loop-i-preserved
-loop-i-preserved c =
-    (omega arith, number_more _ _ _ _ _ c.loop-i.invariant.1 (sym c.is_digit.ensures ∙ c.if-not-is_digit.false) c.loop-i-test.true)
+pub loop-b-preserved : goal.loop-b-preserved
+loop-b-preserved c = (
+  omega arith,
+  rw c.from.ensures (number_more _ _ _ _ _ c.loop-b.invariant.1 (sym c.is_ascii_digit.ensures.value ∙ c.if-not-is_ascii_digit.false) c.loop-b-test.true),
+)
 
 pub returns : goal.returns
-returns c = number_over _ _ _ _ _ c.loop-i.invariant.1 c.loop-i-test.false c.loop-i.invariant.0
+returns c = number_over _ _ _ _ _ c.loop-b.invariant.1 c.loop-b-test.false c.loop-b.invariant.0

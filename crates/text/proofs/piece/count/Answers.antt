@@ -1,19 +1,10 @@
-use mathlib.Core.Path.{sym}
-use native.Mathlib.Nat.{zero-add}
-use native.Mathlib.Omega.{arith}
-use Rattle.text.proofs.Pieces.{count_all, count_over}
+use Rattle.std.proofs.Common.{[], sym, ◌∙◌}
+use native.Mathlib.Nat.{add-zero}
+use Rattle.std.proofs.lemmas.List.{nil_from_length}
+use Rattle.text.proofs.Pieces.{length-ended}
 use Rattle.text.proofs.piece.count.Goals as goal
 
-pub loop-at-init : goal.loop-at-init
-loop-at-init c = (omega arith, omega arith, sym (zero-add _))
-
-pub loop-at-preserved : goal.loop-at-preserved
-loop-at-preserved c =
-    let k = c.count_part.ensures in (
-      omega arith,
-      omega arith,
-      rw c.wide-n.ensures.value (count_all _ _ _ _ _ c.loop-at.invariant.2 _ _ k),
-    )
-
 pub returns : goal.returns
-returns c = count_over _ _ _ _ _ c.loop-at.invariant.2 c.loop-at-test.false
+returns c =
+    let none = nil_from_length _ c.in-None.ensures.steps.1.0 in
+    sym (length-ended _ [] c.args.s.now ∙ rw (none, add-zero) at c.loop-part.invariant.3)

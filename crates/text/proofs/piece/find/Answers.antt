@@ -11,4 +11,4 @@ loop-i-preserved c =
     find_more _ _ _ _ c.loop-i.invariant (sym c.either.ensures ∙ c.if-either.false) c.loop-i-test.true
 
 pub returns : goal.returns
-returns c = find_over _ _ _ _ c.loop-i.invariant c.loop-i-test.false
+returns c = c.max.ensures ∙ find_over _ _ _ _ c.loop-i.invariant c.loop-i.auto.i-end c.loop-i-test.false

@@ -8,11 +8,11 @@ check-requires c = search (rules, exact_sheet)
 pub overflow_cast-result : goal.overflow_cast-result
 overflow_cast-result c = search (rules, count_fits)
 
-pub overflow_cast-result-in-Refused : goal.overflow_cast-result-in-Refused
-overflow_cast-result-in-Refused c = search (rules, count_fits)
+pub overflow_cast-result-in-Err : goal.overflow_cast-result-in-Err
+overflow_cast-result-in-Err c = search (rules, count_fits)
 
-pub returns-in-Fine : goal.returns-in-Fine
-returns-in-Fine c = search (rules, judges_accepted)
+pub returns-in-Ok : goal.returns-in-Ok
+returns-in-Ok c = search (rules, judges_accepted)
 
-pub returns-in-Refused : goal.returns-in-Refused
-returns-in-Refused c = search (rules, judges_refused)
+pub returns-in-Err : goal.returns-in-Err
+returns-in-Err c = search (rules, judges_refused)

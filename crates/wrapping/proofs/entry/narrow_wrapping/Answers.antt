@@ -1,4 +1,6 @@
+use mathlib.Core.Path.{refl}
 use borrow.Author.Rules.{rules}
+use Rattle.refusals.proofs.Answers.{handed_on}
 use Rattle.wrapping.proofs.Stmts.{entry-within, no_body, go_start, go_stmt, go_refused, go_next, go_over}
 use Rattle.wrapping.proofs.entry.narrow_wrapping.Goals as goal
 
@@ -8,20 +10,20 @@ returns-then-n-eq0 c = search (rules, no_body)
 pub body_line-body-requires : goal.body_line-body-requires
 body_line-body-requires c = search (rules, entry-within)
 
-pub loop-k-init : goal.loop-k-init
-loop-k-init c = search (rules, go_start)
+pub loop-at-init : goal.loop-at-init
+loop-at-init c = go_start _ _ _ _ _ _ _ c.requires c.body_count-n.ensures c.body_line-body.ensures refl (cc) (cc) cc
 
-pub narrow_stmt-judged-requires : goal.narrow_stmt-judged-requires
-narrow_stmt-judged-requires c = search (rules, go_stmt)
+pub narrow_stmt-requires : goal.narrow_stmt-requires
+narrow_stmt-requires c = search (rules, go_stmt, c.in-Some.ensures.steps)
 
-pub returns-in-Refused : goal.returns-in-Refused
-returns-in-Refused c = search (rules, go_refused)
+pub returns-in_err-narrow_stmt : goal.returns-in_err-narrow_stmt
+returns-in_err-narrow_stmt c = rw (handed_on _ _ c.from_residual.ensures) (search (rules, go_refused, c.in-Some.ensures.steps, c.in_err-narrow_stmt.was))
 
 pub mark-requires : goal.mark-requires
-mark-requires c = search (rules, go_stmt)
+mark-requires c = search (rules, go_stmt, c.in-Some.ensures.steps)
 
-pub loop-k-preserved : goal.loop-k-preserved
-loop-k-preserved c = search (rules, go_next)
+pub loop-at-preserved : goal.loop-at-preserved
+loop-at-preserved c = search (rules, go_next, c.in-Some.ensures.steps, c.in_ok-narrow_stmt.was)
 
 pub returns : goal.returns
-returns c = search (rules, go_over)
+returns c = search (rules, go_over, c.in-None.ensures.steps)

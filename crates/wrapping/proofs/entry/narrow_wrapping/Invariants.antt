@@ -1,9 +1,5 @@
-use Prim.Native.Nat.{◌-◌}
 use Rattle.wrapping.proofs.Stmts.{Going}
 use Rattle.wrapping.proofs.entry.narrow_wrapping.Given as goal
 
-abbrev pub invariant-loop-k : goal.invariant-loop-k
-invariant-loop-k l = Going l.sheet l.lines l.marks l.i l.body l.n l.k l.at
-
-abbrev pub decreases-loop-k : goal.decreases-loop-k
-decreases-loop-k l = l.n - l.k
+abbrev pub invariant-loop-at : goal.invariant-loop-at
+invariant-loop-at l = Going l.sheet.bytes.now l.sheet.lines.now l.marks l.i l.body l.n l.bound l.at-iterator

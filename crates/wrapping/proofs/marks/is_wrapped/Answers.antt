@@ -2,17 +2,17 @@ use borrow.Author.Rules.{rules}
 use Rattle.wrapping.proofs.Wrapped.{seek_start, seek_line, seek_found, seek_next, seek_over}
 use Rattle.wrapping.proofs.marks.is_wrapped.Goals as goal
 
-pub loop-left-init : goal.loop-left-init
-loop-left-init c = search (rules, seek_start)
+pub loop-at-init : goal.loop-at-init
+loop-at-init c = seek_start _ _ _ _ _ _ _ c.requires (cc) (cc) cc
 
 pub is_marked-requires : goal.is_marked-requires
-is_marked-requires c = search (rules, seek_line)
+is_marked-requires c = search (rules, seek_line, c.in-Some.ensures.steps)
 
 pub returns-then-is_marked : goal.returns-then-is_marked
-returns-then-is_marked c = search (rules, seek_found)
+returns-then-is_marked c = search (rules, seek_found, c.in-Some.ensures.steps)
 
-pub loop-left-preserved : goal.loop-left-preserved
-loop-left-preserved c = search (rules, seek_next)
+pub loop-at-preserved : goal.loop-at-preserved
+loop-at-preserved c = search (rules, seek_next, c.in-Some.ensures.steps)
 
 pub returns : goal.returns
-returns c = search (rules, seek_over)
+returns c = search (rules, seek_over, c.in-None.ensures.steps)

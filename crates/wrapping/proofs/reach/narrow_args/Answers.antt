@@ -1,24 +1,21 @@
 use borrow.Author.Rules.{rules}
-use Rattle.wrapping.proofs.Emitting.{emit_start, emit_over, emit_short, emit_value, param_fits, emit-refused, emit_next}
+use Rattle.wrapping.proofs.Emitting.{emit_start, emit_over, emit_value, param_fits, emit-refused, emit_next}
 use Rattle.wrapping.proofs.reach.narrow_args.Goals as goal
 
-pub loop-args-init : goal.loop-args-init
-loop-args-init c = search (rules, emit_start)
+pub loop-arg-init : goal.loop-arg-init
+loop-arg-init c = emit_start _ _ _ _ _ _ _ _ _ _ _ c.requires c.emit_arg_count.ensures c.param_count.ensures (cc) (cc) (cc) (cc) (cc) cc
 
-pub returns-then-params-eq0 : goal.returns-then-params-eq0
-returns-then-params-eq0 c = search (rules, emit_short)
-
-pub overflow_add-param-in-loop-args : goal.overflow_add-param-in-loop-args
-overflow_add-param-in-loop-args c = search (rules, param_fits)
+pub overflow_add-param : goal.overflow_add-param
+overflow_add-param c = search (rules, param_fits, c.in-Some.ensures.steps)
 
 pub reaches-requires : goal.reaches-requires
-reaches-requires c = search (rules, emit_value)
+reaches-requires c = search (rules, emit_value, c.in-Some.ensures.steps)
 
 pub returns-then-reaches : goal.returns-then-reaches
-returns-then-reaches c = search (rules, emit-refused)
+returns-then-reaches c = search (rules, emit-refused, c.in-Some.ensures.steps)
 
-pub loop-args-preserved : goal.loop-args-preserved
-loop-args-preserved c = search (rules, emit_next)
+pub loop-arg-preserved : goal.loop-arg-preserved
+loop-arg-preserved c = search (rules, emit_next, c.in-Some.ensures.steps)
 
 pub returns : goal.returns
-returns c = search (rules, emit_over)
+returns c = emit_over _ _ _ _ _ _ _ _ _ c.loop-arg.invariant c.in-None.ensures.steps

@@ -5,8 +5,8 @@ use Rattle.wrapping.proofs.reach.narrow_emit.Goals as goal
 pub narrow_args-requires : goal.narrow_args-requires
 narrow_args-requires c = search (rules, emit-event)
 
-pub returns-in-At : goal.returns-in-At
-returns-in-At c = search (rules, emit-judged)
+pub returns-in-Some : goal.returns-in-Some
+returns-in-Some c = search (rules, emit-judged)
 
-pub returns-in-Nothing : goal.returns-in-Nothing
-returns-in-Nothing c = search (rules, emit_none)
+pub returns-in-None : goal.returns-in-None
+returns-in-None c = search (rules, emit_none)

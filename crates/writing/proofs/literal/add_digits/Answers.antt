@@ -3,14 +3,14 @@ use Rattle.writing.proofs.Adding.{adds_same}
 use Rattle.writing.proofs.Literals.{digits_start, digits-skip, digits_add, digits_over}
 use Rattle.writing.proofs.literal.add_digits.Goals as goal
 
-pub loop-i-init : goal.loop-i-init
-loop-i-init c = search (rules, digits_start)
+pub loop-b-init : goal.loop-b-init
+loop-b-init c = search (rules, digits_start)
 
-pub loop-i-preserved-then-text-i-eq95 : goal.loop-i-preserved-then-text-i-eq95
-loop-i-preserved-then-text-i-eq95 c = search (rules, digits-skip)
+pub loop-b-preserved-then-b-eq95 : goal.loop-b-preserved-then-b-eq95
+loop-b-preserved-then-b-eq95 c = search (rules, digits-skip)
 
-pub loop-i-preserved : goal.loop-i-preserved
-loop-i-preserved c = search (rules, digits_add)
+pub loop-b-preserved : goal.loop-b-preserved
+loop-b-preserved c = search (rules, digits_add)
 
 pub shape_of-buffer : goal.shape_of-buffer
 shape_of-buffer c = search (rules, adds_same)

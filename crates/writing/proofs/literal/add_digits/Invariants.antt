@@ -1,11 +1,7 @@
-use Prim.Native.Nat.{◌-◌}
-use lib.ListN.{length, take}
+use lib.ListN.{take}
 use Rattle.rules.specs.Types.{no_underscores}
 use Rattle.writing.specs.Writing.{Adds}
 use Rattle.writing.proofs.literal.add_digits.Given as goal
 
-abbrev pub invariant-loop-i : goal.invariant-loop-i
-invariant-loop-i l = Adds (no_underscores (take l.i l.text)) l.initial.buffer l.at l.buffer l.end
-
-abbrev pub decreases-loop-i : goal.decreases-loop-i
-decreases-loop-i l = length l.text - l.i
+abbrev pub invariant-loop-b : goal.invariant-loop-b
+invariant-loop-b l = Adds (no_underscores (take l.b-index l.text)) l.initial.buffer l.at l.buffer l.end

@@ -1,17 +1,16 @@
-use mathlib.Core.Path.{refl, sym, ◌∙◌}
-use native.Mathlib.Omega.{arith}
-use Rattle.writing.proofs.Literals.{start_stop, start_more, start_over}
+use mathlib.Core.Path.{ap, ◌∙◌}
+use borrow.Author.Rules.{rules}
+use borrow.Author.Tests.{tests}
+use lib.ListN.{length}
+use Rattle.std.specs.Option.{unwrap_or}
+use Rattle.std.proofs.lemmas.Iterator.{YieldsList-from_slice}
+use Rattle.std.proofs.lemmas.Iterator.Search.{position_from_yields_List}
+use Rattle.writing.proofs.Literals.{counts_byte, start_counts, start_within}
 use Rattle.writing.proofs.literal.start_of.Goals as goal
 
-pub loop-i-init : goal.loop-i-init
-loop-i-init c = (omega arith, refl)
-
-pub returns-then-not-zero_digit : goal.returns-then-not-zero_digit
-returns-then-not-zero_digit c = record { text_value = start_stop _ _ c.loop-i.invariant.1 (sym c.zero_digit.ensures ∙ c.if-not-zero_digit.true) c.loop-i-test.true; upper_bound = c.loop-i.invariant.0 }
-
-pub loop-i-preserved : goal.loop-i-preserved
-loop-i-preserved c =
-    (omega arith, start_more _ _ c.loop-i.invariant.1 (sym c.zero_digit.ensures ∙ c.if-not-zero_digit.false) c.loop-i-test.true)
-
 pub returns : goal.returns
-returns c = record { text_value = start_over _ _ c.loop-i.invariant.1 c.loop-i-test.false; upper_bound = c.loop-i.invariant.0 }
+returns c =
+    let t = c.args.text.now in
+    let p = position_from_yields_List counts_byte _ _ c.position.result c.position.ensures.ran (YieldsList-from_slice t cc) (λ x b q k. search (rules, tests)) in
+    let e = c.unwrap_or.ensures ∙ ap (λ o. unwrap_or o (length t)) p in
+    record { text_value = start_counts t _ e; upper_bound = start_within t _ e }

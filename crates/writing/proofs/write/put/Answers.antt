@@ -1,21 +1,8 @@
-use borrow.Author.Rules.{rules}
-use Rattle.writing.proofs.Adding.{put_none, put_more, put_full, put_over, put_same}
+use mathlib.Core.Path.{ap, ◌∙◌}
+use mathlib.Core.List.{◌++◌}
+use lib.ListN.{drop}
+use Rattle.writing.proofs.Adding.{put_part}
 use Rattle.writing.proofs.write.put.Goals as goal
 
-pub loop-i-init : goal.loop-i-init
-loop-i-init c = search (rules, put_none)
-
-pub shape_of-rest-then-rest-i : goal.shape_of-rest-then-rest-i
-shape_of-rest-then-rest-i c = search (rules, put_same)
-
-pub returns-then-rest-i : goal.returns-then-rest-i
-returns-then-rest-i c = search (rules, put_full)
-
-pub loop-i-preserved : goal.loop-i-preserved
-loop-i-preserved c = search (rules, put_more)
-
-pub shape_of-rest : goal.shape_of-rest
-shape_of-rest c = search (rules, put_same)
-
 pub returns : goal.returns
-returns c = search (rules, put_over)
+returns c = ap (λ ys. ys ++ drop c.min-n.result c.args.rest.now) c.copy_from_slice.ensures.after ∙ put_part _ _ _ c.min-n.ensures

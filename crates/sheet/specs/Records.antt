@@ -1,0 +1,20 @@
+-- What the iterator over records gives.
+use Rattle.std.specs.Prelude.{ℕ, suc, ◌≡◌, List, Option, None, Some}
+use Rattle.sheet.specs.Scratch.{end_at}
+use Rattle.sheet.specs.Starts.{starts}
+use Rattle.sheet.specs.declared.records.Records.{Records}
+
+abbrev pub starts_of : Records → List ℕ
+starts_of r = starts r.lines.now r.left r.at
+
+-- a record is at line i, and t are those behind it
+pub record Steps (r : Records) (i : ℕ) (t : Records) : Type 0 where
+  pub left : r.left ≡ suc t.left
+  pub here : i ≡ r.at
+  pub behind : t.at ≡ end_at r.lines.now r.at
+  pub lines : t.lines.now ≡ r.lines.now
+
+-- a call of `next` on r answers o, and leaves t
+abbrev pub NextOf : Records → Option ℕ → Records → Type 0
+NextOf r None t = (r.left ≡ 0) × (t.left ≡ 0)
+NextOf r (Some i) t = Steps r i t
