@@ -10,7 +10,7 @@ ghost use Rattle.declarations.specs.Tests.{small, starts_any};
 
 use crate::answer::expect;
 use refusals::Refusal;
-use sheet::{LoadedSheet, name};
+use sheet::LoadedSheet;
 use text::is_word;
 
 fn lower(b: u8) -> u8

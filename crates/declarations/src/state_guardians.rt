@@ -70,6 +70,7 @@ fn item_bounds(sheet: &LoadedSheet<'_>, item: usize, more: usize) -> Result<(), 
         return Ok(());
     }
     let next = sheet.end(item);
+    // No `for`: the body asks how many are left.
     let mut fields = sheet.records(item + 1, field_count(sheet.lines, item));
     while let Some(at) = fields.next() {
         field_bound(sheet, at, fields.left, next, more)?;
@@ -82,6 +83,7 @@ fn item_bounds(sheet: &LoadedSheet<'_>, item: usize, more: usize) -> Result<(), 
 pub fn guardian_fields(sheet: &LoadedSheet<'_>) -> Result<(), Refusal>
     ensures { Answers (for_each (values (model_in sheet.now.bytes.now).fields) (λ f. guardian_bound f.ty)) (done_of sheet.now.bytes.now result) }
 {
+    // No `for`: the body asks how many are left.
     let mut items = sheet.records(1, item_count(sheet.lines, 0));
     while let Some(at) = items.next() {
         item_bounds(sheet, at, items.left)?;

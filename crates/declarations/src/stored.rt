@@ -16,7 +16,7 @@ use grammar::kinds;
 use lookups::{ty_of_decl, type_code};
 use refusals::Refusal;
 use rules::codes;
-use sheet::{LoadedSheet, name, type_arg_count};
+use sheet::{LoadedSheet, type_arg_count};
 use text::is_word;
 
 // Int, Bool, Time, Address, Word64 or Name.

@@ -39,11 +39,11 @@ abbrev pub TakesHeader : (old new : Option (List ℕ)) → Option Lengths → Ty
 TakesHeader old new (Some lengths) = (head : List ℕ) × IsHeader head lengths × Consumes old new head
 TakesHeader old new None = (part : List ℕ) × (length part < 24) × Consumes old new part × IsAtEnd new
 
--- a header and a sheet of as many bytes as `size` says were taken from the input, and `line` of them was written
-abbrev pub AnswersFrame : (input input' out out' : Option (List ℕ)) (size : Lengths → ℕ) (line : List ℕ → Lengths → List ℕ) → Type 0
-AnswersFrame input input' out out' size line =
-    (lengths : Lengths) × (head sheet : List ℕ) × IsHeader head lengths × (length sheet ≡ size lengths) × Consumes input input' (head ++ sheet)
-    × Appends out out' (line sheet lengths)
+-- a header, of lengths that `fits` allows, and a sheet of as many bytes as `size` says were taken from the input, and `line` of them was written
+abbrev pub AnswersFrame : (input input' out out' : Option (List ℕ)) (fits : Lengths → Type 0) (size : Lengths → ℕ) (line : List ℕ → Lengths → List ℕ) → Type 0
+AnswersFrame input input' out out' fits size line =
+    (lengths : Lengths) × (head sheet : List ℕ) × fits lengths × IsHeader head lengths × (length sheet ≡ size lengths)
+    × Consumes input input' (head ++ sheet) × Appends out out' (line sheet lengths)
 
 -- all that was left of the input was taken: fewer bytes than a header has, or a header and fewer bytes than `size` says
 abbrev pub EndsFrames : (old new : Option (List ℕ)) (size : Lengths → ℕ) → Type 0

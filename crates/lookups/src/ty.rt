@@ -12,7 +12,7 @@ ghost use Rattle.rules.specs.Kept.{ty_from};
 
 use grammar::kinds;
 use rules::{codes, is_type};
-use sheet::{LoadedSheet, end, name, type_arg_count};
+use sheet::{LoadedSheet, end, type_arg_count};
 use text::{index_in, is_word};
 
 // The type that the name at a place of the table in ty_in_table means, Unknown behind its end.

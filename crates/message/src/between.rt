@@ -9,7 +9,7 @@ ghost use Rattle.rules.specs.Kept.{ty_from};
 
 use grammar::kinds;
 use rules::codes;
-use sheet::{LoadedSheet, name};
+use sheet::LoadedSheet;
 use writing::{add, say};
 
 // Adds the name of the record at line i between two texts.

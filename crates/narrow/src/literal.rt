@@ -17,10 +17,7 @@ const LIMB: u64 = 281474976710656;
 fn digit(b: u8) -> u64
     ensures { result ≡ b - 48 }
 {
-    if b < 48 {
-        return 0;
-    }
-    (b - 48) as u64
+    u64::from(b.saturating_sub(b'0'))
 }
 
 // The number n with one more digit.

@@ -9,7 +9,7 @@
 
 mod noise;
 
-ghost use Rattle.std.specs.Prelude.{IfOk, OnOk};
+ghost use Rattle.std.specs.Prelude.{⊤, IfOk, OnOk};
 ghost use Rattle.std.specs.Io.KnownBytes.{Appends, Keeps};
 ghost use Rattle.std.specs.Bool.{OnFalse, OnTrue};
 ghost use Rattle.frames.specs.Frame.{AnswersFrame, EndsFrames};
@@ -107,7 +107,7 @@ fn write_answer<W: Write>(out: &mut W, sheet: &[u8], lengths: Lengths) -> io::Re
 // One sheet with its header; whether there was one.
 fn turn<R: Read, W: Write>(input: &mut R, out: &mut W) -> io::Result<bool>
     ensures answered { IfOk result (λ there. OnTrue there (AnswersFrame (R.remaining input.old) (R.remaining input.new)
-        (W.contents out.old) (W.contents out.new) sheet_size line_for)) }
+        (W.contents out.old) (W.contents out.new) (λ lengths. ⊤) sheet_size line_for)) }
     ensures ended { IfOk result (λ there. OnFalse there (EndsFrames (R.remaining input.old) (R.remaining input.new) sheet_size)) }
     ensures kept { IfOk result (λ there. OnFalse there (Keeps (W.contents out.old) (W.contents out.new))) }
 {

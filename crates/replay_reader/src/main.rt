@@ -2,7 +2,7 @@
 // number and place, or the number of lines and each line's word, depth and end.
 #![tactic(auto)]
 
-ghost use Rattle.std.specs.Prelude.{◌≡◌, ◌≤◌, IfOk, OnOk};
+ghost use Rattle.std.specs.Prelude.{◌≡◌, ◌≤◌, max, IfOk, OnOk};
 ghost use Rattle.std.specs.Bool.{OnFalse, OnTrue};
 ghost use Rattle.std.specs.Io.KnownBytes.{Appends, Keeps};
 ghost use Rattle.frames.specs.Frame.{AnswersFrame};
@@ -85,7 +85,7 @@ fn write_answer<W: Write>(out: &mut W, text: &[u8], lengths: Lengths) -> io::Res
 // One sheet with its header; whether it was answered.
 fn turn<R: Read, W: Write>(input: &mut R, out: &mut W) -> io::Result<bool>
     ensures answered { IfOk result (λ there. OnTrue there (AnswersFrame (R.remaining input.old) (R.remaining input.new)
-        (W.contents out.old) (W.contents out.new) (λ lengths. lengths.sheet) text_for)) }
+        (W.contents out.old) (W.contents out.new) (λ lengths. max lengths.sheet lengths.scratch ≤ MOST) (λ lengths. lengths.sheet) text_for)) }
     ensures ended { IfOk result (λ there. OnFalse there (EndsReader (R.remaining input.old) (R.remaining input.new))) }
     ensures kept { IfOk result (λ there. OnFalse there (Keeps (W.contents out.old) (W.contents out.new))) }
 {

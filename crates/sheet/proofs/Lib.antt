@@ -20,4 +20,3 @@ pub mod Rereading
 pub mod FromOne
 pub mod Joining
 pub mod Bytes
-pub mod Starts

@@ -18,11 +18,6 @@ use Rattle.sheet.specs.declared.refusal.Refused.{Refused}
 use Rattle.std.specs.Prelude.{Result, Ok, Err}
 use Rattle.sheet.proofs.Holds.{judged_lines, length-closed}
 
--- an empty sheet is unended
-pub none_unended : (s : List ℕ) → length s ≡ 0 → true ≡ unended s
-none_unended [] e = refl
-none_unended (b ∷ s) e = absurd (omega arith)
-
 -- as many lines are read as there are
 pub scan-length : (ls : List (List ℕ)) (i at : ℕ) (ds : List (ℕ × Sort)) (xs : List Line) → scan i at ds ls ≡ lines xs → length xs ≡ length ls
 unfolding scan

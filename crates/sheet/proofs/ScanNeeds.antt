@@ -16,7 +16,7 @@ use Rattle.sheet.specs.Line as spec
 use Rattle.grammar.specs.Table.{sort_of}
 use Rattle.sheet.specs.Scratch.{Small, line_count, put_line}
 use Rattle.sheet.specs.Step.{code_line, code_read}
-use Rattle.sheet.specs.Open.{Deepest, Top, sort_due, sort_or, taken}
+use Rattle.sheet.specs.Open.{Top, sort_due, sort_or, taken}
 use Rattle.sheet.specs.Load.{refused}
 use Rattle.sheet.specs.Scan.{Whole, Going, Scans}
 use Rattle.sheet.specs.declared.line.Line.{Line}
@@ -33,9 +33,6 @@ abbrev pub Got : List ℕ → ℕ → ℕ → ℕ → ℕ → Result Line Refuse
 Got s at i σ f r = r ≡ code_read (i + 1) (read_pieces (sort_of σ) at (ended (either 44 10) [] (take (f + 1 - at) (drop at s))))
 
 module _ {s S T : List ℕ} {d : Depths} {at i : ℕ} (g : Going s S T d.due d.count at i) (w : Whole s S) where
-  pub deepest : Deepest T d.due d.count
-  deepest = λ h f. ((g.counts f).0.owned (d.count - 1) (omega arith) (omega arith)).next
-
   -- n lines are there: all are read
   module _ {n : ℕ} (t : n ≡ line_count S) (h : n ≤ i) where
     over : length s ≤ at

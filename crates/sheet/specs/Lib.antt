@@ -13,5 +13,4 @@ pub mod Scan
 pub mod Promise
 pub mod Loaded
 pub mod Once
-pub mod Starts
 pub mod Records

@@ -1,11 +1,7 @@
 -- What the iterator over records gives.
-use Rattle.std.specs.Prelude.{ℕ, suc, ◌≡◌, List, Option, None, Some}
+use Rattle.std.specs.Prelude.{ℕ, suc, ◌≡◌, Option, None, Some}
 use Rattle.sheet.specs.Scratch.{end_at}
-use Rattle.sheet.specs.Starts.{starts}
 use Rattle.sheet.specs.declared.records.Records.{Records}
-
-abbrev pub starts_of : Records → List ℕ
-starts_of r = starts r.lines.now r.left r.at
 
 -- a record is at line i, and t are those behind it
 pub record Steps (r : Records) (i : ℕ) (t : Records) : Type 0 where

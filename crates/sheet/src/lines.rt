@@ -1,4 +1,5 @@
 // What a loaded line says. Lines are counted from 0. Of a line that isn't there all numbers but `nspan` are 0, and name and word are empty.
+// The functions ask nothing of what they are given, so they take the bytes and the lines apart; `LoadedSheet` asks that the lines are loaded.
 ghost use Rattle.std.specs.Prelude.{◌≡◌};
 ghost use Rattle.sheet.specs.Scratch.{end_at, kind_at, name_at, op_at, item_count, field_count, param_count, genesis_count, clause_count, body_count, default_count, type_arg_count, emit_arg_count, call_arg_count, target_count, from_count};
 ghost use Rattle.sheet.specs.Say.{cut as cut_of};

@@ -15,7 +15,7 @@ use env::{Env, keyed_of, ty_of_ident};
 use grammar::{kinds, ops};
 use refusals::Refusal;
 use rules::codes;
-use sheet::{LoadedSheet, op};
+use sheet::LoadedSheet;
 use text::index_in;
 use typing::{check_keyed_call, ty_of};
 

@@ -19,20 +19,6 @@ unfolding all
 all_listed p [] = refl
 all_listed p (b ∷ bs) = rw (all_listed p bs)
 
--- A turn of a test of every element: r is the answer, and i the place of the turn.
-module _ (p : ℕ → Bool) (s : List ℕ) (i : ℕ) (r : Bool) (e : r ≡ all p (drop i s)) where
-  pub all_stop : p (get_or s i 0) ≡ false → i < length s → false ≡ r
-  unfolding all
-  all_stop t h = sym (e ∙ rw (drop-cons s i 0 h, t))
-
-  pub all_more : p (get_or s i 0) ≡ true → i < length s → r ≡ all p (drop (i + 1) s)
-  unfolding all
-  all_more t h = e ∙ rw (add-one, drop-cons s i 0 h, t)
-
-  pub all_over : length s ≤ i → true ≡ r
-  unfolding all
-  all_over h = sym (e ∙ rw (drop_of_length-le s h))
-
 -- a number grows with its digits
 pub value_grows : (v : ℕ) (l : List ℕ) → v ≤ value_from v l
 unfolding value_from

@@ -5,7 +5,7 @@ use mathlib.Core.Bool.{Bool, true, false, cond}
 use Prim.Native.Nat.{ℕ, zero, suc, min, ◌+◌, ◌-◌, ◌≤◌, ◌<◌}
 use native.Mathlib.Omega.{arith}
 use lib.Dec.{leb}
-use lib.ListN.{length, set, take, drop, length-append, length-drop, drop_of_length-le}
+use lib.ListN.{length, take, drop, length-append, length-drop, drop_of_length-le}
 use lib.Seq.{take_all}
 use borrow.Rule.Slice.PartMut.{put_mid, mid_of}
 use borrow.Author.Tests.{le-leb, leb-true, leb-false}
@@ -41,12 +41,6 @@ unfolding overlay
 overlay_none [] a = refl
 overlay_none (b ∷ B) zero = refl
 overlay_none (b ∷ B) (suc a) = ap (λ U. b ∷ U) (overlay_none B a)
-
-overlay_one : (B : List ℕ) (a c : ℕ) → overlay B a (c ∷ []) ≡ set B a c
-unfolding overlay
-overlay_one [] a c = refl
-overlay_one (b ∷ B) zero c = ap (λ U. c ∷ U) (overlay_none B zero)
-overlay_one (b ∷ B) (suc a) c = ap (λ U. b ∷ U) (overlay_one B a c)
 
 overlay-length : (B : List ℕ) (a : ℕ) (t : List ℕ) → length (overlay B a t) ≡ length B
 unfolding overlay
