@@ -18,7 +18,7 @@ use Rattle.grammar.specs.Grammar as grammar
 use Rattle.sheet.specs.Scratch.{kind_at, name_at, param_count}
 use Rattle.rules.specs.Text.{Name, is, among, last_named, get}
 use Rattle.rules.specs.Ast.{Entry, Param, param_of, type_name}
-use Rattle.rules.specs.Asking.{Ty}
+use Rattle.rules.specs.declared.ty.Ty.{Ty}
 use Rattle.rules.specs.Types.{ty_of_decl}
 use Rattle.rules.specs.Model.{is_asset_param}
 use Rattle.rules.specs.Typing.{is_some, ident_of}
@@ -128,44 +128,44 @@ module _ (E : Entry) (x : Name) (a : Bool) (e : a ≡ among x (asset_params E.pa
     unfolding amount_bounded
     amount_mints r g k = k ∙ rw (amount_bounded, ← e, q) (both_yes (any is_mints E.clauses) (among x (names E.params)) (sym f ∙ not-false b g))
 
--- What `bounded` meets: a term of the kind k.
-module _ (s S : List ℕ) (E : Entry) (i k : ℕ) (h : ExprAt s S i) (e : k ≡ kind_at S i) where
-  pub literal : k ≡ kinds.int → true ≡ bounded E (expr_at s i)
+-- What `bounded` meets.
+module _ (s S : List ℕ) (E : Entry) (i : ℕ) (h : ExprAt s S i) where
+  pub literal : kind_at S i ≡ kinds.int → true ≡ bounded E (expr_at s i)
   unfolding bounded bounded_addend is_some
-  literal q = rw (bounded, bounded_addend, int_at h.loaded h.here, ← e, eq-eqb k kinds.int q) refl
+  literal q = rw (bounded, bounded_addend, int_at h.loaded h.here, eq-eqb (kind_at S i) kinds.int q) refl
 
-  module _ (n : k ≢ kinds.int) where
+  module _ (n : kind_at S i ≢ kinds.int) where
     -- a term that is no literal is bounded as an amount
     by_amount : bounded E (expr_at s i) ≡ (amount_of (expr_at s i) (asset_params E.params) || (any is_mints E.clauses && amount_of (expr_at s i) (names E.params)))
     unfolding bounded bounded_addend is_minted_amount is_some
-    by_amount = rw (bounded, bounded_addend, int_at h.loaded h.here, ← e, ne_eqb k kinds.int n) refl
+    by_amount = rw (bounded, bounded_addend, int_at h.loaded h.here, ne_eqb (kind_at S i) kinds.int n) refl
 
     no_amount : ((xs : List Name) → amount_of (expr_at s i) xs ≡ false) → false ≡ bounded E (expr_at s i)
     no_amount f = sym (by_amount ∙ rw (f (asset_params E.params)) (both_not (any is_mints E.clauses) (amount_of (expr_at s i) (names E.params)) (f (names E.params))))
 
-    pub no_dot : k ≢ kinds.dot → false ≡ bounded E (expr_at s i)
+    pub no_dot : kind_at S i ≢ kinds.dot → false ≡ bounded E (expr_at s i)
     unfolding amount_of
-    no_dot m = no_amount (λ xs. rw (amount_of, is_dot_at h.loaded h.here, ← e, ne_eqb k kinds.dot m) refl)
+    no_dot m = no_amount (λ xs. rw (amount_of, is_dot_at h.loaded h.here, ne_eqb (kind_at S i) kinds.dot m) refl)
 
-    module _ (q : k ≡ kinds.dot) (y : Name) (b : Bool) (f : y ≡ name_at s S i) (g : b ≡ same y (bytes "amount")) where
+    module _ (q : kind_at S i ≡ kinds.dot) (y : Name) (b : Bool) (f : y ≡ name_at s S i) (g : b ≡ same y (bytes "amount")) where
       base : ExprAt s S (suc i)
-      base = record { loaded = h.loaded; here = row_first (dot_at_lem h.loaded h.here (sym e ∙ q)).1 }
+      base = record { loaded = h.loaded; here = row_first (dot_at_lem h.loaded h.here q).1 }
 
       the_dot_lem : (xs : List Name) → amount_of (expr_at s i) xs ≡ (b && elim (ident_of (expr_at s (i + 1))) [ none ↦ false | some x ↦ among x xs ])
       unfolding amount_of is
-      the_dot_lem xs = rw (amount_of, is_dot_at h.loaded h.here, ← e, eq-eqb k kinds.dot q, ← f, ← g, add-one i) refl
+      the_dot_lem xs = rw (amount_of, is_dot_at h.loaded h.here, eq-eqb (kind_at S i) kinds.dot q, ← f, ← g, add-one i) refl
 
       pub no_amount_name : not b ≡ true → false ≡ bounded E (expr_at s i)
       no_amount_name z = no_amount (λ xs. the_dot_lem xs ∙ rw (not-true b z) refl)
 
-      module _ (z : not b ≡ false) (l : ℕ) (t : l ≡ kind_at S (i + 1)) where
-        pub no_ident : l ≢ kinds.id → false ≡ bounded E (expr_at s i)
+      module _ (z : not b ≡ false) where
+        pub no_ident : kind_at S (i + 1) ≢ kinds.id → false ≡ bounded E (expr_at s i)
         no_ident m =
-            no_amount (λ xs. the_dot_lem xs ∙ rw (not-false b z, add-one i, ident_at base.loaded base.here, ← add-one i, ← t, ne_eqb l kinds.id m) refl)
+            no_amount (λ xs. the_dot_lem xs ∙ rw (not-false b z, add-one i, ident_at base.loaded base.here, ← add-one i, ne_eqb (kind_at S (i + 1)) kinds.id m) refl)
 
-        pub ident_amount : (x : Name) (r : Bool) → l ≡ kinds.id → x ≡ name_at s S (i + 1) → r ≡ amount_bounded E x → r ≡ bounded E (expr_at s i)
+        pub ident_amount : (x : Name) (r : Bool) → kind_at S (i + 1) ≡ kinds.id → x ≡ name_at s S (i + 1) → r ≡ amount_bounded E x → r ≡ bounded E (expr_at s i)
         unfolding amount_bounded
         ident_amount x r m u v =
             let w : (xs : List Name) → amount_of (expr_at s i) xs ≡ among x xs =
-            λ xs. the_dot_lem xs ∙ rw (not-false b z, add-one i, ident_at base.loaded base.here, ← add-one i, ← t, ← u, eq-eqb l kinds.id m) refl in
+            λ xs. the_dot_lem xs ∙ rw (not-false b z, add-one i, ident_at base.loaded base.here, ← add-one i, ← u, eq-eqb (kind_at S (i + 1)) kinds.id m) refl in
             v ∙ sym (by_amount ∙ rw (w (asset_params E.params), w (names E.params)) refl)

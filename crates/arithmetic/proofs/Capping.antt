@@ -1,5 +1,5 @@
 -- Clauses that cap a name from above. Assumes nothing.
-use mathlib.Core.Logic.{◌≢◌}
+use mathlib.Core.Logic.{◌≢◌, ◌⊎◌, inl, inr}
 use mathlib.Core.Path.{◌≡◌, refl, sym, ◌∙◌}
 use mathlib.Core.List.{List}
 use mathlib.Core.Bool.{Bool, true, false, not, ◌&&◌, ◌||◌, or-false}
@@ -9,13 +9,12 @@ use native.Mathlib.Omega.{arith}
 use mir.Syntax.{w64}
 use mir.Val.{Fits}
 use lib.Dec.{eqb}
-use lib.ListN.{length, get_or}
+use lib.ListN.{length}
 use borrow.Author.Tests.{not-true, not-false}
 use Rattle.grammar.specs.Grammar as grammar
 use Rattle.sheet.specs.Scratch.{kind_at, op_at, end_at}
-use Rattle.sheet.specs.Say.{span_at}
 use Rattle.rules.specs.Text.{Name}
-use Rattle.rules.specs.Ast.{Shr, bin_ops, Expr, Exprs, nil, more, binary}
+use Rattle.rules.specs.Ast.{Le, Lt, Ge, Gt, Expr, Exprs, nil, more}
 use Rattle.rules.specs.Arithmetic.{op_place, is_op, mentions, subtracts, upper_bounds, caps_from_above, limits_cap}
 use Rattle.rules.specs.Standing.{expr_at, clause_at}
 use Rattle.rules.proofs.Exprs.{by_kind}
@@ -23,14 +22,16 @@ use Rattle.rules.proofs.Forest.{joined, parts_of}
 use Rattle.rules.proofs.Walks.{any_joined, Walk, walk_one, walk_over, walk_found, walk_inside, walk_behind}
 use Rattle.rules.proofs.Standing.{row_first}
 use Rattle.rules.proofs.Records.{limits_at}
-use Rattle.text.proofs.Tests.{or_parts}
 use Rattle.lookups.specs.Lines.{ExprAt, RecordAt}
 use Rattle.arithmetic.specs.Tests.{compares}
-use Rattle.arithmetic.proofs.Ops.{op_place_lem, either, fits_next, the_bin, the_op}
+use Rattle.arithmetic.proofs.Ops.{op_place_lem, op_meant, fits_next, the_bin, the_op}
 use Rattle.arithmetic.proofs.Rows.{no_limits}
 use Rattle.arithmetic.proofs.Walks.{walk_here}
 use Rattle.grammar.specs.Kinds as kinds
 use Rattle.grammar.specs.Operators as ops
+use Rattle.grammar.specs.Coded.{bin_number, bin_of}
+use Rattle.grammar.specs.declared.ops.BinOp as code
+use Rattle.grammar.specs.declared.ops.BinOp.TheVariants as op
 
 -- ------------------------------------------------------------ subtracts, upper_bounds
 
@@ -66,43 +67,57 @@ module _ (a b : Expr) (x : Name) (m : Bool) (e : m ≡ mentions a x) where
 
 -- ------------------------------------------------------------ comparisons
 
--- What `compares` meets: an expression of the kind k.
-module _ (s S : List ℕ) (i : ℕ) (x : Name) (h : ExprAt s S i) (k : ℕ) (e : k ≡ kind_at S i) where
-  pub no_bin : k ≢ kinds.bin → false ≡ compares (expr_at s i) x
+-- an operator that is none of the four
+no_comparison : (u v : Bool) (r : code.BinOp) → r ≢ op.Lt → r ≢ op.Gt → r ≢ op.Le → r ≢ op.Ge
+    → (((eqb (bin_number r) ops.bin_le || eqb (bin_number r) ops.bin_lt) && u) || ((eqb (bin_number r) ops.bin_ge || eqb (bin_number r) ops.bin_gt) && v)) ≡ false
+no_comparison u v op.Or a b c d = refl
+no_comparison u v op.And a b c d = refl
+no_comparison u v op.Eq a b c d = refl
+no_comparison u v op.Ne a b c d = refl
+no_comparison u v op.Lt a b c d = absurd (a refl)
+no_comparison u v op.Gt a b c d = absurd (b refl)
+no_comparison u v op.Le a b c d = absurd (c refl)
+no_comparison u v op.Ge a b c d = absurd (d refl)
+no_comparison u v op.Add a b c d = refl
+no_comparison u v op.Sub a b c d = refl
+no_comparison u v op.Mul a b c d = refl
+no_comparison u v op.Div a b c d = refl
+no_comparison u v op.Rem a b c d = refl
+no_comparison u v op.Shr a b c d = refl
+
+-- What `compares` meets.
+module _ (s S : List ℕ) (i : ℕ) (x : Name) (h : ExprAt s S i) where
+  pub no_bin : kind_at S i ≢ kinds.bin → false ≡ compares (expr_at s i) x
   unfolding compares
   no_bin n =
       by_kind h.loaded h.here (λ k e. k ≢ kinds.bin → false ≡ compares e x)
       (λ k _ _ _. refl) (λ _. refl) (λ y. absurd (y refl)) (λ _. refl) (λ _. refl) (λ k w _ _. refl)
-      (rw (← e) n)
+      n
 
-  module _ (q : k ≡ kinds.bin) (o j : ℕ) (f : o ≡ op_at S i) (g : j ≡ end_at S (i + 1)) where
+  module _ (q : kind_at S i ≡ kinds.bin) (r : code.BinOp) (j : ℕ) (f : r ≡ bin_of (op_at S i)) (g : j ≡ end_at S (i + 1)) where
     abbrev a : Expr
     a = expr_at s (i + 1)
 
     abbrev b : Expr
     b = expr_at s j
 
-    by_op : compares (expr_at s i) x ≡ compares (binary i (span_at s S i) (get_or bin_ops o Shr) a b) x
-    by_op = rw (the_bin s S i h k e q, f, g) refl
+    by_op : compares (expr_at s i) x
+        ≡ (((eqb (bin_number r) ops.bin_le || eqb (bin_number r) ops.bin_lt) && upper_bounds a b x) || ((eqb (bin_number r) ops.bin_ge || eqb (bin_number r) ops.bin_gt) && upper_bounds b a x))
+    unfolding compares op_place
+    by_op =
+        let n = op_at S i in
+        rw (the_bin s S i h q, op_meant n Le, op_meant n Lt, op_meant n Ge, op_meant n Gt, ← f, ← g) refl
 
-    pub compares_below : (r : Bool) → (eqb o ops.bin_le || eqb o ops.bin_lt) ≡ true → r ≡ upper_bounds (expr_at s (i + 1)) (expr_at s j) x → r ≡ compares (expr_at s i) x
-    unfolding compares is_op op_place
-    compares_below r t u =
-        u ∙ sym (by_op ∙ either (λ o. compares (binary i (span_at s S i) (get_or bin_ops o Shr) a b) x ≡ upper_bounds a b x) o ops.bin_le ops.bin_lt t (or-false _) (or-false _))
+    pub compares_below : (t : Bool) → (r ≡ op.Le) ⊎ (r ≡ op.Lt) → t ≡ upper_bounds (expr_at s (i + 1)) (expr_at s j) x → t ≡ compares (expr_at s i) x
+    compares_below t (inl e) u = u ∙ sym (by_op ∙ rw e (or-false _))
+    compares_below t (inr e) u = u ∙ sym (by_op ∙ rw e (or-false _))
 
-    module _ (t : (eqb o ops.bin_le || eqb o ops.bin_lt) ≡ false) where
-      pub compares_above : (r : Bool) → (eqb o ops.bin_ge || eqb o ops.bin_gt) ≡ true → r ≡ upper_bounds (expr_at s j) (expr_at s (i + 1)) x → r ≡ compares (expr_at s i) x
-      unfolding compares is_op op_place
-      compares_above r v u =
-          u ∙ sym (by_op ∙ either (λ o. compares (binary i (span_at s S i) (get_or bin_ops o Shr) a b) x ≡ upper_bounds b a x) o ops.bin_ge ops.bin_gt v refl refl)
+    pub compares_above : (t : Bool) → (r ≡ op.Ge) ⊎ (r ≡ op.Gt) → t ≡ upper_bounds (expr_at s j) (expr_at s (i + 1)) x → t ≡ compares (expr_at s i) x
+    compares_above t (inl e) u = u ∙ sym (by_op ∙ rw e refl)
+    compares_above t (inr e) u = u ∙ sym (by_op ∙ rw e refl)
 
-      pub compares_not : (eqb o ops.bin_ge || eqb o ops.bin_gt) ≡ false → false ≡ compares (expr_at s i) x
-      unfolding compares is_op op_place
-      compares_not v =
-          let y = or_parts (eqb o ops.bin_le) (eqb o ops.bin_lt) t in
-          let z = or_parts (eqb o ops.bin_ge) (eqb o ops.bin_gt) v in
-          sym (by_op
-          ∙ rw (op_place_lem o ops.bin_le (omega arith), op_place_lem o ops.bin_lt (omega arith), op_place_lem o ops.bin_ge (omega arith), op_place_lem o ops.bin_gt (omega arith), y.0, y.1, z.0, z.1) refl)
+    pub compares_not : r ≢ op.Lt → r ≢ op.Gt → r ≢ op.Le → r ≢ op.Ge → false ≡ compares (expr_at s i) x
+    compares_not c d e z = sym (by_op ∙ no_comparison (upper_bounds a b x) (upper_bounds b a x) r c d e z)
 
 -- ------------------------------------------------------------ caps_from_above
 
@@ -162,18 +177,18 @@ module _ (s S : List ℕ) (x : Name) (whole : Bool) (end at : ℕ) (w : Caps s S
 
 -- ------------------------------------------------------------ clauses
 
--- What `limits_cap` meets: a clause of the kind k.
-module _ (s S : List ℕ) (i k : ℕ) (h : RecordAt grammar.Clause s S i) (e : k ≡ kind_at S i) where
+-- What `limits_cap` meets.
+module _ (s S : List ℕ) (i : ℕ) (h : RecordAt grammar.Clause s S i) where
   pub clause_next : length S < 18446744073709551616 → Fits w64 (i + 1)
   clause_next l = fits_next S i h.here.within l
 
-  pub other_clause : (x : Name) → k ≢ kinds.limits → false ≡ limits_cap x (clause_at s i)
-  other_clause x n = sym (no_limits h.loaded h.here x (rw (← e) n))
+  pub other_clause : (x : Name) → kind_at S i ≢ kinds.limits → false ≡ limits_cap x (clause_at s i)
+  other_clause x n = sym (no_limits h.loaded h.here x n)
 
-  module _ (q : k ≡ kinds.limits) where
+  module _ (q : kind_at S i ≡ kinds.limits) where
     pub limits_expr : ExprAt s S (i + 1)
-    limits_expr = rw (add-one i) (record { loaded = h.loaded; here = row_first (limits_at h.loaded h.here (sym e ∙ q)).1 })
+    limits_expr = rw (add-one i) (record { loaded = h.loaded; here = row_first (limits_at h.loaded h.here q).1 })
 
     pub limits_clause : (x : Name) (r : Bool) → r ≡ caps_from_above (expr_at s (i + 1)) x → r ≡ limits_cap x (clause_at s i)
     unfolding limits_cap
-    limits_clause x r f = f ∙ rw ((limits_at h.loaded h.here (sym e ∙ q)).0, add-one i) refl
+    limits_clause x r f = f ∙ rw ((limits_at h.loaded h.here q).0, add-one i) refl

@@ -10,13 +10,17 @@ use native.Mathlib.Omega.{arith}
 use mir.Syntax.{w64}
 use mir.Val.{Fits}
 use lib.ListN.{length, get_or}
-use borrow.Author.Tests.{eq-eqb, ne_eqb, not-true, not-false}
+use lib.Dec.{eqb}
+use borrow.Author.Tests.{not-true, not-false}
 use Rattle.std.specs.Prelude.{Result, Ok, Err}
 use Rattle.grammar.specs.Grammar as grammar
+use Rattle.grammar.specs.Coded.{assign_of}
+use Rattle.grammar.specs.declared.ops.AssignOp as code
 use Rattle.sheet.specs.Scratch.{kind_at, op_at, name_at, end_at, skip, clause_count, param_count, body_count}
 use Rattle.rules.specs.Text.{Name, among, get}
 use Rattle.rules.specs.Ast.{AssignOp, Set, assign_ops, Expr, Entry, assign}
-use Rattle.rules.specs.Asking.{Ty, Rule, Res, ok, refused, expect, if_some, for_each}
+use Rattle.rules.specs.Asking.{Rule, Res, ok, refused, expect, if_some, for_each}
+use Rattle.rules.specs.declared.ty.Ty.{Ty}
 use Rattle.rules.specs.Arithmetic.{any, acknowledged, addends, bounded, limits_bound, overflow_text, check_sum, check_arithmetic}
 use Rattle.rules.specs.Check.{param_types}
 use Rattle.rules.specs.Typing.{is_some, ident_of}
@@ -33,6 +37,8 @@ use Rattle.refusals.specs.declared.refusal.Refusal.TheVariants.{Overflow}
 use Rattle.lookups.proofs.Rows.{Turn}
 use Rattle.refusals.proofs.Answers.{gives, fits, misfits}
 use Rattle.arithmetic.specs.Tests.{names, added, adds_unbounded}
+use Rattle.rules.specs.Operators.{assign_meant}
+use Rattle.rules.proofs.Operators.{assign_told}
 use Rattle.arithmetic.proofs.Ops.{fits_next}
 use Rattle.arithmetic.proofs.Rows.{parts_of_lem}
 use Rattle.arithmetic.proofs.Bounds.{typed_names}
@@ -83,38 +89,38 @@ or_true : (a : Bool) → (a || true) ≡ true
 or_true true = refl
 or_true false = refl
 
--- The target and the value of an assignment, a statement of the kind k at line i.
-module _ (s S : List ℕ) (i k : ℕ) (h : RecordAt grammar.Stmt s S i) (e : k ≡ kind_at S i) where
+-- The target and the value of an assignment, a statement at line i.
+module _ (s S : List ℕ) (i : ℕ) (h : RecordAt grammar.Stmt s S i) where
   pub stmt_next : length S < 18446744073709551616 → Fits w64 (i + 1)
   stmt_next l = fits_next S i h.here.within l
 
-  module _ (q : k ≡ kinds.assign) where
+  module _ (q : kind_at S i ≡ kinds.assign) where
     pub target_expr : ExprAt s S (i + 1)
-    target_expr = rw (add-one i) (record { loaded = h.loaded; here = row_first (assign_at h.loaded h.here (sym e ∙ q)).1 })
+    target_expr = rw (add-one i) (record { loaded = h.loaded; here = row_first (assign_at h.loaded h.here q).1 })
 
     pub value_expr : (j : ℕ) → j ≡ end_at S (i + 1) → ExprAt s S j
-    value_expr j f = rw (f, add-one i) (record { loaded = h.loaded; here = row_first (row_rest (assign_at h.loaded h.here (sym e ∙ q)).1) })
+    value_expr j f = rw (f, add-one i) (record { loaded = h.loaded; here = row_first (row_rest (assign_at h.loaded h.here q).1) })
 
 -- What `check_sum` meets: such a statement.
-module _ (s S : List ℕ) (E : Entry) (i k : ℕ) (h : RecordAt grammar.Stmt s S i) (e : k ≡ kind_at S i) where
+module _ (s S : List ℕ) (E : Entry) (i : ℕ) (h : RecordAt grammar.Stmt s S i) where
   abbrev Judged : Result Unit Refusal → Type 0
   Judged r = Answers (check_sum E (param_types E.params) (stmt_at s i)) (done_of s r)
 
-  pub other_stmt : k ≢ kinds.assign → Answers (check_sum E (param_types E.params) (stmt_at s i)) (done_of s (Ok tt))
+  pub other_stmt : kind_at S i ≢ kinds.assign → Answers (check_sum E (param_types E.params) (stmt_at s i)) (done_of s (Ok tt))
   unfolding check_sum done_of
   other_stmt n =
-      pick {P = λ k. k ≢ kinds.assign → kind_at S i ≡ k → Judged (Ok tt)} {i = kinds.guard} {n = 5} (kind_at S i)
+      pick {P = λ n. n ≢ kinds.assign → kind_at S i ≡ n → Judged (Ok tt)} {i = kinds.guard} {n = 5} (kind_at S i)
       ((λ _ q. rw (guard_at h.loaded h.here q).0 (gives tt))
       also (λ _ q. rw (let_at h.loaded h.here q).0 (gives tt))
       also (λ _ q. rw (emit_at h.loaded h.here q).0 (gives tt))
       also (λ y q. absurd (y refl))
       also (λ _ q. rw (do_at h.loaded h.here q).0 (gives tt))
       also stop)
-      h.here.kind.0 h.here.kind.1 (rw (← e) n) refl
+      h.here.kind.0 h.here.kind.1 n refl
 
-  module _ (q : k ≡ kinds.assign) where
+  module _ (q : kind_at S i ≡ kinds.assign) where
     abbrev target : ExprAt s S (i + 1)
-    target = target_expr s S i k h e q
+    target = target_expr s S i h q
 
     abbrev op : AssignOp
     op = get_or assign_ops (op_at S i) Set
@@ -128,21 +134,21 @@ module _ (s S : List ℕ) (E : Entry) (i k : ℕ) (h : RecordAt grammar.Stmt s S
     the_sum : (n : Option Name) (r : Res Unit) → ident_of T ≡ n → Answers (judge E (param_types E.params) (place_at s i) n (terms_of op T W)) r
         → Answers (check_sum E (param_types E.params) (stmt_at s i)) r
     the_sum n r f a =
-        rw ((assign_at h.loaded h.here (sym e ∙ q)).0, ← add-one i) (by_judge E (param_types E.params) (place_at s i) op T W r (rw f a))
+        rw ((assign_at h.loaded h.here q).0, ← add-one i) (by_judge E (param_types E.params) (place_at s i) op T W r (rw f a))
 
-    module _ (l : ℕ) (t : l ≡ kind_at S (i + 1)) where
-      pub no_bare : l ≢ kinds.id → Answers (check_sum E (param_types E.params) (stmt_at s i)) (done_of s (Ok tt))
+    module _ (t : Bool) (w : t ≡ eqb (kind_at S (i + 1)) kinds.id) where
+      pub no_bare : t ≡ false → Answers (check_sum E (param_types E.params) (stmt_at s i)) (done_of s (Ok tt))
       unfolding done_of
       no_bare n =
-          the_sum none (ok tt) (ident_at target.loaded target.here ∙ rw (← t, ne_eqb l kinds.id n) refl)
+          the_sum none (ok tt) (ident_at target.loaded target.here ∙ rw (← w, n) refl)
           (judge_none E (param_types E.params) (place_at s i) (terms_of op T W))
 
-      module _ (y : l ≡ kinds.id) (o j : ℕ) (b : Bool) (f : o ≡ op_at S i) (g : j ≡ end_at S (i + 1)) (a : b ≡ adds_unbounded E (get_or assign_ops o Set) (expr_at s (i + 1)) (expr_at s j)) where
+      module _ (y : t ≡ true) (o : code.AssignOp) (j : ℕ) (b : Bool) (f : o ≡ assign_of (op_at S i)) (g : j ≡ end_at S (i + 1)) (a : b ≡ adds_unbounded E (assign_meant o) (expr_at s (i + 1)) (expr_at s j)) where
         the_name : ident_of T ≡ some (name_at s S (i + 1))
-        the_name = ident_at target.loaded target.here ∙ rw (← t, eq-eqb l kinds.id y) refl
+        the_name = ident_at target.loaded target.here ∙ rw (← w, y) refl
 
         adds : added E (terms_of op T W) ≡ b
-        adds = sym (a ∙ rw (f, g) (is-added E op T W))
+        adds = sym (a ∙ rw (f, g, assign_told (op_at S i)) (is-added E op T W))
 
         fine : ((is_some (get (name_at s S (i + 1)) (param_types E.params)) || not b) || limits_bound E (name_at s S (i + 1))) ≡ true → Judged (Ok tt)
         unfolding done_of

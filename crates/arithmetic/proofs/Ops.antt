@@ -12,8 +12,8 @@ use lib.ListN.{length, get_or, drop}
 use borrow.Author.Tests.{eqb-true, eqb-false, eq-eqb, ne_eqb, ltb-true, ltb-false, not-false}
 use Rattle.sheet.specs.Scratch.{kind_at, op_at, end_at, line_count}
 use Rattle.sheet.specs.Say.{span_at}
-use Rattle.rules.specs.Ast.{Shr, bin_ops, binary}
-use Rattle.rules.specs.Arithmetic.{acknowledged, op_place}
+use Rattle.rules.specs.Ast.{BinOp, Shr, bin_ops, binary}
+use Rattle.rules.specs.Arithmetic.{acknowledged, is_op, op_place}
 use Rattle.rules.specs.Standing.{expr_at}
 use Rattle.rules.proofs.Parts.{stop, ◌also◌, pick}
 use Rattle.rules.proofs.Standing.{row_first, row_rest}
@@ -22,6 +22,9 @@ use Rattle.lookups.specs.Lines.{ExprAt}
 use Rattle.grammar.specs.Grammar.{no_kind}
 use Rattle.grammar.specs.Kinds as kinds
 use Rattle.grammar.specs.Operators as ops
+use Rattle.grammar.specs.Coded.{bin_number, bin_of}
+use Rattle.grammar.specs.declared.ops.BinOp.TheVariants as code
+use Rattle.std.proofs.lemmas.List.{get_or_past}
 
 -- ------------------------------------------------------------ operators
 
@@ -48,23 +51,30 @@ op_place_lem n p h = by_cases (ltb n ops.bin_shr) refl
         let q = ltb-false n ops.bin_shr e in
         rw (last_one Shr n ops.bin_shr bin_ops refl q, ne_eqb n p (omega arith), ne_eqb ops.bin_shr p (omega arith)) refl
 
-pub op_told : (S : List ℕ) (i o k p : ℕ) → k ≡ kind_at S i → p ≡ op_at S i → (eqb k kinds.bin && eqb p o) ≡ (eqb (kind_at S i) kinds.bin && eqb (op_at S i) o)
-op_told S i o k p e f = rw (e, f) refl
-
--- a number that is one of two
-pub either : (P : ℕ → Type 0) (n a b : ℕ) → (eqb n a || eqb n b) ≡ true → P a → P b → P n
-either P n a b e x y = by_cases (eqb n a) refl e
+-- the operator at a place, as the rules have it and as the code does
+pub op_meant : (n : ℕ) (p : BinOp) → is_op (get_or bin_ops n Shr) p ≡ eqb (bin_number (bin_of n)) (op_place p)
+unfolding is_op op_place
+op_meant n p = by_cases (ltb n ops.bin_shr) refl
   where
-    by_cases : (t : Bool) → eqb n a ≡ t → (t || eqb n b) ≡ true → P n
-    by_cases true q f = rw (eqb-true n a q) x
-    by_cases false q f = rw (eqb-true n b f) y
+    by_cases : (b : Bool) → ltb n ops.bin_shr ≡ b → is_op (get_or bin_ops n Shr) p ≡ eqb (bin_number (bin_of n)) (op_place p)
+    by_cases true e =
+        pick {P = λ k. is_op (get_or bin_ops k Shr) p ≡ eqb (bin_number (bin_of k)) (op_place p)} {i = 0} {n = ops.bin_shr} n
+        (refl also refl also refl also refl also refl also refl also refl also refl also refl also refl also refl also refl also refl also stop)
+        (omega arith) (ltb-true n ops.bin_shr e)
+    by_cases false e =
+        let q = ltb-false n ops.bin_shr e in
+        let z : bin_of n ≡ code.Shr = get_or_past (code.Or ∷ code.And ∷ code.Eq ∷ code.Ne ∷ code.Lt ∷ code.Gt ∷ code.Le ∷ code.Ge ∷ code.Add ∷ code.Sub ∷ code.Mul ∷ code.Div ∷ code.Rem ∷ []) n code.Shr q in
+        rw (last_one Shr n ops.bin_shr bin_ops refl q, z) refl
+
+pub op_told : (S : List ℕ) (i o p n : ℕ) (t : Bool) → t ≡ eqb (kind_at S i) kinds.bin → p ≡ op_at S i → n ≡ o → (t && eqb p n) ≡ (eqb (kind_at S i) kinds.bin && eqb (op_at S i) o)
+op_told S i o p n t e f g = rw (e, f, g) refl
 
 -- ------------------------------------------------------------ `acknowledged`
 
-pub acknowledged_at : (s S : List ℕ) (i k : ℕ) → ExprAt s S i → k ≡ kind_at S i → (eqb k kinds.checked || eqb k kinds.wrapping) ≡ acknowledged (expr_at s i)
+pub acknowledged_at : (s S : List ℕ) (i : ℕ) (a b : Bool) → ExprAt s S i → a ≡ eqb (kind_at S i) kinds.checked → b ≡ eqb (kind_at S i) kinds.wrapping → (a || b) ≡ acknowledged (expr_at s i)
 unfolding acknowledged
-acknowledged_at s S i k h e =
-    rw e
+acknowledged_at s S i a b h e f =
+    rw (e, f)
     (by_kind h.loaded h.here (λ k x. k < no_kind → (eqb k kinds.checked || eqb k kinds.wrapping) ≡ acknowledged x)
     (λ k a b l. rw (ne_eqb k kinds.checked (omega arith), ne_eqb k kinds.wrapping (omega arith)) refl)
     (λ l. refl) (λ l. refl) (λ l. refl) (λ l. refl) (λ k w a l. last_two k a l) h.here.kind.1)
@@ -87,17 +97,17 @@ expr_next s S i h l = fits_next S i h.here.within l
 -- ------------------------------------------------------------ a `bin`
 
 module _ (s S : List ℕ) (i : ℕ) (h : ExprAt s S i) where
-  -- What is told of a `bin` at line i, by its kind k.
-  module _ (k : ℕ) (e : k ≡ kind_at S i) (q : k ≡ kinds.bin) where
+  -- What is told of a `bin` at line i.
+  module _ (q : kind_at S i ≡ kinds.bin) where
     pub the_bin : expr_at s i ≡ binary i (span_at s S i) (get_or bin_ops (op_at S i) Shr) (expr_at s (i + 1)) (expr_at s (end_at S (i + 1)))
-    the_bin = rw (add-one i) (bin_at h.loaded h.here (sym e ∙ q)).0
+    the_bin = rw (add-one i) (bin_at h.loaded h.here q).0
 
     pub bin_left : ExprAt s S (i + 1)
-    bin_left = rw (add-one i) (record { loaded = h.loaded; here = row_first (bin_at h.loaded h.here (sym e ∙ q)).1 })
+    bin_left = rw (add-one i) (record { loaded = h.loaded; here = row_first (bin_at h.loaded h.here q).1 })
 
     pub bin_right : (j : ℕ) → j ≡ end_at S (i + 1) → ExprAt s S j
     bin_right j f =
-        rw (f, add-one i) (record { loaded = h.loaded; here = row_first (row_rest (bin_at h.loaded h.here (sym e ∙ q)).1) })
+        rw (f, add-one i) (record { loaded = h.loaded; here = row_first (row_rest (bin_at h.loaded h.here q).1) })
 
   -- ... and by the test of its operator.
   module _ (o : ℕ) (b : Bool) (t : b ≡ (eqb (kind_at S i) kinds.bin && eqb (op_at S i) o)) where
@@ -109,10 +119,10 @@ module _ (s S : List ℕ) (i : ℕ) (h : ExprAt s S i) where
 
     -- the expression with this operator
     pub the_op : b ≡ true → expr_at s i ≡ binary i (span_at s S i) (get_or bin_ops o Shr) (expr_at s (i + 1)) (expr_at s (end_at S (i + 1)))
-    the_op q = rw (← eqb-true (op_at S i) o (both q).1) (the_bin (kind_at S i) refl (is-bin q))
+    the_op q = rw (← eqb-true (op_at S i) o (both q).1) (the_bin (is-bin q))
 
     pub op_left : not b ≡ false → ExprAt s S (i + 1)
-    op_left q = bin_left (kind_at S i) refl (is-bin (not-false b q))
+    op_left q = bin_left (is-bin (not-false b q))
 
     pub op_right : (j : ℕ) → not b ≡ false → j ≡ end_at S (i + 1) → ExprAt s S j
-    op_right j q f = bin_right (kind_at S i) refl (is-bin (not-false b q)) j f
+    op_right j q f = bin_right (is-bin (not-false b q)) j f

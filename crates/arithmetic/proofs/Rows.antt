@@ -9,7 +9,6 @@ use mir.Syntax.{w64}
 use mir.Val.{Fits}
 use lib.Dec.{eqb}
 use lib.ListN.{length}
-use borrow.Author.Tests.{eq-eqb, ne_eqb}
 use Rattle.text.specs.Text.{same}
 use Rattle.grammar.specs.Grammar as grammar
 use Rattle.sheet.specs.Scratch.{kind_at, skip, param_count, clause_count, body_count}
@@ -70,15 +69,15 @@ module _ {s S : List ℕ} (d : Loaded s S) {i : ℕ} (h : Here S grammar.Clause 
       ((λ y e. absurd (y refl)) also (λ y e. rw (denies_at d h e).0 refl) also (λ y e. rw (mints_at d h e).0 refl) also (λ y e. rw (after_at d h e).0 refl) also stop)
       h.kind.0 h.kind.1 n refl
 
-module _ (s S : List ℕ) (whole : Bool) (r t : Records) (i : ℕ) (g : Clauses s S is_mints whole r) (h : Steps r i t) (k : ℕ) (e : k ≡ kind_at S i) where
-  by_clause : (b : Bool) → eqb k kinds.mints ≡ b → b ≡ is_mints (clause_at s i)
-  by_clause b q = sym (is_mints_lem g.walk.loaded (iter_here h g) ∙ rw (← e) q)
+module _ (s S : List ℕ) (whole : Bool) (r t : Records) (i : ℕ) (g : Clauses s S is_mints whole r) (h : Steps r i t) (b : Bool) (e : b ≡ eqb (kind_at S i) kinds.mints) where
+  by_clause : b ≡ is_mints (clause_at s i)
+  by_clause = e ∙ sym (is_mints_lem g.walk.loaded (iter_here h g))
 
-  pub mints_found : k ≡ kinds.mints → true ≡ whole
-  mints_found q = seek_found grammar.Clause clauses_at s S is_mints whole r g clause_at clauses i t h true (by_clause true (eq-eqb k kinds.mints q)) refl
+  pub mints_found : b ≡ true → true ≡ whole
+  mints_found q = seek_found grammar.Clause clauses_at s S is_mints whole r g clause_at clauses i t h b by_clause q
 
-  pub mints_next : k ≢ kinds.mints → Clauses s S is_mints whole t
-  mints_next q = seek_next grammar.Clause clauses_at s S is_mints whole r g clause_at clauses i t h false (by_clause false (ne_eqb k kinds.mints q)) refl
+  pub mints_next : b ≡ false → Clauses s S is_mints whole t
+  mints_next q = seek_next grammar.Clause clauses_at s S is_mints whole r g clause_at clauses i t h b by_clause q
 
 -- ------------------------------------------------------------ parameters
 

@@ -1,5 +1,4 @@
 -- The terms of a sum, line by line. Assumes nothing.
-use mathlib.Core.Logic.{◌≢◌}
 use mathlib.Core.Path.{◌≡◌, refl, sym, ap, ◌∙◌}
 use mathlib.Core.List.{List, [], ◌∷◌, ◌++◌, append-nil, append_assoc}
 use mathlib.Core.Bool.{Bool, true, false, not, ◌&&◌}
@@ -7,7 +6,7 @@ use mathlib.Core.Option.{Option, none, some, map}
 use Prim.Native.Nat.{ℕ, ◌+◌, ◌<◌, ◌≤◌}
 use native.Mathlib.Omega.{arith}
 use lib.Dec.{eqb}
-use borrow.Author.Tests.{eq-eqb, ne_eqb, not-true, not-false}
+use borrow.Author.Tests.{not-true, not-false}
 use Rattle.text.specs.Text.{same}
 use Rattle.sheet.specs.Scratch.{kind_at, op_at, name_at, end_at}
 use Rattle.rules.specs.Text.{Name}
@@ -27,22 +26,22 @@ use Rattle.grammar.specs.Operators as ops
 
 -- ------------------------------------------------------------ same_target
 
--- What `same_target` meets: two lines of the kinds k and l.
-module _ (s S : List ℕ) (a b k l : ℕ) (h : ExprAt s S a) (g : ExprAt s S b) (e : k ≡ kind_at S a) where
-  pub no_target : k ≢ kinds.id → false ≡ same_target (expr_at s a) (expr_at s b)
+-- What `same_target` meets: t and u tell whether the lines a and b are an `id`.
+module _ (s S : List ℕ) (a b : ℕ) (h : ExprAt s S a) (g : ExprAt s S b) (t : Bool) (e : t ≡ eqb (kind_at S a) kinds.id) where
+  pub no_target : t ≡ false → false ≡ same_target (expr_at s a) (expr_at s b)
   unfolding same_target
-  no_target n = rw (same_target, ident_at h.loaded h.here, ← e, ne_eqb k kinds.id n) refl
+  no_target n = rw (same_target, ident_at h.loaded h.here, ← e, n) refl
 
-  module _ (q : k ≡ kinds.id) (f : l ≡ kind_at S b) where
-    pub other_target : l ≢ kinds.id → false ≡ same_target (expr_at s a) (expr_at s b)
+  module _ (q : t ≡ true) (u : Bool) (f : u ≡ eqb (kind_at S b) kinds.id) where
+    pub other_target : u ≡ false → false ≡ same_target (expr_at s a) (expr_at s b)
     unfolding same_target
     other_target n =
-        rw (same_target, ident_at h.loaded h.here, ← e, eq-eqb k kinds.id q, ident_at g.loaded g.here, ← f, ne_eqb l kinds.id n) refl
+        rw (same_target, ident_at h.loaded h.here, ← e, q, ident_at g.loaded g.here, ← f, n) refl
 
-    pub both_targets : (x y : Name) (r : Bool) → l ≡ kinds.id → x ≡ name_at s S a → y ≡ name_at s S b → r ≡ same x y → r ≡ same_target (expr_at s a) (expr_at s b)
+    pub both_targets : (x y : Name) (r : Bool) → u ≡ true → x ≡ name_at s S a → y ≡ name_at s S b → r ≡ same x y → r ≡ same_target (expr_at s a) (expr_at s b)
     unfolding same_target
-    both_targets x y r n u v w =
-        w ∙ rw (same_target, ident_at h.loaded h.here, ← e, eq-eqb k kinds.id q, ident_at g.loaded g.here, ← f, eq-eqb l kinds.id n, u, v) refl
+    both_targets x y r n c d w =
+        w ∙ rw (same_target, ident_at h.loaded h.here, ← e, q, ident_at g.loaded g.here, ← f, n, c, d) refl
 
 -- ------------------------------------------------------------ sum_terms
 

@@ -1,11 +1,9 @@
 -- Walks over the lines of an expression. Assumes nothing.
-use mathlib.Core.Logic.{◌≢◌}
 use mathlib.Core.Path.{◌≡◌, refl, sym, ◌∙◌}
 use mathlib.Core.List.{List, [], ◌∷◌}
 use mathlib.Core.Bool.{Bool, true, false, ◌&&◌, ◌||◌, or_assoc, or-false, true≢false}
 use Prim.Native.Nat.{ℕ, ◌+◌, ◌<◌, ◌≤◌}
 use lib.Dec.{eqb}
-use borrow.Author.Tests.{eq-eqb, ne_eqb}
 use Rattle.text.specs.Text.{same}
 use Rattle.sheet.specs.Scratch.{kind_at, name_at, end_at}
 use Rattle.rules.specs.Text.{Name, among}
@@ -77,10 +75,10 @@ module _ (s S : List ℕ) (x : Name) (whole : Bool) (end at : ℕ) (w : Mention 
       pub mention_onward : b ≡ false → Mention s S x whole end (at + 1)
       mention_onward f = walk_inside w h (λ es z. z ∙ self es ∙ rw f refl)
 
--- What `is_named` meets: a line of the kind k.
-module _ (s S : List ℕ) (i k : ℕ) (x : Name) (e : k ≡ kind_at S i) where
-  pub other_kind : k ≢ kinds.id → false ≡ (eqb (kind_at S i) kinds.id && same (name_at s S i) x)
-  other_kind n = rw (← e, ne_eqb k kinds.id n) refl
+-- What `is_named` meets: t tells whether line i is an `id`.
+module _ (s S : List ℕ) (i : ℕ) (x : Name) (t : Bool) (e : t ≡ eqb (kind_at S i) kinds.id) where
+  pub other_kind : t ≡ false → false ≡ (eqb (kind_at S i) kinds.id && same (name_at s S i) x)
+  other_kind n = rw (← e, n) refl
 
-  pub named_kind : (n : Name) (r : Bool) → k ≡ kinds.id → n ≡ name_at s S i → r ≡ same n x → r ≡ (eqb (kind_at S i) kinds.id && same (name_at s S i) x)
-  named_kind n r q f g = rw (← e, eq-eqb k kinds.id q, ← f) g
+  pub named_kind : (n : Name) (r : Bool) → t ≡ true → n ≡ name_at s S i → r ≡ same n x → r ≡ (eqb (kind_at S i) kinds.id && same (name_at s S i) x)
+  named_kind n r q f g = rw (← e, q, ← f) g

@@ -9,7 +9,7 @@ ghost use Rattle.refusals.specs.Refusal.{done_of};
 
 use crate::limits::limits_bound;
 use crate::sums::{adds_unbounded, is_param};
-use grammar::kinds;
+use grammar::Kind;
 use lookups::body_line;
 use refusals::Refusal;
 use sheet::{LoadedSheet, body_count};
@@ -20,14 +20,20 @@ fn check_sum(sheet: &LoadedSheet<'_>, entry: usize, stmt: usize) -> Result<(), R
     requires stmt_at { RecordAt Stmt sheet.now.bytes.now sheet.now.lines.now stmt }
     ensures { Answers (check_sum (entry_at sheet.now.bytes.now entry) (param_types (entry_at sheet.now.bytes.now entry).params) (stmt_at sheet.now.bytes.now stmt)) (done_of sheet.now.bytes.now result) }
 {
-    if sheet.kind(stmt) != kinds::ASSIGN {
+    if !sheet.is(stmt, Kind::Assign) {
         return Ok(());
     }
     let target = stmt + 1;
-    if sheet.kind(target) != kinds::ID {
+    if !sheet.is(target, Kind::Id) {
         return Ok(());
     }
-    if !adds_unbounded(sheet, entry, sheet.op(stmt), target, sheet.end(target)) {
+    if !adds_unbounded(
+        sheet,
+        entry,
+        sheet.assign_op(stmt),
+        target,
+        sheet.end(target),
+    ) {
         return Ok(());
     }
     let x = sheet.name(target);

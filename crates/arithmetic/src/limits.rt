@@ -11,7 +11,7 @@ ghost use Rattle.arithmetic.specs.Tests.{compares as compares_of};
 ghost use Rattle.grammar.specs.Kinds as kinds;
 
 use crate::lines::{acknowledged, is_op};
-use grammar::{kinds, ops};
+use grammar::{BinOp, Kind};
 use lookups::clauses_line;
 use sheet::{LoadedSheet, clause_count};
 use text::is_word;
@@ -20,7 +20,7 @@ use text::is_word;
 fn is_named(sheet: &LoadedSheet<'_>, i: usize, x: &[u8]) -> bool
     ensures { result ≡ (eqb (kind_at sheet.now.lines.now i) kinds.id && same (name_at sheet.now.bytes.now sheet.now.lines.now i) x.now) }
 {
-    if sheet.kind(i) != kinds::ID {
+    if !sheet.is(i, Kind::Id) {
         return false;
     }
     is_word(sheet.name(i), x)
@@ -52,7 +52,7 @@ fn subtracts(sheet: &LoadedSheet<'_>, i: usize, x: &[u8]) -> bool
     requires { ExprAt sheet.now.bytes.now sheet.now.lines.now i }
     ensures { result ≡ subtracts_of (expr_at sheet.now.bytes.now i) x.now }
 {
-    if !is_op(sheet.lines, i, ops::BIN_SUB) {
+    if !is_op(sheet.lines, i, BinOp::Sub) {
         return false;
     }
     if !mentions(sheet, sheet.end(i + 1), x) {
@@ -77,18 +77,15 @@ fn compares(sheet: &LoadedSheet<'_>, i: usize, x: &[u8]) -> bool
     requires { ExprAt sheet.now.bytes.now sheet.now.lines.now i }
     ensures { result ≡ compares_of (expr_at sheet.now.bytes.now i) x.now }
 {
-    if sheet.kind(i) != kinds::BIN {
+    if !sheet.is(i, Kind::Bin) {
         return false;
     }
-    let o = sheet.op(i);
     let right = sheet.end(i + 1);
-    if (o == ops::BIN_LE) | (o == ops::BIN_LT) {
-        return upper_bounds(sheet, i + 1, right, x);
+    match sheet.bin_op(i) {
+        BinOp::Le | BinOp::Lt => upper_bounds(sheet, i + 1, right, x),
+        BinOp::Ge | BinOp::Gt => upper_bounds(sheet, right, i + 1, x),
+        _ => false,
     }
-    if (o == ops::BIN_GE) | (o == ops::BIN_GT) {
-        return upper_bounds(sheet, right, i + 1, x);
-    }
-    false
 }
 
 fn caps_from_above(sheet: &LoadedSheet<'_>, i: usize, x: &[u8]) -> bool
@@ -99,7 +96,7 @@ fn caps_from_above(sheet: &LoadedSheet<'_>, i: usize, x: &[u8]) -> bool
     let mut at = i;
     // The body chooses how far a turn goes, which no iterator of the library lets it.
     while at < stop {
-        if is_op(sheet.lines, at, ops::BIN_AND) {
+        if is_op(sheet.lines, at, BinOp::And) {
             at += 1;
             continue;
         }
@@ -116,7 +113,7 @@ fn limits_cap(sheet: &LoadedSheet<'_>, i: usize, x: &[u8]) -> bool
     requires { RecordAt Clause sheet.now.bytes.now sheet.now.lines.now i }
     ensures { result ≡ limits_cap x.now (clause_at sheet.now.bytes.now i) }
 {
-    if sheet.kind(i) != kinds::LIMITS {
+    if !sheet.is(i, Kind::Limits) {
         return false;
     }
     caps_from_above(sheet, i + 1, x)

@@ -4,16 +4,17 @@ ghost use Rattle.sheet.specs.Scratch.{kind_at, op_at};
 ghost use Rattle.rules.specs.Arithmetic.{acknowledged as acknowledged_of};
 ghost use Rattle.rules.specs.Standing.{expr_at};
 ghost use Rattle.lookups.specs.Lines.{ExprAt};
+ghost use Rattle.grammar.specs.Coded.{bin_number};
 ghost use Rattle.grammar.specs.Kinds as kinds;
 
-use grammar::kinds;
-use sheet::{LoadedSheet, kind, op};
+use grammar::{BinOp, Kind};
+use sheet::{LoadedSheet, is_kind, op};
 
-// Whether line i is a `bin` with the operator of number o.
-pub fn is_op(lines: &[u16], i: usize, o: usize) -> bool
-    ensures { result ≡ (eqb (kind_at lines.now i) kinds.bin && eqb (op_at lines.now i) o) }
+// Whether line i is a `bin` with this operator.
+pub fn is_op(lines: &[u16], i: usize, o: BinOp) -> bool
+    ensures { result ≡ (eqb (kind_at lines.now i) kinds.bin && eqb (op_at lines.now i) (bin_number o)) }
 {
-    (kind(lines, i) == kinds::BIN) & (op(lines, i) == o)
+    is_kind(lines, i, Kind::Bin) & (op(lines, i) == o.number())
 }
 
 // `acknowledged`: the expression at line i is a `checked` or a `wrapping`.
@@ -21,6 +22,5 @@ pub fn acknowledged(sheet: &LoadedSheet<'_>, i: usize) -> bool
     requires { ExprAt sheet.now.bytes.now sheet.now.lines.now i }
     ensures { result ≡ acknowledged_of (expr_at sheet.now.bytes.now i) }
 {
-    let k = sheet.kind(i);
-    (k == kinds::CHECKED) | (k == kinds::WRAPPING)
+    sheet.is(i, Kind::Checked) | sheet.is(i, Kind::Wrapping)
 }

@@ -1,8 +1,7 @@
 // The terms of a sum, and which of them are bounded.
-ghost use Rattle.std.specs.Prelude.{◌&&◌, not, ◌≡◌, get_or};
+ghost use Rattle.std.specs.Prelude.{◌&&◌, not, ◌≡◌};
 ghost use Rattle.text.specs.Text.{same};
 ghost use Rattle.grammar.specs.Grammar.{Param};
-ghost use Rattle.rules.specs.Ast.{assign_ops, Set};
 ghost use Rattle.rules.specs.Arithmetic.{any, asset_params, is_mints, same_target, sum_terms, without};
 ghost use Rattle.rules.specs.Arithmetic.{bounded as bounded_of};
 ghost use Rattle.rules.specs.Model.{is_asset_param};
@@ -11,9 +10,10 @@ ghost use Rattle.rules.specs.Text.{among};
 ghost use Rattle.rules.specs.Typing.{is_some};
 ghost use Rattle.lookups.specs.Lines.{EntryAt, ExprAt, RecordAt};
 ghost use Rattle.arithmetic.specs.Tests.{adds_unbounded, amount_bounded, names, others};
+ghost use Rattle.rules.specs.Operators.{assign_meant};
 
 use crate::lines::{acknowledged, is_op};
-use grammar::{kinds, ops};
+use grammar::{AssignOp, BinOp, Kind};
 use lookups::{clauses_line, last_named};
 use sheet::{LoadedSheet, clause_count, param_count};
 use text::is_word;
@@ -25,7 +25,7 @@ pub fn is_param(sheet: &LoadedSheet<'_>, entry: usize, x: &[u8]) -> bool
 {
     last_named(
         sheet,
-        kinds::PARAM,
+        Kind::Param,
         x,
         entry + 1,
         param_count(sheet.lines, entry),
@@ -64,7 +64,7 @@ fn has_mints(sheet: &LoadedSheet<'_>, entry: usize) -> bool
 {
     let first = clauses_line(sheet.lines, entry);
     for at in sheet.records(first, clause_count(sheet.lines, entry)) {
-        if sheet.kind(at) == kinds::MINTS {
+        if sheet.is(at, Kind::Mints) {
             return true;
         }
     }
@@ -91,17 +91,16 @@ fn bounded(sheet: &LoadedSheet<'_>, entry: usize, i: usize) -> bool
     requires expr_at { ExprAt sheet.now.bytes.now sheet.now.lines.now i }
     ensures { result ≡ bounded_of (entry_at sheet.now.bytes.now entry) (expr_at sheet.now.bytes.now i) }
 {
-    let k = sheet.kind(i);
-    if k == kinds::INT {
+    if sheet.is(i, Kind::Int) {
         return true;
     }
-    if k != kinds::DOT {
+    if !sheet.is(i, Kind::Dot) {
         return false;
     }
     if !is_word(sheet.name(i), b"amount") {
         return false;
     }
-    if sheet.kind(i + 1) != kinds::ID {
+    if !sheet.is(i + 1, Kind::Id) {
         return false;
     }
     amount_bounded(sheet, entry, sheet.name(i + 1))
@@ -113,10 +112,10 @@ fn same_target(sheet: &LoadedSheet<'_>, a: usize, b: usize) -> bool
     requires right_at { ExprAt sheet.now.bytes.now sheet.now.lines.now b }
     ensures { result ≡ same_target (expr_at sheet.now.bytes.now a) (expr_at sheet.now.bytes.now b) }
 {
-    if sheet.kind(a) != kinds::ID {
+    if !sheet.is(a, Kind::Id) {
         return false;
     }
-    if sheet.kind(b) != kinds::ID {
+    if !sheet.is(b, Kind::Id) {
         return false;
     }
     is_word(sheet.name(a), sheet.name(b))
@@ -132,7 +131,7 @@ fn has_target(sheet: &LoadedSheet<'_>, target: usize, value: usize) -> bool
     let mut at = value;
     // The body chooses how far a turn goes, which no iterator of the library lets it.
     while at < stop {
-        if is_op(sheet.lines, at, ops::BIN_ADD) {
+        if is_op(sheet.lines, at, BinOp::Add) {
             at += 1;
             continue;
         }
@@ -162,7 +161,7 @@ fn has_unbounded(
     let mut due = own;
     // The body chooses how far a turn goes, which no iterator of the library lets it.
     while at < stop {
-        if is_op(sheet.lines, at, ops::BIN_ADD) {
+        if is_op(sheet.lines, at, BinOp::Add) {
             at += 1;
             continue;
         }
@@ -179,30 +178,29 @@ fn has_unbounded(
     false
 }
 
-// Whether an assignment with the operator of number op adds something unbounded to its target.
+// Whether an assignment with this operator adds something unbounded to its target.
 pub fn adds_unbounded(
     sheet: &LoadedSheet<'_>,
     entry: usize,
-    op: usize,
+    op: AssignOp,
     target: usize,
     value: usize,
 ) -> bool
     requires entry_at { EntryAt sheet.now.bytes.now sheet.now.lines.now entry }
     requires target_at { ExprAt sheet.now.bytes.now sheet.now.lines.now target }
     requires value_at { ExprAt sheet.now.bytes.now sheet.now.lines.now value }
-    ensures { result ≡ adds_unbounded (entry_at sheet.now.bytes.now entry) (get_or assign_ops op Set) (expr_at sheet.now.bytes.now target) (expr_at sheet.now.bytes.now value) }
+    ensures { result ≡ adds_unbounded (entry_at sheet.now.bytes.now entry) (assign_meant op) (expr_at sheet.now.bytes.now target) (expr_at sheet.now.bytes.now value) }
 {
-    if (op == ops::ASSIGN_SUB) | acknowledged(sheet, value) {
+    if acknowledged(sheet, value) {
         return false;
     }
-    if op == ops::ASSIGN_ADD {
-        return has_unbounded(sheet, entry, target, value, false);
+    match op {
+        AssignOp::Set => {
+            is_op(sheet.lines, value, BinOp::Add)
+                && has_target(sheet, target, value)
+                && has_unbounded(sheet, entry, target, value, true)
+        }
+        AssignOp::Add => has_unbounded(sheet, entry, target, value, false),
+        AssignOp::Sub => false,
     }
-    if !is_op(sheet.lines, value, ops::BIN_ADD) {
-        return false;
-    }
-    if !has_target(sheet, target, value) {
-        return false;
-    }
-    has_unbounded(sheet, entry, target, value, true)
 }

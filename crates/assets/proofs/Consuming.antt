@@ -65,19 +65,19 @@ pub does : Calls (λ e. asset_calls_consumed (do' e)) consumed_asset_call
 unfolding asset_calls_consumed
 does = record { is = λ e r a. a }
 
--- What meets the expression at line i, of the kind k.
-module _ {rule f : Expr → Rule Unit} (c : Calls rule f) (s S : List ℕ) (i k : ℕ) (h : RecordAt grammar.Expr s S i) (e : k ≡ kind_at S i) where
-  pub other_walked : (r : Result Unit Refusal) → k ≢ kinds.call → Answers (no_asset_call (expr_at s i)) (done_of s r) → Answers (rule (expr_at s i)) (done_of s r)
+-- What meets the expression at line i.
+module _ {rule f : Expr → Rule Unit} (c : Calls rule f) (s S : List ℕ) (i : ℕ) (h : RecordAt grammar.Expr s S i) where
+  pub other_walked : (r : Result Unit Refusal) → kind_at S i ≢ kinds.call → Answers (no_asset_call (expr_at s i)) (done_of s r) → Answers (rule (expr_at s i)) (done_of s r)
   unfolding if_some_else
-  other_walked r q a = c.is (expr_at s i) _ (rw (is-call_at h.loaded h.here, ← e, ne_eqb k kinds.call q) a)
+  other_walked r q a = c.is (expr_at s i) _ (rw (is-call_at h.loaded h.here, ne_eqb (kind_at S i) kinds.call q) a)
 
-  module _ (q : k ≡ kinds.call) where
+  module _ (q : kind_at S i ≡ kinds.call) where
     called : (r : Res Unit) → Answers (no_asset_call (expr_at s (suc i)) >> for_each (list (exprs_at s (call_arg_count S i) (end_at S (suc i)))) f) r → Answers (rule (expr_at s i)) r
     unfolding if_some_else
-    called r a = c.is (expr_at s i) r (rw (is-call_at h.loaded h.here, ← e, q) a)
+    called r a = c.is (expr_at s i) r (rw (is-call_at h.loaded h.here, q) a)
 
     pub call-args : (m j : ℕ) → m ≡ call_arg_count S i → j ≡ end_at S (i + 1) → RecordsAt grammar.Expr s S m j
-    call-args m j x y = rw (x, y, add-one) (record { loaded = h.loaded; row = row_rest (call_at_lem h.loaded h.here (sym e ∙ q)).1 })
+    call-args m j x y = rw (x, y, add-one) (record { loaded = h.loaded; row = row_rest (call_at_lem h.loaded h.here q).1 })
 
     module _ (r : Result Unit Refusal) (a : Answers (no_asset_call (expr_at s (i + 1))) (done_of s r)) where
       pub callee_refused : (why : Refusal) → r ≡ Err why → Answers (rule (expr_at s i)) (done_of s (Err why))
@@ -98,42 +98,42 @@ two_walked : (a b : Expr) (T : Table) → kept (for_each (a ∷ b ∷ []) no_ass
 unfolding for_each ◌>>◌
 two_walked a b T = kept_behind (no_asset_call a) (λ _. no_asset_call b >> ret tt) (λ _. no_asset_call b) T (λ _. kept_unit (no_asset_call b))
 
--- What `asset_calls_consumed` meets: a statement of kind k.
-module _ (s S : List ℕ) (i k : ℕ) (h : RecordAt grammar.Stmt s S i) (e : k ≡ kind_at S i) where
-  pub let_value : k ≡ kinds.let' → RecordAt grammar.Expr s S (i + 1)
-  let_value q = one_behind s S i h (let_at h.loaded h.here (sym e ∙ q)).1
+-- What `asset_calls_consumed` meets, by the statement's kind.
+module _ (s S : List ℕ) (i : ℕ) (h : RecordAt grammar.Stmt s S i) where
+  pub let_value : kind_at S i ≡ kinds.let' → RecordAt grammar.Expr s S (i + 1)
+  let_value q = one_behind s S i h (let_at h.loaded h.here q).1
 
-  pub let_walked : (r : Result Unit Refusal) → k ≡ kinds.let' → Answers (consumed_asset_call (expr_at s (i + 1))) (done_of s r) → Answers (asset_calls_consumed (stmt_at s i)) (done_of s r)
+  pub let_walked : (r : Result Unit Refusal) → kind_at S i ≡ kinds.let' → Answers (consumed_asset_call (expr_at s (i + 1))) (done_of s r) → Answers (asset_calls_consumed (stmt_at s i)) (done_of s r)
   unfolding asset_calls_consumed
-  let_walked r q a = rw ((let_at h.loaded h.here (sym e ∙ q)).0, ← add-one i) a
+  let_walked r q a = rw ((let_at h.loaded h.here q).0, ← add-one i) a
 
-  module _ (m : ℕ) (c : m ≡ emit_arg_count S i) (q : k ≡ kinds.emit) where
+  module _ (m : ℕ) (c : m ≡ emit_arg_count S i) (q : kind_at S i ≡ kinds.emit) where
     pub emit-args : RecordsAt grammar.Expr s S m (i + 1)
-    emit-args = rw (c, add-one) (record { loaded = h.loaded; row = (emit_at h.loaded h.here (sym e ∙ q)).1 })
+    emit-args = rw (c, add-one) (record { loaded = h.loaded; row = (emit_at h.loaded h.here q).1 })
 
     pub emit_walked : (r : Result Unit Refusal) → Answers (for_each (list (exprs_at s m (i + 1))) no_asset_call) (done_of s r) → Answers (asset_calls_consumed (stmt_at s i)) (done_of s r)
     unfolding asset_calls_consumed
-    emit_walked r a = rw ((emit_at h.loaded h.here (sym e ∙ q)).0, ← c, ← add-one i) a
+    emit_walked r a = rw ((emit_at h.loaded h.here q).0, ← c, ← add-one i) a
 
-  pub assign_sides : k ≡ kinds.assign → RecordsAt grammar.Expr s S 2 (i + 1)
-  assign_sides q = rw add-one (record { loaded = h.loaded; row = (assign_at h.loaded h.here (sym e ∙ q)).1 })
+  pub assign_sides : kind_at S i ≡ kinds.assign → RecordsAt grammar.Expr s S 2 (i + 1)
+  assign_sides q = rw add-one (record { loaded = h.loaded; row = (assign_at h.loaded h.here q).1 })
 
-  pub assign_walked : (r : Result Unit Refusal) → k ≡ kinds.assign → Answers (for_each (list (exprs_at s 2 (i + 1))) no_asset_call) (done_of s r) → Answers (asset_calls_consumed (stmt_at s i)) (done_of s r)
+  pub assign_walked : (r : Result Unit Refusal) → kind_at S i ≡ kinds.assign → Answers (for_each (list (exprs_at s 2 (i + 1))) no_asset_call) (done_of s r) → Answers (asset_calls_consumed (stmt_at s i)) (done_of s r)
   unfolding asset_calls_consumed
   assign_walked r q a =
-      let p = assign_at h.loaded h.here (sym e ∙ q) in
+      let p = assign_at h.loaded h.here q in
       let two : list (exprs_at s 2 (suc i)) ≡ expr_at s (suc i) ∷ expr_at s (end_at S (suc i)) ∷ [] =
       exprs.first h.loaded 1 (row_first p.1).within
       ∙ ap (λ es. expr_at s (suc i) ∷ es) (exprs.first h.loaded 0 (row_first (row_rest p.1)).within ∙ ap (λ es. expr_at s (end_at S (suc i)) ∷ es) (exprs.empty s _)) in
       rw p.0 (record { answers = λ T. sym (two_walked _ _ T) ∙ (rw (add-one, two) at a).answers T })
 
-  pub do_value : k ≡ kinds.do' → RecordAt grammar.Expr s S (i + 1)
-  do_value q = one_behind s S i h (do_at h.loaded h.here (sym e ∙ q)).1
+  pub do_value : kind_at S i ≡ kinds.do' → RecordAt grammar.Expr s S (i + 1)
+  do_value q = one_behind s S i h (do_at h.loaded h.here q).1
 
-  pub do_walked : (r : Result Unit Refusal) → k ≡ kinds.do' → Answers (asset_calls_consumed (do' (expr_at s (i + 1)))) (done_of s r) → Answers (asset_calls_consumed (stmt_at s i)) (done_of s r)
-  do_walked r q a = rw ((do_at h.loaded h.here (sym e ∙ q)).0, ← add-one i) a
+  pub do_walked : (r : Result Unit Refusal) → kind_at S i ≡ kinds.do' → Answers (asset_calls_consumed (do' (expr_at s (i + 1)))) (done_of s r) → Answers (asset_calls_consumed (stmt_at s i)) (done_of s r)
+  do_walked r q a = rw ((do_at h.loaded h.here q).0, ← add-one i) a
 
-  module _ (a : k ≢ kinds.let') (b : k ≢ kinds.emit) (c : k ≢ kinds.assign) (d : k ≢ kinds.do') where
+  module _ (a : kind_at S i ≢ kinds.let') (b : kind_at S i ≢ kinds.emit) (c : kind_at S i ≢ kinds.assign) (d : kind_at S i ≢ kinds.do') where
     guards : kind_at S i ≡ kinds.guard
     guards = omega (arith, h.here.kind.0, h.here.kind.1)
 
@@ -171,19 +171,19 @@ after_walked f [] (m ∷ m' ∷ ms) a b T = absurd (omega arith)
 after_walked f (n ∷ []) (m ∷ m' ∷ ms) a b T = absurd (omega arith)
 after_walked f (n ∷ n' ∷ ns) ms a b T = absurd (omega arith)
 
--- What `clause_assets` meets: a clause of kind k.
-module _ (s S : List ℕ) (i k : ℕ) (h : RecordAt grammar.Clause s S i) (e : k ≡ kind_at S i) where
-  module _ (a b : ℕ) (x : a ≡ target_count S i) (y : b ≡ from_count S i) (q : k ≡ kinds.after) where
+-- What `clause_assets` meets, by the clause's kind.
+module _ (s S : List ℕ) (i : ℕ) (h : RecordAt grammar.Clause s S i) where
+  module _ (a b : ℕ) (x : a ≡ target_count S i) (y : b ≡ from_count S i) (q : kind_at S i ≡ kinds.after) where
     pub after-sum : Fits w64 (a + b)
-    after-sum = let p = after_at h.loaded h.here (sym e ∙ q) in omega (arith, x, y, p.3, p.4)
+    after-sum = let p = after_at h.loaded h.here q in omega (arith, x, y, p.3, p.4)
 
     pub after_exprs : RecordsAt grammar.Expr s S (a + b) (i + 1)
-    after_exprs = rw (x, y, add-one) (record { loaded = h.loaded; row = (after_at h.loaded h.here (sym e ∙ q)).1 })
+    after_exprs = rw (x, y, add-one) (record { loaded = h.loaded; row = (after_at h.loaded h.here q).1 })
 
     pub after_both : (r : Result Unit Refusal) → Answers (for_each (list (exprs_at s (a + b) (i + 1))) no_asset_call) (done_of s r) → Answers (clause_assets (clause_at s i)) (done_of s r)
     unfolding clause_assets
     after_both r g =
-        let p = after_at h.loaded h.here (sym e ∙ q) in
+        let p = after_at h.loaded h.here q in
         let m = target_count S i in
         let n = from_count S i in
         let ts = nodes_at s m (suc i) in
@@ -194,30 +194,31 @@ module _ (s S : List ℕ) (i k : ℕ) (h : RecordAt grammar.Clause s S i) (e : k
         let v : length us ≤ 1 = omega (arith, nodes_few s n (skip S m (suc i)), p.4) in
         rw p.0 (record { answers = λ T. sym (after_walked no_asset_call ts us u v T) ∙ (rw (x, y, add-one, both) at g).answers T })
 
-  -- `limits` and `denies`
-  module _ (c : (eqb k kinds.limits || eqb k kinds.denies) ≡ true) where
-    condition : Row S grammar.Expr 1 (suc i) × ((r : Res Unit) → Answers (no_asset_call (expr_at s (suc i))) r → Answers (clause_assets (clause_at s i)) r)
-    unfolding clause_assets
-    condition = by_cases (eqb k kinds.limits) refl c
+  -- `limits` and `denies`, by the test for each
+  module _ (a b : Bool) (u : a ≡ eqb (kind_at S i) kinds.limits) (v : b ≡ eqb (kind_at S i) kinds.denies) where
+    module _ (c : (a || b) ≡ true) where
+      condition : Row S grammar.Expr 1 (suc i) × ((r : Res Unit) → Answers (no_asset_call (expr_at s (suc i))) r → Answers (clause_assets (clause_at s i)) r)
+      unfolding clause_assets
+      condition = by_cases a refl c
+        where
+          by_cases : (t : Bool) → a ≡ t → (t || b) ≡ true
+              → Row S grammar.Expr 1 (suc i) × ((r : Res Unit) → Answers (no_asset_call (expr_at s (suc i))) r → Answers (clause_assets (clause_at s i)) r)
+          by_cases true q y = let p = limits_at h.loaded h.here (eqb-true (kind_at S i) kinds.limits (sym u ∙ q)) in (p.1, λ r x. rw p.0 x)
+          by_cases false q y = let p = denies_at h.loaded h.here (eqb-true (kind_at S i) kinds.denies (sym v ∙ y)) in (p.1, λ r x. rw p.0 x)
+
+      pub condition_here : RecordAt grammar.Expr s S (i + 1)
+      condition_here = one_behind s S i h condition.0
+
+      pub condition_walked : (r : Result Unit Refusal) → Answers (no_asset_call (expr_at s (i + 1))) (done_of s r) → Answers (clause_assets (clause_at s i)) (done_of s r)
+      condition_walked r x = condition.1 _ (rw add-one at x)
+
+    -- a clause with no expression
+    pub bare_walked : (a || b) ≡ false → kind_at S i ≢ kinds.after → Answers (clause_assets (clause_at s i)) (done_of s (Ok tt))
+    unfolding clause_assets done_of
+    bare_walked c n = rw (mints_at h.loaded h.here only).0 (gives tt)
       where
-        by_cases : (b : Bool) → eqb k kinds.limits ≡ b → (b || eqb k kinds.denies) ≡ true
-            → Row S grammar.Expr 1 (suc i) × ((r : Res Unit) → Answers (no_asset_call (expr_at s (suc i))) r → Answers (clause_assets (clause_at s i)) r)
-        by_cases true q y = let p = limits_at h.loaded h.here (sym e ∙ eqb-true k kinds.limits q) in (p.1, λ r x. rw p.0 x)
-        by_cases false q y = let p = denies_at h.loaded h.here (sym e ∙ eqb-true k kinds.denies y) in (p.1, λ r x. rw p.0 x)
+        no : (a ≡ false) × (b ≡ false)
+        no = or_parts a b c
 
-    pub condition_here : RecordAt grammar.Expr s S (i + 1)
-    condition_here = one_behind s S i h condition.0
-
-    pub condition_walked : (r : Result Unit Refusal) → Answers (no_asset_call (expr_at s (i + 1))) (done_of s r) → Answers (clause_assets (clause_at s i)) (done_of s r)
-    condition_walked r x = condition.1 _ (rw add-one at x)
-
-  -- a clause with no expression
-  pub bare_walked : (eqb k kinds.limits || eqb k kinds.denies) ≡ false → k ≢ kinds.after → Answers (clause_assets (clause_at s i)) (done_of s (Ok tt))
-  unfolding clause_assets done_of
-  bare_walked c n = rw (mints_at h.loaded h.here only).0 (gives tt)
-    where
-      no : (eqb k kinds.limits ≡ false) × (eqb k kinds.denies ≡ false)
-      no = or_parts (eqb k kinds.limits) (eqb k kinds.denies) c
-
-      only : kind_at S i ≡ kinds.mints
-      only = omega (arith, e, n, eqb-false k kinds.limits no.0, eqb-false k kinds.denies no.1, h.here.kind.0, h.here.kind.1)
+        only : kind_at S i ≡ kinds.mints
+        only = omega (arith, n, eqb-false (kind_at S i) kinds.limits (sym u ∙ no.0), eqb-false (kind_at S i) kinds.denies (sym v ∙ no.1), h.here.kind.0, h.here.kind.1)

@@ -63,12 +63,12 @@ dropped l s c es h = then_refused _ _ _ (then_refused _ _ _ (misfits (not (makes
 
 -- ------------------------------------------------------------ one line
 
--- What `makes_asset` meets: a callee of kind k, and whether its name is either word.
-pub makes_asset_lem : (s S : List ℕ) (i k : ℕ) (x : Name) (v w : Bool) → RecordAt grammar.Expr s S i → k ≡ kind_at S i → x ≡ name_at s S i → v ≡ same x (bytes "split") → w ≡ same x (bytes "mint")
-    → ((eqb k kinds.dot && v) || (eqb k kinds.id && w)) ≡ makes_asset (expr_at s i)
+-- What `makes_asset` meets: whether the callee is a `dot` or an `id`, and whether its name is either word.
+pub makes_asset_lem : (s S : List ℕ) (i : ℕ) (x : Name) (d n v w : Bool) → RecordAt grammar.Expr s S i → x ≡ name_at s S i → d ≡ eqb (kind_at S i) kinds.dot → v ≡ same x (bytes "split")
+    → n ≡ eqb (kind_at S i) kinds.id → w ≡ same x (bytes "mint") → ((d && v) || (n && w)) ≡ makes_asset (expr_at s i)
 unfolding makes_asset ident_is ident_of leaf_of ident_leaf dot_of is
-makes_asset_lem s S i k x v w h e n f g =
-    rw e
+makes_asset_lem s S i x d m v w h n a f b g =
+    rw (a, b)
     (by_kind h.loaded h.here (λ k e. ((eqb k kinds.dot && v) || (eqb k kinds.id && w)) ≡ makes_asset e)
     (λ k a b.
     pick {P = λ k. ((eqb k kinds.dot && v) || (eqb k kinds.id && w)) ≡ makes_asset (leaf i (span_at s S i) (leaf_at k (name_at s S i)))} {i = kinds.int} {n = 8} k
@@ -78,18 +78,18 @@ makes_asset_lem s S i k x v w h e n f g =
     refl
     (λ k w a. rw (ne_eqb k kinds.dot (omega arith), ne_eqb k kinds.id (omega arith)) refl))
 
--- What `is_asset_call` meets: a line of kind k.
-module _ (s S : List ℕ) (i k : ℕ) (h : RecordAt grammar.Expr s S i) (e : k ≡ kind_at S i) where
-  pub no_call : k ≢ kinds.call → false ≡ is_asset_call (expr_at s i)
+-- What `is_asset_call` meets.
+module _ (s S : List ℕ) (i : ℕ) (h : RecordAt grammar.Expr s S i) where
+  pub no_call : kind_at S i ≢ kinds.call → false ≡ is_asset_call (expr_at s i)
   unfolding is_asset_call
-  no_call q = rw (is_asset_call, is-call_at h.loaded h.here, ← e, ne_eqb k kinds.call q) refl
+  no_call q = rw (is_asset_call, is-call_at h.loaded h.here, ne_eqb (kind_at S i) kinds.call q) refl
 
-  pub callee_here : k ≡ kinds.call → RecordAt grammar.Expr s S (i + 1)
-  callee_here q = record { loaded = h.loaded; here = rw add-one (row_first (call_at_lem h.loaded h.here (sym e ∙ q)).1) }
+  pub callee_here : kind_at S i ≡ kinds.call → RecordAt grammar.Expr s S (i + 1)
+  callee_here q = record { loaded = h.loaded; here = rw add-one (row_first (call_at_lem h.loaded h.here q).1) }
 
-  pub a_call : (r : Bool) → k ≡ kinds.call → r ≡ makes_asset (expr_at s (i + 1)) → r ≡ is_asset_call (expr_at s i)
+  pub a_call : (r : Bool) → kind_at S i ≡ kinds.call → r ≡ makes_asset (expr_at s (i + 1)) → r ≡ is_asset_call (expr_at s i)
   unfolding is_asset_call
-  a_call r q f = f ∙ rw (is_asset_call, is-call_at h.loaded h.here, ← e, q, add-one) refl
+  a_call r q f = f ∙ rw (is_asset_call, is-call_at h.loaded h.here, q, add-one) refl
 
 -- an asset call is refused, and is a `call` record
 refused_here : (s S : List ℕ) (i : ℕ) → RecordAt grammar.Expr s S i → is_asset_call (expr_at s i) ≡ true → Answers (no_asset_call (expr_at s i)) (done_of s (Err (Dropped i)))

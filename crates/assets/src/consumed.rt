@@ -10,7 +10,7 @@ ghost use Rattle.lookups.specs.Lines.{RecordAt, RecordsAt};
 ghost use Rattle.refusals.specs.Refusal.{done_of};
 
 use crate::made::{no_asset_call, no_asset_calls};
-use grammar::kinds;
+use grammar::Kind;
 use refusals::Refusal;
 use sheet::{LoadedSheet, call_arg_count, emit_arg_count, from_count, target_count};
 
@@ -19,7 +19,7 @@ fn consumed_asset_call(sheet: &LoadedSheet<'_>, i: usize) -> Result<(), Refusal>
     requires { RecordAt Expr sheet.now.bytes.now sheet.now.lines.now i }
     ensures { Answers (consumed_asset_call (expr_at sheet.now.bytes.now i)) (done_of sheet.now.bytes.now result) }
 {
-    if sheet.kind(i) != kinds::CALL {
+    if !sheet.is(i, Kind::Call) {
         return no_asset_call(sheet, i);
     }
     no_asset_call(sheet, i + 1)?;
@@ -42,7 +42,7 @@ fn do_consumed(sheet: &LoadedSheet<'_>, i: usize) -> Result<(), Refusal>
     requires { RecordAt Expr sheet.now.bytes.now sheet.now.lines.now i }
     ensures { Answers (asset_calls_consumed (do' (expr_at sheet.now.bytes.now i))) (done_of sheet.now.bytes.now result) }
 {
-    if sheet.kind(i) != kinds::CALL {
+    if !sheet.is(i, Kind::Call) {
         return no_asset_call(sheet, i);
     }
     no_asset_call(sheet, i + 1)?;
@@ -53,17 +53,16 @@ pub fn asset_calls_consumed(sheet: &LoadedSheet<'_>, i: usize) -> Result<(), Ref
     requires { RecordAt Stmt sheet.now.bytes.now sheet.now.lines.now i }
     ensures { Answers (asset_calls_consumed (stmt_at sheet.now.bytes.now i)) (done_of sheet.now.bytes.now result) }
 {
-    let k = sheet.kind(i);
-    if k == kinds::LET {
+    if sheet.is(i, Kind::Let) {
         return consumed_asset_call(sheet, i + 1);
     }
-    if k == kinds::EMIT {
+    if sheet.is(i, Kind::Emit) {
         return no_asset_calls(sheet, i + 1, emit_arg_count(sheet.lines, i));
     }
-    if k == kinds::ASSIGN {
+    if sheet.is(i, Kind::Assign) {
         return no_asset_calls(sheet, i + 1, 2);
     }
-    if k == kinds::DO {
+    if sheet.is(i, Kind::Do) {
         return do_consumed(sheet, i + 1);
     }
     no_asset_call(sheet, i + 1)
@@ -74,11 +73,10 @@ fn clause_assets(sheet: &LoadedSheet<'_>, i: usize) -> Result<(), Refusal>
     requires { RecordAt Clause sheet.now.bytes.now sheet.now.lines.now i }
     ensures { Answers (clause_assets (clause_at sheet.now.bytes.now i)) (done_of sheet.now.bytes.now result) }
 {
-    let k = sheet.kind(i);
-    if (k == kinds::LIMITS) | (k == kinds::DENIES) {
+    if sheet.is(i, Kind::Limits) | sheet.is(i, Kind::Denies) {
         return no_asset_call(sheet, i + 1);
     }
-    if k == kinds::AFTER {
+    if sheet.is(i, Kind::After) {
         return no_asset_calls(
             sheet,
             i + 1,

@@ -10,7 +10,7 @@ ghost use Rattle.lookups.specs.Lines.{RecordAt, RecordsAt};
 ghost use Rattle.refusals.specs.Refusal.{done_of};
 ghost use Rattle.assets.specs.Made.{is_asset_call};
 
-use grammar::kinds;
+use grammar::Kind;
 use refusals::Refusal;
 use sheet::LoadedSheet;
 use text::is_word;
@@ -20,16 +20,16 @@ fn makes_asset(sheet: &LoadedSheet<'_>, i: usize) -> bool
     requires { RecordAt Expr sheet.now.bytes.now sheet.now.lines.now i }
     ensures { result ≡ makes_asset (expr_at sheet.now.bytes.now i) }
 {
-    let k = sheet.kind(i);
     let word = sheet.name(i);
-    ((k == kinds::DOT) & is_word(word, b"split")) | ((k == kinds::ID) & is_word(word, b"mint"))
+    (sheet.is(i, Kind::Dot) & is_word(word, b"split"))
+        | (sheet.is(i, Kind::Id) & is_word(word, b"mint"))
 }
 
 fn is_asset_call(sheet: &LoadedSheet<'_>, i: usize) -> bool
     requires { RecordAt Expr sheet.now.bytes.now sheet.now.lines.now i }
     ensures { result ≡ is_asset_call (expr_at sheet.now.bytes.now i) }
 {
-    if sheet.kind(i) != kinds::CALL {
+    if !sheet.is(i, Kind::Call) {
         return false;
     }
     makes_asset(sheet, i + 1)

@@ -2,11 +2,12 @@
 use mathlib.Core.Logic.{◌≢◌}
 use mathlib.Core.Path.{◌≡◌, refl, sym, ap, ◌∙◌}
 use mathlib.Core.List.{List, [], ◌∷◌, ◌++◌, append-nil, map-append}
-use mathlib.Core.Bool.{Bool, true, false, not, ◌&&◌}
+use mathlib.Core.Bool.{Bool, true, false, not}
+use mathlib.Core.Option.{Option, none, some}
 use Prim.Native.Nat.{ℕ, suc, ◌+◌, ◌-◌, ◌≤◌}
 use native.Mathlib.Numerals.{add-one}
 use native.Mathlib.Omega.{arith}
-use lib.Dec.{eqb, leb}
+use lib.Dec.{eqb}
 use lib.ListN.{length, get_or}
 use lib.Seq.{get_or-set_same}
 use borrow.Author.Tests.{eq-eqb, ne_eqb, eqb-true, eqb-false}
@@ -14,9 +15,12 @@ use Rattle.std.specs.Prelude.{Result, Ok, Err}
 use Rattle.grammar.specs.Grammar as grammar
 use Rattle.sheet.specs.Scratch.{kind_at, name_at, end_at, skip, emit_arg_count}
 use Rattle.sheet.specs.Tree.{Node, node}
+use Rattle.sheet.proofs.Tested.{tested}
 use Rattle.rules.specs.Ast.{Stmt, guard, bind, emit, assign, do', line, line_after, list}
-use Rattle.rules.specs.Asking.{Ty, code, code_r, Res, ok, refused, ◌>>=◌, ◌>>◌}
-use Rattle.rules.specs.Kept.{Table, kept, ty_from}
+use Rattle.rules.specs.Asking.{code, code_r, Res, ok, refused, ◌>>=◌, ◌>>◌}
+use Rattle.rules.specs.declared.ty.Ty.{Ty}
+use Rattle.rules.specs.declared.ty.Ty.TheVariants.{Collection}
+use Rattle.rules.specs.Kept.{Table, kept, ty_of_mark, ty_from}
 use Rattle.rules.specs.Types.{eq_ty}
 use Rattle.rules.specs.Typing as typing
 use Rattle.rules.specs.Typing.{ty_of, typing, bound}
@@ -29,7 +33,10 @@ use Rattle.rules.proofs.Parts.{stop as end', ◌also◌, pick}
 use Rattle.rules.proofs.Records.{guard_at, let_at, emit_at, assign_at, do_at, no_stmts, stmts_next}
 use Rattle.rules.proofs.Standing.{Stands, stands, row_first, row_nth, row_take, skip_next, nodes_last}
 use Rattle.refusals.proofs.Answers.{fits, misfits}
-use Rattle.lookups.proofs.Codes.{code_of_lem, code_is, from_code, code_from, untold}
+use denote.Enum.Bare.{sameb}
+use Rattle.rules.specs.contracts.ty.Ty.{the_type}
+use Rattle.rules.proofs.Keeps.{code_tells}
+use Rattle.rules.proofs.Same.{told_ty}
 use Rattle.lookups.specs.Found.{node_kind, of_kind}
 use Rattle.refusals.specs.Refusal.{refusal_of, done_of}
 use Rattle.refusals.specs.declared.refusal.Refusal.{Refusal}
@@ -41,40 +48,40 @@ use Rattle.env.specs.declared.env.Env.{Env}
 use Rattle.typing.specs.Asks.{Asks, Types, Does}
 use Rattle.typing.proofs.Asking.{asks_line, of_expr}
 use Rattle.typing.proofs.Calls.{did, stopped, does_length}
-use Rattle.typing.proofs.Operators.{gave, gave_code}
+use Rattle.typing.proofs.Operators.{gave}
 use Rattle.typing.proofs.Doing.{does_then, does_cut, does_nothing}
 use Rattle.statements.specs.Checked.{StmtIn}
 use Rattle.emits.specs.Emit.{EmitIn, emit_rule}
 use Rattle.checking.specs.Walk.{with_locals, no_let, a_let, ReadyTyped, stmt_rule, BodyStmt, StmtOf, Binds, StmtDoes, BodyAt}
 use Rattle.checking.proofs.Locals.{lets-append, OnTyped, on_typed}
 use Rattle.grammar.specs.Kinds as kinds
-use Rattle.rules.specs.Codes as codes
 
 -- ------------------------------------------------------------ a statement
 
 -- the table has the type that was answered, where no bound `let` ends behind the line
 marked_by : (s S : List ℕ) (env : Env) (T : Table) (i : ℕ) (t : Ty) (U : Table) → Asks s S env T i → env.next ≤ i
-    → kept (ty_of (env_of s T env) (expr_at s i)) T ≡ record { res = ok t; table = U } → get_or U i 0 ≡ code t
+    → kept (ty_of (env_of s T env) (expr_at s i)) T ≡ record { res = ok t; table = U } → ty_of_mark (get_or U i 0) ≡ some t
 unfolding code_r
-marked_by s S env T i t U h l e = by_cases (leb codes.int (get_or T i 0) && leb (get_or T i 0) codes.unknown) refl
+marked_by s S env T i t U h l e = by_cases (ty_of_mark (get_or T i 0)) refl
   where
     here : line (expr_at s i) ≡ i
     here = asks_line s S env T i h
 
-    by_cases : (b : Bool) → (leb codes.int (get_or T i 0) && leb (get_or T i 0) codes.unknown) ≡ b → get_or U i 0 ≡ code t
-    by_cases true q =
-        let c = code_of_lem (get_or T i 0) (code_from (get_or T i 0) q) in
-        let f = from_table (env_of s T env) (expr_at s i) T (ty_from (get_or T i 0)) (not_stale_at s S env T i (of_expr s S env T i h) l) (rw here c.0) in
-        let u : U ≡ T = ap (λ o. o.table) (sym e ∙ f) in
-        let z : ◌≡◌ {A = Res Ty} (ok t) (ok (ty_from (get_or T i 0))) = ap (λ o. o.res) (sym e ∙ f) in
-        let y : t ≡ ty_from (get_or T i 0) = cc in
-        rw (u, y) (sym c.1)
-    by_cases false q =
-        let f = first_time (env_of s T env) (expr_at s i) T (rw here (untold (get_or T i 0) q)) in
+    by_cases : (o : Option Ty) → ty_of_mark (get_or T i 0) ≡ o → ty_of_mark (get_or U i 0) ≡ some t
+    by_cases (some u) q =
+        let f = sym e ∙ from_table (env_of s T env) (expr_at s i) T u (not_stale_at s S env T i (of_expr s S env T i h) l) (rw here q) in
+        let z : ◌≡◌ {A = Res Ty} (ok t) (ok u) = ap (λ o. o.res) f in
+        let y : t ≡ u = cc in
+        let w : U ≡ T = ap (λ o. o.table) f in
+        rw (w, y) q
+    by_cases none q =
+        let f = first_time (env_of s T env) (expr_at s i) T (rw here q) in
         let X = (kept (typing (env_of s T env) (expr_at s i)) T).table in
         let r : (kept (typing (env_of s T env) (expr_at s i)) T).res ≡ ok t = sym (ap (λ o. o.res) f) ∙ ap (λ o. o.res) e in
+        let m : get_or U i 0 ≡ code t =
         ap (λ o. get_or o.table i 0) (sym e ∙ f)
-        ∙ rw (here, r) (get_or-set_same X i (code t) 0 (rw (kept-length (typing (env_of s T env) (expr_at s i)) T) (omega (arith, h.here.within, h.ready.room))))
+        ∙ rw (here, r) (get_or-set_same X i (code t) 0 (rw (kept-length (typing (env_of s T env) (expr_at s i)) T) (omega (arith, h.here.within, h.ready.room)))) in
+        rw m (code_tells t)
 
 module _ (s S : List ℕ) (env : Env) (T : Table) (i : ℕ) (h : StmtOf kinds.let' s S env T i) where
   let_is : (stmt_at s i ≡ bind (name_at s S i) (expr_at s (suc i))) × Row S grammar.Expr 1 (suc i) × (skip S 1 (suc i) ≡ end_at S i)
@@ -83,32 +90,31 @@ module _ (s S : List ℕ) (env : Env) (T : Table) (i : ℕ) (h : StmtOf kinds.le
   pub let_asks : Asks s S env T (i + 1)
   let_asks = record { ready = h.stmt.ready.ready; here = rw (add-one i) (row_first let_is.1) }
 
-  module _ (a : Result ℕ Refusal) (U : Table) (y : Types s (ty_of (env_of s T env) (expr_at s (i + 1))) T a U) where
-    typed : (c : ℕ) → a ≡ Ok c → kept (ty_of (env_of s T env) (expr_at s (suc i))) T ≡ record { res = ok (ty_from c); table = U }
-    typed c e = rw (← add-one i) (gave s _ T a U y c e)
+  module _ (a : Result Ty Refusal) (U : Table) (y : Types s (ty_of (env_of s T env) (expr_at s (i + 1))) T a U) where
+    module _ (c : Ty) (e : a ≡ Ok c) (b : Bool) (f : b ≡ sameb the_type c Collection) where
+      typed : kept (ty_of (env_of s T env) (expr_at s (suc i))) T ≡ record { res = ok c; table = U }
+      typed = rw (← add-one i) (gave s _ T a U y c e)
 
-    pub let_bound : (c : ℕ) → a ≡ Ok c → c ≢ codes.collection → StmtDoes s S (env_of s T env) i T (Ok tt) U
-    unfolding stmt_rule check_local eq_ty done_of code
-    let_bound c e q =
-        let k : c ≡ code (ty_from c) = gave_code s _ T a U y c e in
-        let f : kept (check_local (expr_at s (suc i)) (ty_from c)) U ≡ record { res = ok tt; table = U } =
-        (fits (not (eqb (code (ty_from c)) codes.collection)) _ _ _ (rw (← k, ne_eqb c codes.collection q) refl)).answers U in
-        record {
-          does = record { gives = rw let_is.0 (then_ok _ (check_local (expr_at s (suc i))) T U (ty_from c) _ (typed c e) f) };
-          binds = λ z w.
-              record { type = ty_from c; typed = typed c e; fits = f; marked = marked_by s S env T (suc i) (ty_from c) U (rw (add-one i) at let_asks) (omega (arith, h.stmt.next)) (typed c e) };
-        }
+      pub let_bound : b ≡ false → StmtDoes s S (env_of s T env) i T (Ok tt) U
+      unfolding stmt_rule check_local done_of
+      let_bound q =
+          let k : kept (check_local (expr_at s (suc i)) c) U ≡ record { res = ok tt; table = U } =
+          (fits (not (eq_ty c Collection)) _ _ _ (rw (← told_ty c Collection b f, q) refl)).answers U in
+          record {
+            does = record { gives = rw let_is.0 (then_ok _ (check_local (expr_at s (suc i))) T U c _ typed k) };
+            binds = λ z w.
+                record { type = c; typed = typed; fits = k; marked = marked_by s S env T (suc i) c U (rw (add-one i) at let_asks) (omega (arith, h.stmt.next)) typed };
+          }
 
-    pub let_collection : (c : ℕ) → a ≡ Ok c → c ≡ codes.collection → StmtDoes s S (env_of s T env) i T (Err (CollectionLocal (i + 1))) U
-    unfolding stmt_rule check_local eq_ty done_of refusal_of code
-    let_collection c e q =
-        let k : c ≡ code (ty_from c) = gave_code s _ T a U y c e in
-        let f : kept (check_local (expr_at s (suc i)) (ty_from c)) U ≡ record { res = refused (refusal_of s (CollectionLocal (suc i))); table = U } =
-        (misfits (not (eqb (code (ty_from c)) codes.collection)) _ _ _ (rw (← k, eq-eqb c codes.collection q) refl)).answers U in
-        record {
-          does = record { gives = rw (let_is.0, add-one i) (then_ok _ (check_local (expr_at s (suc i))) T U (ty_from c) _ (typed c e) f) };
-          binds = λ z w. absurd (let v : ◌≡◌ {A = ℕ} 0 1 = cc in omega arith);
-        }
+      pub let_collection : b ≡ true → StmtDoes s S (env_of s T env) i T (Err (CollectionLocal (i + 1))) U
+      unfolding stmt_rule check_local done_of refusal_of
+      let_collection q =
+          let k : kept (check_local (expr_at s (suc i)) c) U ≡ record { res = refused (refusal_of s (CollectionLocal (suc i))); table = U } =
+          (misfits (not (eq_ty c Collection)) _ _ _ (rw (← told_ty c Collection b f, q) refl)).answers U in
+          record {
+            does = record { gives = rw (let_is.0, add-one i) (then_ok _ (check_local (expr_at s (suc i))) T U c _ typed k) };
+            binds = λ z w. absurd (let v : ◌≡◌ {A = ℕ} 0 1 = cc in omega arith);
+          }
 
     pub let_refused : (r : Refusal) → a ≡ Err r → StmtDoes s S (env_of s T env) i T (Err r) U
     unfolding stmt_rule done_of typed_of
@@ -147,38 +153,38 @@ module _ (s S : List ℕ) (env : Env) (T : Table) (i : ℕ) (h : StmtOf kinds.do
           other (omega (arith, h.kind))
           (rw do_is.0 (does_then s _ _ T d U (rw do_is.0 at a) e r W (rw (← on.on.same, ← add-one i) k)))
 
-module _ (s S : List ℕ) (env : Env) (T : Table) (i : ℕ) (h : BodyStmt s S env T i) (k : ℕ) (e : k ≡ kind_at S i) where
+module _ (s S : List ℕ) (env : Env) (T : Table) (i : ℕ) (h : BodyStmt s S env T i) where
   bd : Loaded s S
   bd = h.ready.ready.force.loaded
 
-  pub guard_asks : k ≡ kinds.guard → Asks s S env T (i + 1)
-  guard_asks q = record { ready = h.ready.ready; here = rw (add-one i) (row_first (guard_at bd h.here (sym e ∙ q)).1) }
+  pub guard_asks : kind_at S i ≡ kinds.guard → Asks s S env T (i + 1)
+  guard_asks q = record { ready = h.ready.ready; here = rw (add-one i) (row_first (guard_at bd h.here q).1) }
 
-  pub guard_does : (r : Result Unit Refusal) (U : Table) → k ≡ kinds.guard → Does s (expect_predicate (env_of s T env) (expr_at s (i + 1))) T r U → StmtDoes s S (env_of s T env) i T r U
+  pub guard_does : (r : Result Unit Refusal) (U : Table) → kind_at S i ≡ kinds.guard → Does s (expect_predicate (env_of s T env) (expr_at s (i + 1))) T r U → StmtDoes s S (env_of s T env) i T r U
   unfolding stmt_rule
-  guard_does r U q a = other (omega arith) (rw ((guard_at bd h.here (sym e ∙ q)).0, ← add-one i) a)
+  guard_does r U q a = other (omega (arith, q)) (rw ((guard_at bd h.here q).0, ← add-one i) a)
 
-  pub stmt_of_lem : (m : ℕ) → k ≡ m → StmtOf m s S env T i
-  stmt_of_lem m q = record { stmt = h; kind = sym e ∙ q }
+  pub stmt_of_lem : (m : ℕ) → kind_at S i ≡ m → StmtOf m s S env T i
+  stmt_of_lem m q = record { stmt = h; kind = q }
 
-  pub stmt_do : k ≢ kinds.guard → k ≢ kinds.let' → k ≢ kinds.emit → k ≢ kinds.assign → StmtOf kinds.do' s S env T i
+  pub stmt_do : kind_at S i ≢ kinds.guard → kind_at S i ≢ kinds.let' → kind_at S i ≢ kinds.emit → kind_at S i ≢ kinds.assign → StmtOf kinds.do' s S env T i
   stmt_do a b c d = record { stmt = h; kind = omega (arith, h.here.kind.0, h.here.kind.1) }
 
-  pub emit_in : k ≡ kinds.emit → EmitIn s S env T i
-  emit_in q = record { ready = h.ready.ready; within = h.here.within; kind = sym e ∙ q }
+  pub emit_in : kind_at S i ≡ kinds.emit → EmitIn s S env T i
+  emit_in q = record { ready = h.ready.ready; within = h.here.within; kind = q }
 
-  pub emit_does : (r : Result Unit Refusal) (U : Table) → k ≡ kinds.emit → Does s (emit_rule (env_of s T env) (name_at s S i) (list (exprs_at s (emit_arg_count S i) (suc i)))) T r U → StmtDoes s S (env_of s T env) i T r U
+  pub emit_does : (r : Result Unit Refusal) (U : Table) → kind_at S i ≡ kinds.emit → Does s (emit_rule (env_of s T env) (name_at s S i) (list (exprs_at s (emit_arg_count S i) (suc i)))) T r U → StmtDoes s S (env_of s T env) i T r U
   unfolding stmt_rule
-  emit_does r U q a = other (omega arith) (rw (emit_at bd h.here (sym e ∙ q)).0 a)
+  emit_does r U q a = other (omega (arith, q)) (rw (emit_at bd h.here q).0 a)
 
-  pub assign_in : k ≡ kinds.assign → StmtIn s S env T i
+  pub assign_in : kind_at S i ≡ kinds.assign → StmtIn s S env T i
   assign_in q = record { ready = h.ready.ready; here = h.here }
 
-  pub assign_does : (r : Result Unit Refusal) (U : Table) → k ≡ kinds.assign → Does s (check_stmt_types (env_of s T env) (stmt_at s i)) T r U → StmtDoes s S (env_of s T env) i T r U
+  pub assign_does : (r : Result Unit Refusal) (U : Table) → kind_at S i ≡ kinds.assign → Does s (check_stmt_types (env_of s T env) (stmt_at s i)) T r U → StmtDoes s S (env_of s T env) i T r U
   unfolding stmt_rule
   assign_does r U q a =
-      let t = (assign_at bd h.here (sym e ∙ q)).0 in
-      other (omega arith) (rw t (rw t at a))
+      let t = (assign_at bd h.here q).0 in
+      other (omega (arith, q)) (rw t (rw t at a))
 
 -- ------------------------------------------------------------ statements one behind another
 
@@ -286,18 +292,18 @@ module _ (s S : List ℕ) (T : Table) (params count body total at left : ℕ) (h
         }
 
     bound-now : (q : kind_at S at ≡ kinds.let') (b : Binds s (env_of s T env) T at U) → Grown U (bound (env_of s T env) (name_at s S at) b.type (line_after (expr_at s (suc at))))
-    unfolding with_locals env_of params_in ends_in bound local_of named_end
+    unfolding with_locals env_of params_in ends_in bound local_of named_end ty_from
     bound-now q b =
         record {
           ready =
               record {
                 ready = record { force = force_grown; room = o.on.ready.room };
                 typed =
-                    rw (lets_next, let_here q) (lets-append o.typed (rw st.here (a_let {t = node at st.line st.parts} (rw b.marked (code_is b.type)) no_let)));
+                    rw (lets_next, let_here q) (lets-append o.typed (rw st.here (a_let {t = node at st.line st.parts} (b.type, b.marked) no_let)));
               };
           is =
               let was = ap (λ (Γ : typing.Env). Γ.locals) o.on.same in
-              let type-is : ty_from (get_or U (suc at) 0) ≡ b.type = from_code _ b.type b.marked in
+              let type-is : ty_from (get_or U (suc at) 0) ≡ b.type = rw (ty_from, b.marked) refl in
               rw (lets_next, let_here q, map-append (local_of U) (lets s (total - left) body) (node_at s at ∷ []), map-append (named_end s) (lets s (total - left) body) (node_at s at ∷ []), was, st.here, st.spells.name, type-is) refl;
         }
 
@@ -388,3 +394,6 @@ body_none s S T Γ left at e = rw (e, no_stmts s at) (does_nothing s T)
 
 pub stmt_length : (s S : List ℕ) (Γ : typing.Env) (i : ℕ) (T : Table) (r : Result Unit Refusal) (U : Table) → StmtDoes s S Γ i T r U → length U ≡ length T
 stmt_length s S Γ i T r U a = does_length s _ T r U a.does
+
+-- what `check_stmt` asks of its calls, and that they keep the length of the table
+pub ruleset stmt_needs = (tested, stmt_of_lem, stmt_do, emit_in, assign_in, stmt_length, does_length)

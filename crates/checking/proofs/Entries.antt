@@ -1,39 +1,42 @@
 -- `check_entry`: what each return and each call needs. Assumes nothing.
 use mathlib.Core.Path.{◌≡◌, refl, sym, ap, ◌∙◌}
-use mathlib.Core.List.{List, map}
+use mathlib.Core.List.{List}
 use mathlib.Core.Bool.{false}
 use Prim.Native.Nat.{ℕ, suc, ◌+◌, ◌-◌, ◌<◌}
 use native.Mathlib.Numerals.{add-one}
 use native.Mathlib.Omega.{arith}
+use lib.ListN.{length}
 use Rattle.std.specs.Prelude.{Result, Ok, Err}
 use Rattle.grammar.specs.Grammar as grammar
 use Rattle.sheet.specs.Scratch.{skip, line_count, param_count, clause_count, body_count}
 use Rattle.sheet.specs.Tree.{take_nodes}
-use Rattle.rules.specs.Ast.{Entry, nodes, clause_of, entry_of}
+use Rattle.rules.proofs.Rows.{clauses}
+use Rattle.rules.proofs.Standing.{row_nth}
+use Rattle.rules.specs.Ast.{Entry, nodes, entry_of}
 use Rattle.rules.specs.Asking.{◌>>=◌, ◌>>◌, for_each}
 use Rattle.rules.specs.Kept.{Table, kept}
 use Rattle.rules.specs.Typing as typing
 use Rattle.rules.specs.Assets.{asset_calls_consumed, narrow_wrapping}
 use Rattle.rules.specs.Arithmetic.{check_arithmetic}
 use Rattle.rules.specs.Check.{clause_predicate, clause_assets, param_types, check_body, check_entry}
-use Rattle.rules.specs.Standing.{nodes_at, params_at, clauses_at, stmts_at, entry_at, model_in, Loaded, Row, stop}
+use Rattle.rules.specs.Standing.{nodes_at, params_at, clause_at, clauses_at, stmts_at, entry_at, model_in, Loaded, Row, stop}
 use Rattle.rules.proofs.Records.{EntryParts, entry_at_lem}
 use Rattle.rules.proofs.Binding.{kept_assoc, kept_behind}
 use Rattle.refusals.specs.Answers.{Answers}
-use Rattle.lookups.specs.Found.{of_kind}
-use Rattle.lookups.specs.Lines.{EntryAt, RecordsAt}
 use Rattle.refusals.specs.Refusal.{done_of}
 use Rattle.refusals.specs.declared.refusal.Refusal.{Refusal}
 use Rattle.refusals.proofs.Answers.{answers_then, answers_cut}
+use Rattle.lookups.specs.Found.{of_kind}
+use Rattle.lookups.specs.Lines.{EntryAt, RecordsAt}
 use Rattle.env.specs.Force.{env_of, params_in, lets, ends_in}
 use Rattle.env.specs.declared.env.Env.{Env}
 use Rattle.typing.specs.Asks.{Does}
 use Rattle.typing.proofs.Calls.{does_length}
 use Rattle.typing.proofs.Doing.{does_then, does_cut, asks_none}
 use Rattle.wrapping.specs.Lines.{FewEntry}
-use Rattle.checking.specs.Walk.{with_params, with_locals, no_let, record_rule, a_clause, RecordsIn, BodyAt, EntryIn, entry_env, types_rule, uses_rule}
-use Rattle.checking.proofs.Recording.{rule_each, rule_clause}
-use Rattle.grammar.specs.Table.{sort_number}
+use Rattle.checking.specs.Each.{Post, Gives, GivesEach}
+use Rattle.checking.specs.Walk.{with_params, with_locals, no_let, ClauseIn, BodyAt, EntryIn, entry_env, types_rule, uses_rule}
+use Rattle.checking.proofs.Each.{DoesEach, does_at, each_does}
 
 -- ------------------------------------------------------------ what is typed
 
@@ -58,29 +61,30 @@ module _ (s S : List ℕ) (T : Table) (i : ℕ) (h : EntryIn s S T i) where
     params = rw (ea, add-one i) parts.params
 
     module _ (env : Env) (ee : env ≡ with_params (i + 1) a false) where
-      in_force : env_of s T env ≡ entry_env (model_in s) (entry_at s i)
+      in_force : (T' : Table) → env_of s T' env ≡ entry_env (model_in s) (entry_at s i)
       unfolding with_params env_of params_in lets nodes_at take_nodes nodes of_kind ends_in entry_env typing.new params_at
-      in_force = rw (ee, parts.is, ea, add-one i) refl
+      in_force T' = rw (ee, parts.is, ea, add-one i) refl
 
-      pub clauses_in : (at b : ℕ) → at ≡ skip S (param_count S i) (suc i) → b ≡ clause_count S i → RecordsIn s S env T (sort_number grammar.Clause) b at
-      unfolding with_params lets nodes_at take_nodes nodes of_kind skip
-      clauses_in at b et eb =
-          rw (ee, et, eb)
-          (record {
-            ready = record { force = record { loaded = d; params = params; locals = stop; next = refl }; room = h.sheet.room };
-            bare = refl;
-            walked = a_clause;
-            row = parts.clauses;
-          })
+      module _ (at b : ℕ) (et : at ≡ skip S (param_count S i) (suc i)) (eb : b ≡ clause_count S i) where
+        row : Row S grammar.Clause b at
+        row = rw (et, eb) parts.clauses
 
-      pub clauses_does : (at b : ℕ) (r : Result Unit Refusal) (U : Table) → at ≡ skip S (param_count S i) (suc i) → b ≡ clause_count S i
-          → Does s (for_each (nodes_at s b at) (record_rule (sort_number grammar.Clause) (env_of s T env))) T r U
-          → Does s (for_each (entry_at s i).clauses (clause_predicate (entry_env (model_in s) (entry_at s i)))) T r U
-      unfolding clauses_at entry_at entry_of
-      clauses_does at b r U et eb k =
-          let c : (entry_at s i).clauses ≡ map clause_of (nodes_at s b at) = ap (λ (x : Entry). x.clauses) parts.is ∙ rw (← et, ← eb) refl in
-          let same = rule_each (sort_number grammar.Clause) (env_of s T env) clause_of (clause_predicate (env_of s T env)) (rule_clause (env_of s T env)) (nodes_at s b at) T in
-          record { gives = rw c (rw in_force at (sym same ∙ k.gives)) }
+        pub clause_in : (T' : Table) (k : ℕ) → length T' ≡ length T → k < b → ClauseIn s S env T' (skip S k at)
+        unfolding with_params skip
+        clause_in T' k e l =
+            record {
+              ready = rw ee (record { force = record { loaded = d; params = params; locals = stop; next = refl }; room = rw e h.sheet.room });
+              here = row_nth k l row;
+            }
+
+        pub clauses_do : (r : Result Unit Refusal) (U : Table) {post : Post} → GivesEach (Gives post) S b at T r U
+            → DoesEach post s (λ T' j. clause_predicate (env_of s T' env) (clause_at s j))
+            → Does s (for_each (entry_at s i).clauses (clause_predicate (entry_env (model_in s) (entry_at s i)))) T r U
+        unfolding entry_at entry_of
+        clauses_do r U g f =
+            let c : (entry_at s i).clauses ≡ clauses_at s b at = ap (λ (x : Entry). x.clauses) parts.is ∙ rw (← et, ← eb) refl in
+            let Γ = entry_env (model_in s) (entry_at s i) in
+            rw c (each_does clauses (clause_predicate Γ) d (λ j T' x V p. rw (in_force T') at (does_at (λ T' j. clause_predicate (env_of s T' env) (clause_at s j)) f j T' x V p)) row g)
 
     module _ (body total : ℕ) (ey : body ≡ skip S (clause_count S i) (skip S (param_count S i) (suc i))) (ec : total ≡ body_count S i) where
       none : total - total ≡ 0

@@ -1,3 +1,4 @@
+pub mod Each
 pub mod Locals
 pub mod Recording
 pub mod Bodies

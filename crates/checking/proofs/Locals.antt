@@ -4,24 +4,16 @@ use mathlib.Core.List.{List, ◌++◌}
 use mathlib.Core.Option.{some}
 use Prim.Native.Nat.{ℕ, suc}
 use lib.ListN.{get_or}
-use Rattle.sheet.specs.Tree.{Node, node, take_nodes}
-use Rattle.rules.specs.Ast.{nodes}
-use Rattle.rules.specs.Asking.{Ty, ok, Rule}
+use Rattle.sheet.specs.Tree.{Node, node}
+use Rattle.rules.specs.Asking.{ok, Rule}
+use Rattle.rules.specs.declared.ty.Ty.{Ty}
 use Rattle.rules.specs.Kept.{Table, ty_of_mark, kept}
-use Rattle.rules.specs.Standing.{nodes_at}
 use Rattle.rules.proofs.All.{All}
 use Rattle.rules.proofs.Binding.{kept_holds}
-use Rattle.lookups.proofs.Codes.{code_of_lem}
-use Rattle.lookups.specs.Found.{of_kind}
-use Rattle.env.specs.Force.{lets, Ready}
+use Rattle.env.specs.Force.{lets}
 use Rattle.env.specs.declared.env.Env.{Env}
 use Rattle.typing.proofs.Onward.{SameValue, Onward, onward_with}
 use Rattle.checking.specs.Walk.{LetsTyped, no_let, a_let, ReadyTyped}
-
--- none is bound
-pub none_bound : (s S : List ℕ) (env : Env) (T : Table) → Ready s S env T → env.bound ≡ 0 → ReadyTyped s S env T
-unfolding lets nodes_at take_nodes nodes of_kind
-none_bound s S env T h e = record { ready = h; typed = rw (lets, e) no_let }
 
 pub lets-append : {U : Table} {as' bs : List Node} → LetsTyped U as' → LetsTyped U bs → LetsTyped U (as' ++ bs)
 lets-append no_let k = k
@@ -31,7 +23,7 @@ module _ (T U : Table) (h : (i : ℕ) (t : Ty) → ty_of_mark (get_or T i 0) ≡
   lets_on : {ts : List Node} → LetsTyped T ts → LetsTyped U ts × All (SameValue T U) ts
   lets_on no_let = (no_let, tt)
   lets_on (a_let {t = node i l ps} x xs) =
-      let e = h (suc i) _ (code_of_lem _ x).0 in
+      let e = h (suc i) x.0 x.1 in
       let r = lets_on xs in
       (a_let {t = node i l ps} (rw e x) r.0, (e, r.1))
 

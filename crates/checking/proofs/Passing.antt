@@ -1,88 +1,52 @@
--- The passes of `check` over the items: what each return and each call needs. Assumes nothing.
+-- What `check` does with the items of a kind: what each return and each call needs. Assumes nothing.
+use mathlib.Core.List.{◌++◌, List, [], ◌∷◌, map}
 use mathlib.Core.Logic.{◌≢◌}
 use mathlib.Core.Path.{◌≡◌, refl, sym, ap, ◌∙◌}
-use mathlib.Core.List.{List, [], ◌∷◌, map}
-use mathlib.Core.Bool.{Bool, true, false, not, ◌||◌, cond}
-use Prim.Native.Nat.{ℕ, suc, ◌+◌, ◌-◌, ◌<◌, ◌≤◌}
+use mathlib.Core.Bool.{Bool, true, false}
+use Prim.Native.Nat.{ℕ, suc, ◌+◌, ◌<◌}
 use native.Mathlib.Numerals.{add-one}
 use native.Mathlib.Omega.{arith}
-use lib.Dec.{eqb}
-use borrow.Author.Tests.{eq-eqb, ne_eqb, eqb-true, eqb-false, not-true, not-false}
+use lib.ListN.{length}
+use denote.Ref.{MutBor}
 use Rattle.std.specs.Prelude.{Result, Ok, Err}
 use Rattle.grammar.specs.Grammar as grammar
+use Rattle.grammar.specs.Kinds as kinds
+use Rattle.sheet.specs.Records.{Steps}
+use Rattle.sheet.specs.declared.records.Records.{Records}
 use Rattle.sheet.specs.Scratch.{kind_at, end_at, skip, item_count, field_count, param_count, genesis_count}
 use Rattle.sheet.specs.Tree.{take_nodes}
-use Rattle.rules.specs.Ast.{Expr, Field, Stmt, Event, Entry, nodes, field_of, stmt_of, item_of, event_of, entry_of}
-use Rattle.rules.specs.Asking.{Rule, ret, ◌>>=◌, ◌>>◌, for_each}
+use Rattle.rules.specs.Ast.{Param, Expr, Field, Stmt, Event, Entry, nodes, field_of, stmt_of, item_of, event_of, entry_of}
+use Rattle.rules.specs.Standing.{field_at, stmt_at, stmts_at, param_at, next, node_at, nodes_at, expr_at, params_at, event_at, entry_at, model_in, Loaded, Here, Row, stop}
+use Rattle.rules.proofs.Rows.{Listed, params, stmts}
+use Rattle.rules.proofs.Standing.{row_nth, Stands, stands, nodes_next, row_first}
+use Rattle.rules.specs.Asking.{Rule, ◌>>=◌, for_each}
 use Rattle.rules.specs.Kept.{Table, kept}
-use Rattle.rules.specs.Declarations.{guardian_bound}
-use Rattle.rules.specs.Model.{Model, item_model, joined, build, values}
+use Rattle.rules.specs.Model.{Model, item_model, joined, build}
 use Rattle.rules.specs.Typing as typing
 use Rattle.rules.specs.Statements.{expect_predicate}
-use Rattle.rules.specs.KeyKinds.{check_key_kinds}
-use Rattle.rules.specs.Check.{param_types, check_field, check_genesis, check_event_param, check_entry_param, check_entry, before_entries, check}
-use Rattle.rules.specs.Standing.{node_at, nodes_at, expr_at, params_at, event_at, entry_at, model_in, Loaded, Here, Row, stop}
+use Rattle.rules.specs.Check.{param_types, check_field, check_genesis, check_event_param, check_entry_param, check_entry}
 use Rattle.rules.proofs.Parts.{stop as end', ◌also◌, pick, parts}
-use Rattle.rules.proofs.Rows.{records, row_some, list_some}
 use Rattle.rules.proofs.Records.{no_nodes, group, event_at_lem, entry_at_lem}
-use Rattle.rules.proofs.Standing.{Stands, stands, nodes_next, row_first, row_rest, row_take}
-use Rattle.rules.proofs.Binding.{kept_assoc, kept_behind, kept_unit, each_append}
-use Rattle.lookups.proofs.Fields.{items_at}
-use Rattle.text.proofs.Tests.{or_parts}
+use Rattle.rules.proofs.Binding.{kept_unit, each_append}
 use Rattle.refusals.specs.Answers.{Answers}
-use Rattle.lookups.specs.Found.{of_kind}
-use Rattle.lookups.specs.Lines.{RecordsAt, FewLines}
 use Rattle.refusals.specs.Refusal.{done_of}
 use Rattle.refusals.specs.declared.refusal.Refusal.{Refusal}
+use Rattle.lookups.specs.Lines.{RecordAt, FewLines}
+use Rattle.lookups.proofs.Fields.{items_at}
+use Rattle.lookups.specs.Found.{of_kind}
 use Rattle.env.specs.Force.{env_of, params_in, lets, ends_in, Ready}
 use Rattle.env.specs.declared.env.Env.{Env}
+use Rattle.typing.proofs.Doing.{does_nothing, does_then, does_cut, asks_none}
 use Rattle.typing.specs.Asks.{Asks, Does}
-use Rattle.typing.proofs.Calls.{does_length}
-use Rattle.typing.proofs.Doing.{does_then, does_cut, asks_none}
-use Rattle.checking.specs.Walk.{with_params, record_rule, param_rule, a_field, a_stmt, RecordsIn, SheetIn, EntryIn, ItemIn, OwnItem, ItemsIn, PassIn, pass_rule, names_rule, after_fields, from_entries}
-use Rattle.checking.proofs.Recording.{rule_each, rule_field, rule_stmt}
-use Rattle.grammar.specs.Kinds as kinds
-use Rattle.checking.specs.Passes as passes
-use Rattle.grammar.specs.Table.{sort_number}
+use Rattle.statements.specs.Checked.{StmtIn}
+use Rattle.checking.specs.Each.{Step, Post, Gives, GivesOf, its_kind, other_kind, GivesEach, over, refused, onward}
+use Rattle.checking.specs.Walk.{KindIn, with_params, SheetIn, EntryIn, ItemIn}
+use Rattle.checking.proofs.Each.{EachLeft, each_here, each_refused, each_onward, DoesEach, does_at, each_does}
 
 -- ------------------------------------------------------------ parts of a model
 
 abbrev nothing : Model
 nothing = record { fields = []; events = []; entries = []; invariants = []; genesis = [] }
-
--- a pass, by its number
-by_pass : (P : ℕ → Type 0) (k : ℕ) → k < passes.count → P passes.fields → P passes.events → P passes.invariants → P passes.genesis → P passes.entries → P passes.params → P k
-by_pass P k h a b c d e f = pick {P = P} {i = 0} {n = passes.count} k (a also b also c also d also e also f also end') (omega arith) (omega arith)
-
-only_genesis : (k : ℕ) → k < passes.count → k ≢ passes.fields → k ≢ passes.events → k ≢ passes.invariants → k ≢ passes.entries → k ≢ passes.params → k ≡ passes.genesis
-only_genesis k h a b c d e =
-    by_pass (λ j. k ≡ j → k ≡ passes.genesis) k h (λ q. absurd (a q)) (λ q. absurd (b q)) (λ q. absurd (c q)) (λ q. q) (λ q. absurd (d q)) (λ q. absurd (e q)) refl
-
-pass_nothing : (s : List ℕ) (k : ℕ) (T : Table) → k < passes.count → kept (pass_rule s k nothing) T ≡ kept (ret tt) T
-unfolding pass_rule for_each
-pass_nothing s k T h = by_pass (λ j. kept (pass_rule s j nothing) T ≡ kept (ret tt) T) k h refl refl refl refl refl refl
-
-pass_joined : (s : List ℕ) (k : ℕ) (a b : Model) (T : Table) → k < passes.count → kept (pass_rule s k (joined a b)) T ≡ kept (pass_rule s k a >>= λ _. pass_rule s k b) T
-unfolding pass_rule joined
-pass_joined s k a b T h =
-    by_pass (λ j. kept (pass_rule s j (joined a b)) T ≡ kept (pass_rule s j a >>= λ _. pass_rule s j b) T) k h
-    (each_append _ a.fields b.fields T)
-    (each_append _ a.events b.events T)
-    (each_append _ a.invariants b.invariants T)
-    (each_append _ a.genesis b.genesis T)
-    (each_append _ a.entries b.entries T)
-    (each_append _ a.entries b.entries T)
-
--- a pass looks at items of a kind
-abbrev own : (k pass : ℕ) → Bool
-own k pass = eqb k (passes.item_kind pass)
-
-told : true ≡ false → ⊥
-told e = let z : ◌≡◌ {A = ℕ} 0 1 = cc in absurd (omega arith)
-
-one : {A : Type 0} (f : A → Rule Unit) (a : A) (T : Table) → kept (for_each (a ∷ []) f) T ≡ kept (f a) T
-unfolding for_each
-one f a T = kept_unit (f a) T
 
 abbrev of_state : List Field → Model
 of_state xs = record { fields = xs; events = []; entries = []; invariants = []; genesis = [] }
@@ -98,31 +62,6 @@ of_genesis xs = record { fields = []; events = []; entries = []; invariants = []
 
 abbrev of_entry : List Entry → Model
 of_entry xs = record { fields = []; events = []; entries = xs; invariants = []; genesis = [] }
-
--- the passes that don't look at such an item
-module _ (s : List ℕ) where
-  abbrev PassIdle : ℕ → Model → ℕ → Table → Type 0
-  PassIdle k m pass T = own k pass ≡ false → kept (pass_rule s pass m) T ≡ kept (ret tt) T
-
-  not_state : (xs : List Field) (pass : ℕ) (T : Table) → pass < passes.count → PassIdle kinds.state (of_state xs) pass T
-  unfolding pass_rule for_each
-  not_state xs pass T l = by_pass (λ p. PassIdle kinds.state (of_state xs) p T) pass l (λ z. absurd (told z)) (λ z. refl) (λ z. refl) (λ z. refl) (λ z. refl) (λ z. refl)
-
-  not_event : (xs : List Event) (pass : ℕ) (T : Table) → pass < passes.count → PassIdle kinds.event (of_event xs) pass T
-  unfolding pass_rule for_each
-  not_event xs pass T l = by_pass (λ p. PassIdle kinds.event (of_event xs) p T) pass l (λ z. refl) (λ z. absurd (told z)) (λ z. refl) (λ z. refl) (λ z. refl) (λ z. refl)
-
-  not_invariant : (xs : List Expr) (pass : ℕ) (T : Table) → pass < passes.count → PassIdle kinds.invariant (of_invariant xs) pass T
-  unfolding pass_rule for_each
-  not_invariant xs pass T l = by_pass (λ p. PassIdle kinds.invariant (of_invariant xs) p T) pass l (λ z. refl) (λ z. refl) (λ z. absurd (told z)) (λ z. refl) (λ z. refl) (λ z. refl)
-
-  not_genesis : (xs : List Stmt) (pass : ℕ) (T : Table) → pass < passes.count → PassIdle kinds.genesis (of_genesis xs) pass T
-  unfolding pass_rule for_each
-  not_genesis xs pass T l = by_pass (λ p. PassIdle kinds.genesis (of_genesis xs) p T) pass l (λ z. refl) (λ z. refl) (λ z. refl) (λ z. absurd (told z)) (λ z. refl) (λ z. refl)
-
-  not_entry : (xs : List Entry) (pass : ℕ) (T : Table) → pass < passes.count → PassIdle kinds.entry (of_entry xs) pass T
-  unfolding pass_rule for_each
-  not_entry xs pass T l = by_pass (λ p. PassIdle kinds.entry (of_entry xs) p T) pass l (λ z. refl) (λ z. refl) (λ z. refl) (λ z. refl) (λ z. absurd (told z)) (λ z. absurd (told z))
 
 -- ------------------------------------------------------------ the model of an item
 
@@ -166,23 +105,124 @@ module _ {s S : List ℕ} (d : Loaded s S) {i : ℕ} (h : Here S grammar.Item i)
   unfolding item_model item_of entry_at entry_of
   entry_model e = rw (it.here, kind_is e) refl
 
-  -- ------------------------------------------------------------ an item that a pass doesn't look at
+-- ------------------------------------------------------------ the items of a kind
 
-  nothing_for : (pass : ℕ) (T : Table) → pass < passes.count → own (kind_at S i) pass ≡ false → kept (pass_rule s pass its) T ≡ kept (ret tt) T
-  nothing_for pass T l n =
-      pick {P = λ k. kind_at S i ≡ k → kept (pass_rule s pass its) T ≡ kept (ret tt) T} {i = kinds.state} {n = 5} (kind_at S i)
-      ((λ e. rw (state_model e).0 (not_state s _ pass T l (rw e at n)))
-      also (λ e. rw (event_model e) (not_event s _ pass T l (rw e at n)))
-      also (λ e. rw (invariant-model e).0 (not_invariant s _ pass T l (rw e at n)))
-      also (λ e. rw (genesis_model e).0 (not_genesis s _ pass T l (rw e at n)))
-      also (λ e. rw (entry_model e) (not_entry s _ pass T l (rw e at n)))
-      also end')
-      h.kind.0 h.kind.1 refl
+abbrev pub model_here : List ℕ → ℕ → Model
+model_here s i = item_model (item_of (node_at s i))
 
--- ------------------------------------------------------------ an item that a pass looks at
+-- what lists a part of a model, and the kind of the items that have it
+pub record PartOf {A : Type 0} (get : Model → List A) (k : ℕ) : Type 0 where
+  none : get nothing ≡ []
+  both : (a b : Model) → get (joined a b) ≡ get a ++ get b
+  other : {s S : List ℕ} → Loaded s S → {i : ℕ} → Here S grammar.Item i → kind_at S i ≢ k → get (model_here s i) ≡ []
 
-abbrev bare : Bool → Env
-bare g = with_params 0 0 g
+-- by the kind of an item
+by_kind : {S : List ℕ} {i : ℕ} {P : Type 0} → Here S grammar.Item i → (kind_at S i ≡ kinds.state → P) → (kind_at S i ≡ kinds.event → P) → (kind_at S i ≡ kinds.invariant → P) → (kind_at S i ≡ kinds.genesis → P) → (kind_at S i ≡ kinds.entry → P) → P
+by_kind {S} {i} {P} h a b c d e =
+    pick {P = λ k. kind_at S i ≡ k → P} {i = kinds.state} {n = 5} (kind_at S i) (a also b also c also d also e also end') h.kind.0 h.kind.1 refl
+
+pub the_fields : PartOf (λ (m : Model). m.fields) kinds.state
+unfolding joined
+the_fields =
+    record {
+      none = refl;
+      both = λ a b. refl;
+      other = λ d h n.
+          by_kind h
+          (λ e. absurd (n e))
+          (λ e. rw (event_model d h e) refl)
+          (λ e. rw ((invariant-model d h e).0) refl)
+          (λ e. rw ((genesis_model d h e).0) refl)
+          (λ e. rw (entry_model d h e) refl);
+    }
+
+pub the_events : PartOf (λ (m : Model). m.events) kinds.event
+unfolding joined
+the_events =
+    record {
+      none = refl;
+      both = λ a b. refl;
+      other = λ d h n.
+          by_kind h
+          (λ e. rw ((state_model d h e).0) refl)
+          (λ e. absurd (n e))
+          (λ e. rw ((invariant-model d h e).0) refl)
+          (λ e. rw ((genesis_model d h e).0) refl)
+          (λ e. rw (entry_model d h e) refl);
+    }
+
+pub the_invariants : PartOf (λ (m : Model). m.invariants) kinds.invariant
+unfolding joined
+the_invariants =
+    record {
+      none = refl;
+      both = λ a b. refl;
+      other = λ d h n.
+          by_kind h
+          (λ e. rw ((state_model d h e).0) refl)
+          (λ e. rw (event_model d h e) refl)
+          (λ e. absurd (n e))
+          (λ e. rw ((genesis_model d h e).0) refl)
+          (λ e. rw (entry_model d h e) refl);
+    }
+
+pub the_genesis : PartOf (λ (m : Model). m.genesis) kinds.genesis
+unfolding joined
+the_genesis =
+    record {
+      none = refl;
+      both = λ a b. refl;
+      other = λ d h n.
+          by_kind h
+          (λ e. rw ((state_model d h e).0) refl)
+          (λ e. rw (event_model d h e) refl)
+          (λ e. rw ((invariant-model d h e).0) refl)
+          (λ e. absurd (n e))
+          (λ e. rw (entry_model d h e) refl);
+    }
+
+pub the_entries : PartOf (λ (m : Model). m.entries) kinds.entry
+unfolding joined
+the_entries =
+    record {
+      none = refl;
+      both = λ a b. refl;
+      other = λ d h n.
+          by_kind h
+          (λ e. rw ((state_model d h e).0) refl)
+          (λ e. rw (event_model d h e) refl)
+          (λ e. rw ((invariant-model d h e).0) refl)
+          (λ e. rw ((genesis_model d h e).0) refl)
+          (λ e. absurd (n e));
+    }
+
+one : {A : Type 0} (f : A → Rule Unit) (a : A) (T : Table) → kept (for_each (a ∷ []) f) T ≡ kept (f a) T
+unfolding for_each
+one f a T = kept_unit (f a) T
+
+module _ {A : Type 0} {get : Model → List A} {k : ℕ} (part : PartOf get k) (rule : A → Rule Unit) {s S : List ℕ} (d : Loaded s S) {post : Post}
+    (each : (shown : MutBor Table) (j : ℕ) (r : Result Unit Refusal) (left : MutBor Table) → Here S grammar.Item j → kind_at S j ≡ k → post shown j r left → Does s (for_each (get (model_here s j)) rule) shown.now r left.now) where
+  item_does : (j : ℕ) (T : Table) (r : Result Unit Refusal) (U : Table) → Here S grammar.Item j → GivesOf k S (Gives post) j T r U → Does s (for_each (get (model_here s j)) rule) T r U
+  unfolding for_each
+  item_does j T r U h (its_kind q p) = rw (← p.shows, ← p.leaves) (each p.shown j r p.left h q p.met)
+  item_does j T r U h (other_kind q) = rw (part.other d h q) (does_nothing s T)
+
+  abbrev all : (m i : ℕ) → List A
+  all m i = get (build (map item_of (nodes_at s m i)))
+
+  split : (m i : ℕ) (T : Table) → Here S grammar.Item i → kept (for_each (all (suc m) i) rule) T ≡ kept (for_each (get (model_here s i)) rule >>= λ _. for_each (all m (end_at S i)) rule) T
+  unfolding build
+  split m i T h = rw (nodes_next d m i h.within, part.both (model_here s i) (build (map item_of (nodes_at s m (end_at S i))))) (each_append rule (get (model_here s i)) (all m (end_at S i)) T)
+
+  items_do : {m i : ℕ} {T : Table} {r : Result Unit Refusal} {U : Table} → Row S grammar.Item m i → GivesEach (GivesOf k S (Gives post)) S m i T r U → Does s (for_each (all m i) rule) T r U
+  unfolding for_each build
+  items_do {i = i} {T} w over = rw (no_nodes s i, part.none) (does_nothing s T)
+  items_do {m = suc m} {i} {T} {U = U} (next h w) (refused {x = x} p) = record { gives = split m i T h ∙ (does_cut s _ _ T _ U (item_does i T _ U h p) x refl).gives }
+  items_do {m = suc m} {i} {T} {r} {U} (next h w) (onward {U = V} p g) =
+      record { gives = split m i T h ∙ (does_then s _ _ T _ V (item_does i T (Ok tt) V h p) refl r U (items_do w g)).gives }
+
+  pub model_does : {T : Table} {r : Result Unit Refusal} {U : Table} → GivesEach (GivesOf k S (Gives post)) S (item_count S 0) 1 T r U → Does s (for_each (get (model_in s)) rule) T r U
+  model_does g = rw (items_at d).0 (items_do (items_at d).1 g)
 
 -- no parameters and no locals are in force
 bare_ready : (s S : List ℕ) (T : Table) (g : Bool) → SheetIn s S T → Ready s S (with_params 0 0 g) T
@@ -197,262 +237,129 @@ genesis_env : (s : List ℕ) (T : Table) → env_of s T (with_params 0 0 true) �
 unfolding with_params env_of params_in lets nodes_at take_nodes nodes of_kind ends_in typing.new typing.in_genesis param_types
 genesis_env s T = refl
 
-module _ (s S : List ℕ) (T : Table) (pass i : ℕ) (h : OwnItem s S T pass i) where
-  sh : SheetIn s S T
-  sh = h.item.sheet
+-- ------------------------------------------------------------ an item
 
-  d : Loaded s S
-  d = sh.loaded
+pub sheet_as : {s S : List ℕ} {T : Table} → SheetIn s S T → (U : Table) → length U ≡ length T → SheetIn s S U
+sheet_as h U e = record { loaded = h.loaded; few = h.few; room = rw e h.room }
 
-  here : Here S grammar.Item i
-  here = h.item.here
+pub item_in : (k : ℕ) (s S : List ℕ) (T : Table) (i : ℕ) → SheetIn s S T → (U : Table) → length U ≡ length T → Here S grammar.Item i → kind_at S i ≡ k → ItemIn k s S U i
+item_in k s S T i h U e a q = record { sheet = sheet_as h U e; here = a; kind = q }
 
-  own_kind : kind_at S i ≡ passes.item_kind pass
-  own_kind = eqb-true (kind_at S i) (passes.item_kind pass) h.own
+pub entry_in : (s S : List ℕ) (T : Table) (i : ℕ) → SheetIn s S T → (U : Table) → length U ≡ length T → Here S grammar.Item i → kind_at S i ≡ kinds.entry → EntryIn s S U i
+entry_in s S T i h U e a q = record { sheet = sheet_as h U e; within = a.within; kind = q }
 
-  -- entries
-  pub item_entry : pass ≡ passes.entries → EntryIn s S T i
-  item_entry e = record { sheet = sh; within = here.within; kind = own_kind ∙ rw e refl }
+-- what a step may ask at each item of a kind
+pub ruleset items_in = (item_in, entry_in)
 
-  pub entry_pass : (r : Result Unit Refusal) (U : Table) → pass ≡ passes.entries → Does s (check_entry (model_in s) (entry_at s i)) T r U → Does s (pass_rule s pass (item_model (item_of (node_at s i)))) T r U
-  unfolding pass_rule
-  entry_pass r U e a = record { gives = rw (e, entry_model d here (item_entry e).kind) (one (check_entry (model_in s)) (entry_at s i) T ∙ a.gives) }
+fields : Listed field_at (λ s m i. map field_of (nodes_at s m i))
+unfolding field_at
+fields = record { empty = λ s i. rw (no_nodes s i) refl; first = λ d m {i} w. rw (nodes_next d m i w) refl }
 
-  -- invariants
-  module _ (e : pass ≡ passes.invariants) (env : Env) (f : env ≡ with_params 0 0 false) where
-    inv : (item_model (item_of (node_at s i)) ≡ of_invariant (expr_at s (suc i) ∷ [])) × Row S grammar.Expr 1 (suc i)
-    inv = invariant-model d here (own_kind ∙ rw e refl)
+module _ (s S : List ℕ) (T : Table) (i : ℕ) (h : ItemIn kinds.state s S T i) (m : ℕ) (em : m ≡ field_count S i) where
+  state_is : (model_here s i ≡ of_state (map field_of (nodes_at s m (i + 1)))) × Row S grammar.Field m (i + 1)
+  state_is = rw (em, add-one i) (state_model h.sheet.loaded h.here h.kind)
 
-    pub item_invariant : Asks s S env T (i + 1)
-    item_invariant = rw f (record { ready = bare_ready s S T false sh; here = rw (add-one i) (row_first inv.1) })
+  pub field_in : (env : Env) (g : Bool) → env ≡ with_params 0 0 g → (U : Table) (k : ℕ) → length U ≡ length T → k < m → KindIn kinds.field s S env U (skip S k (i + 1))
+  field_in env g f U k e l =
+      let x = row_nth k l state_is.1 in
+      record { ready = rw f (bare_ready s S U g (sheet_as h.sheet U e)); within = x.within; kind = omega (arith, x.kind.0, x.kind.1) }
 
-    pub invariant-pass : (r : Result Unit Refusal) (U : Table) → Does s (expect_predicate (env_of s T env) (expr_at s (i + 1))) T r U → Does s (pass_rule s pass (item_model (item_of (node_at s i)))) T r U
-    unfolding pass_rule
-    invariant-pass r U a =
-        record { gives = rw (e, inv.0) (one (expect_predicate (typing.new (model_in s) [])) (expr_at s (suc i)) T ∙ rw (← new_env s T, ← f, ← add-one i) a.gives) }
+  pub fields_do : (env : Env) → env ≡ with_params 0 0 false → (r : Result Unit Refusal) (U : Table) {post : Post} → GivesEach (Gives post) S m (i + 1) T r U
+      → DoesEach post s (λ T' j. check_field (env_of s T' env) (field_at s j))
+      → Does s (for_each (model_here s i).fields (check_field (typing.new (model_in s) []))) T r U
+  fields_do env f r U g q =
+      rw state_is.0 (each_does fields (check_field (typing.new (model_in s) [])) h.sheet.loaded (λ j T' x V p. rw (f, new_env s T') at (does_at (λ T' j. check_field (env_of s T' env) (field_at s j)) q j T' x V p)) state_is.1 g)
 
-  -- parameters
-  module _ (k : ℕ) (ek : k ≡ kind_at S i) (q : (eqb pass passes.events || eqb pass passes.params) ≡ true) (m : ℕ) (em : m ≡ param_count S i) where
-    params_of : (P : Type 0) → (pass ≡ passes.events → kind_at S i ≡ kinds.event → P) → (pass ≡ passes.params → kind_at S i ≡ kinds.entry → P) → P
-    params_of P f g = by_cases (eqb pass passes.events) refl q
-      where
-        by_cases : (b : Bool) → eqb pass passes.events ≡ b → (b || eqb pass passes.params) ≡ true → P
-        by_cases true e z = let its = eqb-true pass passes.events e in f its (own_kind ∙ rw its refl)
-        by_cases false e z = let its = eqb-true pass passes.params z in g its (own_kind ∙ rw its refl)
+module _ (s S : List ℕ) (T : Table) (i : ℕ) (h : ItemIn kinds.genesis s S T i) (m : ℕ) (em : m ≡ genesis_count S i) where
+  genesis_is : (model_here s i ≡ of_genesis (stmts_at s m (i + 1))) × Row S grammar.Stmt m (i + 1)
+  unfolding stmts_at
+  genesis_is = rw (em, add-one i) (genesis_model h.sheet.loaded h.here h.kind)
 
-    pub item_params : RecordsAt grammar.Param s S m (i + 1)
-    item_params =
-        params_of (RecordsAt grammar.Param s S m (i + 1))
-        (λ e f. record { loaded = d; row = rw (em, add-one i) (event_at_lem d here.within f).1 })
-        (λ e f. record { loaded = d; row = rw (em, add-one i) (entry_at_lem d here.within f).params })
+  pub stmt_in : (env : Env) (g : Bool) → env ≡ with_params 0 0 g → (U : Table) (k : ℕ) → length U ≡ length T → k < m → StmtIn s S env U (skip S k (i + 1))
+  stmt_in env g f U k e l = record { ready = rw f (bare_ready s S U g (sheet_as h.sheet U e)); here = row_nth k l genesis_is.1 }
 
-    pub params_pass : (r : Result Unit Refusal) → Answers (for_each (params_at s m (i + 1)) (param_rule (eqb k kinds.event))) (done_of s r) → Does s (pass_rule s pass (item_model (item_of (node_at s i)))) T r T
-    unfolding pass_rule param_rule
-    params_pass r a =
-        params_of (Does s (pass_rule s pass (item_model (item_of (node_at s i)))) T r T)
-        (λ e f.
-        let ev = ap (λ (x : Event). x.params) (event_at_lem d here.within f).0 in
-        record {
-          gives =
-              rw (e, event_model d here f)
-              (one (λ x. for_each x.params check_event_param) (event_at s i) T ∙ rw (ev, ← em, ← add-one i) ((rw (eq-eqb k kinds.event (ek ∙ f)) at a).answers T));
-        })
-        (λ e f.
-        let en = ap (λ (x : Entry). x.params) (entry_at_lem d here.within f).is in
-        record {
-          gives =
-              rw (e, entry_model d here f)
-              (one (λ x. for_each x.params check_entry_param) (entry_at s i) T ∙ rw (en, ← em, ← add-one i) ((rw (ne_eqb k kinds.event (omega (arith, ek, f))) at a).answers T));
-        })
+  pub stmts_do : (env : Env) → env ≡ with_params 0 0 true → (r : Result Unit Refusal) (U : Table) {post : Post} → GivesEach (Gives post) S m (i + 1) T r U
+      → DoesEach post s (λ T' j. check_genesis (env_of s T' env) (stmt_at s j))
+      → Does s (for_each (model_here s i).genesis (check_genesis (typing.in_genesis (typing.new (model_in s) [])))) T r U
+  stmts_do env f r U g q =
+      rw genesis_is.0 (each_does stmts (check_genesis (typing.in_genesis (typing.new (model_in s) []))) h.sheet.loaded (λ j T' x V p. rw (f, genesis_env s T') at (does_at (λ T' j. check_genesis (env_of s T' env) (stmt_at s j)) q j T' x V p)) genesis_is.1 g)
 
-  -- fields, and statements of genesis
-  module _ (k : ℕ) (ek : k ≡ kind_at S i) (no-entries : pass ≢ passes.entries) (no-invariants : pass ≢ passes.invariants) (q : (eqb pass passes.events || eqb pass passes.params) ≡ false) (sort m : ℕ) (es : sort ≡ cond (eqb pass passes.fields) (sort_number grammar.Field) (sort_number grammar.Stmt)) (em : m ≡ cond (eqb pass passes.fields) (field_count S i) (genesis_count S i)) where
-    records_of : (P : Type 0) → (pass ≡ passes.fields → kind_at S i ≡ kinds.state → eqb k kinds.genesis ≡ false → P) → (pass ≡ passes.genesis → kind_at S i ≡ kinds.genesis → eqb k kinds.genesis ≡ true → P) → P
-    records_of P a b = by_cases (eqb pass passes.fields) refl
-      where
-        others : (eqb pass passes.events ≡ false) × (eqb pass passes.params ≡ false)
-        others = or_parts (eqb pass passes.events) (eqb pass passes.params) q
+module _ (s S : List ℕ) (T : Table) (i : ℕ) (h : ItemIn kinds.invariant s S T i) where
+  invariant-is : (model_here s i ≡ of_invariant (expr_at s (suc i) ∷ [])) × Row S grammar.Expr 1 (suc i)
+  invariant-is = invariant-model h.sheet.loaded h.here h.kind
 
-        kind : kind_at S i ≡ passes.item_kind pass
-        kind = own_kind
+  pub invariant-asks : (env : Env) (g : Bool) → env ≡ with_params 0 0 g → Asks s S env T (i + 1)
+  invariant-asks env g f = rw f (record { ready = bare_ready s S T g h.sheet; here = rw (add-one i) (row_first invariant-is.1) })
 
-        by_cases : (z : Bool) → eqb pass passes.fields ≡ z → P
-        by_cases true e =
-            let its = eqb-true pass passes.fields e in
-            let w : kind_at S i ≡ kinds.state = kind ∙ rw its refl in
-            a its w (ne_eqb k kinds.genesis (omega (arith, ek, w)))
-        by_cases false e =
-            let its = only_genesis pass h.item.number (eqb-false pass passes.fields e) (eqb-false pass passes.events others.0) no-invariants no-entries (eqb-false pass passes.params others.1) in
-            let w : kind_at S i ≡ kinds.genesis = kind ∙ rw its refl in
-            b its w (eq-eqb k kinds.genesis (ek ∙ w))
+  pub invariant-does : (env : Env) → env ≡ with_params 0 0 false → (r : Result Unit Refusal) (U : Table) → Does s (expect_predicate (env_of s T env) (expr_at s (i + 1))) T r U
+      → Does s (for_each (model_here s i).invariants (expect_predicate (typing.new (model_in s) []))) T r U
+  invariant-does env f r U a =
+      record { gives = rw invariant-is.0 (one (expect_predicate (typing.new (model_in s) [])) (expr_at s (suc i)) T ∙ rw (← new_env s T, ← f, ← add-one i) a.gives) }
 
-    fields_in : pass ≡ passes.fields → m ≡ field_count S i
-    fields_in e = em ∙ rw e refl
+-- the parameters of an event or an entry, of which no type is asked
+module _ {s S : List ℕ} {T : Table} {m : ℕ} (i : ℕ) (d : Loaded s S) (w : Row S grammar.Param m (i + 1)) (rule : Param → Rule Unit) {r : Result Unit Refusal} {U : Table} {post : Post}
+    (g : GivesEach (Gives post) S m (i + 1) T r U)
+    (answers : (shown : MutBor Table) (j : ℕ) (x : Result Unit Refusal) (left : MutBor Table) → post shown j x left → Answers (rule (param_at s j)) (done_of s x))
+    (same : (shown : MutBor Table) (j : ℕ) (x : Result Unit Refusal) (left : MutBor Table) → post shown j x left → left.now ≡ shown.now) where
+  pub params_do : Does s (for_each (params_at s m (i + 1)) rule) T r U
+  params_do =
+      each_does params rule d (λ j T' x V p. does_at {s = s} (λ _ j. rule (param_at s j)) (λ shown j x left q. rw (same shown j x left q) (asks_none s _ shown.now x (answers shown j x left q))) j T' x V p) w g
 
-    genesis_in : pass ≡ passes.genesis → m ≡ genesis_count S i
-    genesis_in e = em ∙ rw e refl
+module _ (s S : List ℕ) (T : Table) (i : ℕ) (m : ℕ) (em : m ≡ param_count S i) where
+  module _ (h : ItemIn kinds.event s S T i) where
+    pub event_is : ((event_at s i).params ≡ params_at s m (i + 1)) × Row S grammar.Param m (i + 1)
+    event_is = let l = event_at_lem h.sheet.loaded h.here.within h.kind in rw (em, add-one i) (ap (λ (x : Event). x.params) l.0, l.1)
 
-    pub item_records : (env : Env) (g : Bool) → env ≡ with_params 0 0 g → RecordsIn s S env T sort m (i + 1)
-    unfolding with_params
-    item_records env g f =
-        records_of (RecordsIn s S env T sort m (i + 1))
-        (λ e w z. rw (f, es, e) (record { ready = bare_ready s S T g sh; bare = refl; walked = a_field; row = rw (fields_in e, add-one i) (state_model d here w).1 }))
-        (λ e w z. rw (f, es, e) (record { ready = bare_ready s S T g sh; bare = refl; walked = a_stmt; row = rw (genesis_in e, add-one i) (genesis_model d here w).1 }))
+    pub event_param : (k : ℕ) → k < m → RecordAt grammar.Param s S (skip S k (i + 1))
+    event_param k l = record { loaded = h.sheet.loaded; here = row_nth k l event_is.1 }
 
-    pub records_pass : (env : Env) (r : Result Unit Refusal) (U : Table) → env ≡ with_params 0 0 (eqb k kinds.genesis) → Does s (for_each (nodes_at s m (i + 1)) (record_rule sort (env_of s T env))) T r U
-        → Does s (pass_rule s pass (item_model (item_of (node_at s i)))) T r U
-    unfolding pass_rule
-    records_pass env r U f a =
-        records_of (Does s (pass_rule s pass (item_model (item_of (node_at s i)))) T r U)
-        (λ e w z.
-        let Γ = typing.new (model_in s) [] in
-        let y = state_model d here w in
-        let g : env ≡ with_params 0 0 false = f ∙ rw z refl in
-        let its : sort ≡ sort_number grammar.Field = es ∙ rw e refl in
-        record { gives = rw (e, y.0) (sym (rule_each (sort_number grammar.Field) Γ field_of (check_field Γ) (rule_field Γ) (nodes_at s (field_count S i) (suc i)) T) ∙ rw (← new_env s T, ← g, ← fields_in e, ← add-one i, ← its) a.gives) })
-        (λ e w z.
-        let Γ = typing.in_genesis (typing.new (model_in s) []) in
-        let y = genesis_model d here w in
-        let g : env ≡ with_params 0 0 true = f ∙ rw z refl in
-        let its : sort ≡ sort_number grammar.Stmt = es ∙ rw e refl in
-        record { gives = rw (e, y.0) (sym (rule_each (sort_number grammar.Stmt) Γ stmt_of (check_genesis Γ) (rule_stmt Γ) (nodes_at s (genesis_count S i) (suc i)) T) ∙ rw (← genesis_env s T, ← g, ← genesis_in e, ← add-one i, ← its) a.gives) })
+    pub event_does : (r : Result Unit Refusal) (U : Table) → Does s (for_each (params_at s m (i + 1)) check_event_param) T r U
+        → Does s (for_each (model_here s i).events (λ e. for_each e.params check_event_param)) T r U
+    event_does r U a =
+        record { gives = rw (event_model h.sheet.loaded h.here h.kind) (one (λ x. for_each x.params check_event_param) (event_at s i) T ∙ rw event_is.0 a.gives) }
 
--- ------------------------------------------------------------ check_item, check_items
+  module _ (h : ItemIn kinds.entry s S T i) where
+    pub entry_is : ((entry_at s i).params ≡ params_at s m (i + 1)) × Row S grammar.Param m (i + 1)
+    entry_is = let l = entry_at_lem h.sheet.loaded h.here.within h.kind in rw (em, add-one i) (ap (λ (x : Entry). x.params) l.is, l.params)
 
-module _ (s S : List ℕ) (T : Table) (pass i : ℕ) (h : ItemIn s S T pass i) (k : ℕ) (ek : k ≡ kind_at S i) (b : Bool) (eb : b ≡ eqb k (passes.item_kind pass)) where
-  pub item_number : pass < passes.count
-  item_number = h.number
+    pub entry_param : (k : ℕ) → k < m → RecordAt grammar.Param s S (skip S k (i + 1))
+    entry_param k l = record { loaded = h.sheet.loaded; here = row_nth k l entry_is.1 }
 
-  pub item_other : not b ≡ true → Does s (pass_rule s pass (item_model (item_of (node_at s i)))) T (Ok tt) T
-  unfolding done_of kept
-  item_other q = record { gives = nothing_for h.sheet.loaded h.here pass T h.number (rw (← ek, ← eb) (not-true b q)) }
+    pub entry_params_do : (r : Result Unit Refusal) (U : Table) → Does s (for_each (params_at s m (i + 1)) check_entry_param) T r U
+        → Does s (for_each (model_here s i).entries (λ e. for_each e.params check_entry_param)) T r U
+    entry_params_do r U a =
+        record { gives = rw (entry_model h.sheet.loaded h.here h.kind) (one (λ x. for_each x.params check_entry_param) (entry_at s i) T ∙ rw entry_is.0 a.gives) }
 
-  pub item_own : not b ≡ false → OwnItem s S T pass i
-  item_own q = record { item = h; own = rw (← ek, ← eb) (not-false b q) }
+pub entry_does : {s S : List ℕ} → Loaded s S → {i : ℕ} {T : Table} {r : Result Unit Refusal} {U : Table} → Here S grammar.Item i → kind_at S i ≡ kinds.entry
+    → Does s (check_entry (model_in s) (entry_at s i)) T r U → Does s (for_each (model_here s i).entries (check_entry (model_in s))) T r U
+entry_does {s} d {i} {T} h e a = record { gives = rw (entry_model d h e) (one (check_entry (model_in s)) (entry_at s i) T ∙ a.gives) }
 
-pub items_none : (s S : List ℕ) (T : Table) (pass m i : ℕ) → ItemsIn s S T pass m i → m ≡ 0 → Does s (pass_rule s pass (build (map item_of (nodes_at s m i)))) T (Ok tt) T
-unfolding build done_of kept
-items_none s S T pass m i h e = record { gives = rw (e, no_nodes s i) (pass_nothing s pass T h.number) }
+-- ------------------------------------------------------------ check_items, check
 
-module _ (s S : List ℕ) (T : Table) (pass m i : ℕ) (h : ItemsIn s S T pass m i) (n : m ≢ 0) where
-  row : Row S grammar.Item (suc (m - 1)) i
-  row = row_some (omega arith) h.row
+-- the record at a line is an item, and of the kind that the step is for
+module _ {k : ℕ} {s S : List ℕ} (d : Loaded s S) {P : Step} {T₀ : Table} {r : Records} {T : Table} (w : EachLeft (GivesOf k S P) S (item_count S 0) 1 T₀ r T) {t : Records} {j : ℕ} (h : Steps r j t) where
+  pub items_here : Here S grammar.Item j
+  items_here = let a = each_here w h in rw a.0 (row_nth w.behind a.1 (items_at d).1)
 
-  pub items_first : ItemIn s S T pass i
-  items_first = record { sheet = h.sheet; number = h.number; here = row_first row }
+  pub items_other : kind_at S j ≢ k → EachLeft (GivesOf k S P) S (item_count S 0) 1 T₀ t T
+  items_other z = each_onward w h (Ok tt) T (other_kind z) refl
 
-  split : kept (pass_rule s pass (build (map item_of (nodes_at s m i)))) T
-      ≡ kept (pass_rule s pass (item_model (item_of (node_at s i))) >>= λ _. pass_rule s pass (build (map item_of (nodes_at s (m - 1) (end_at S i))))) T
-  unfolding build
-  split =
-      rw (list_some records h.sheet.loaded (omega arith) h.row) (pass_joined s pass (item_model (item_of (node_at s i))) (build (map item_of (nodes_at s (m - 1) (end_at S i)))) T h.number)
+  module _ (z : kind_at S j ≡ k) (o : Result Unit Refusal) (U : Table) (p : P j T o U) where
+    pub items_onward : o ≡ Ok tt → EachLeft (GivesOf k S P) S (item_count S 0) 1 T₀ t U
+    items_onward f = each_onward w h o U (its_kind z p) f
 
-  module _ (o : Result Unit Refusal) (U : Table) (a : Does s (pass_rule s pass (item_model (item_of (node_at s i)))) T o U) where
-    pub items_no : (x : Refusal) → o ≡ Err x → Does s (pass_rule s pass (build (map item_of (nodes_at s m i)))) T (Err x) U
-    items_no x e = record { gives = split ∙ (does_cut s _ _ T o U a x e).gives }
+    pub items_refused : (x : Refusal) → o ≡ Err x → GivesEach (GivesOf k S P) S (item_count S 0) 1 T₀ (Err x) U
+    items_refused x f = each_refused w h o U x (its_kind z p) f
 
-    pub items_rest : o ≡ Ok tt → (j : ℕ) → j ≡ end_at S i → (k : ℕ) → k ≤ m - 1 → ItemsIn s S U pass k j
-    items_rest e j q k l =
-        rw q
-        (record {
-          sheet = record { loaded = h.sheet.loaded; few = h.sheet.few; room = let z = does_length s _ T o U a in omega (arith, z, h.sheet.room) };
-          number = h.number;
-          row = row_take k l (row_rest row);
-        })
+pub few_lines : (s S : List ℕ) (T : Table) → SheetIn s S T → FewLines s S
+few_lines s S T h = record { loaded = h.loaded; few = h.few }
 
-    pub items_ok : o ≡ Ok tt → (j : ℕ) → j ≡ end_at S i → (r : Result Unit Refusal) (W : Table) → Does s (pass_rule s pass (build (map item_of (nodes_at s (m - 1) j)))) U r W
-        → Does s (pass_rule s pass (build (map item_of (nodes_at s m i)))) T r W
-    items_ok e j q r W k = record { gives = split ∙ (does_then s _ _ T o U a e r W (rw (← q) k)).gives }
+-- what `before_entries` and `check` ask of their calls
+pub ruleset sheet_needs = (sheet_as, few_lines)
 
--- ------------------------------------------------------------ all items
+-- a rule behind another, and one that refuses
+pub behind : {s : List ℕ} {p q : Rule Unit} {T U W : Table} {d r : Result Unit Refusal} → Does s p T d U → d ≡ Ok tt → Does s q U r W → Does s (p >>= λ _. q) T r W
+behind {s} {p} {q} {T} {U} {W} {d} {r} a e k = does_then s p q T d U a e r W k
 
-module _ (s S : List ℕ) (T : Table) (pass : ℕ) (h : PassIn s S T pass) (m : ℕ) (e : m ≡ item_count S 0) where
-  pub pass_items : ItemsIn s S T pass m 1
-  pass_items = record { sheet = h.sheet; number = h.number; row = rw e (items_at h.sheet.loaded).1 }
-
-  pub pass_does : (r : Result Unit Refusal) (U : Table) → Does s (pass_rule s pass (build (map item_of (nodes_at s m 1)))) T r U → Does s (pass_rule s pass (model_in s)) T r U
-  pass_does r U a = rw ((items_at h.sheet.loaded).0, ← e) a
-
--- ------------------------------------------------------------ check
-
-module _ (s S : List ℕ) (T : Table) (h : SheetIn s S T) where
-  pub pass_in : (k : ℕ) → k < passes.count → PassIn s S T k
-  pass_in k l = record { sheet = h; number = l }
-
-  pub few_lines : FewLines s S
-  few_lines = record { loaded = h.loaded; few = h.few }
-
-  pub sheet_loaded : Loaded s S
-  sheet_loaded = h.loaded
-
-  pub sheet_on : (p : Rule Unit) (o : Result Unit Refusal) (U : Table) → Does s p T o U → SheetIn s S U
-  sheet_on p o U a = record { loaded = h.loaded; few = h.few; room = let l = does_length s p T o U a in omega (arith, l, h.room) }
-
--- ------------------------------------------------------------ the order of `check`
-
-module _ (s : List ℕ) where
-  abbrev p : ℕ → Rule Unit
-  p k = pass_rule s k (model_in s)
-
-  abbrev bounds : Rule Unit
-  bounds = for_each (values (model_in s).fields) λ f. guardian_bound f.ty
-
-  before_grouped : (T : Table) → kept (before_entries (model_in s)) T ≡ kept (p passes.fields >>= λ _. after_fields s) T
-  unfolding before_entries after_fields names_rule pass_rule ◌>>◌
-  before_grouped T =
-      kept_behind (p passes.fields) (λ _. p passes.events >>= λ _. bounds >>= λ _. p passes.params >>= λ _. p passes.invariants) (λ _. after_fields s) T
-      (λ _ U. sym (kept_assoc (λ _. bounds >>= λ _. p passes.params) (λ _. p passes.invariants) (p passes.events) U ∙ kept_behind (p passes.events) (λ _. (bounds >>= λ _. p passes.params) >>= λ _. p passes.invariants) (λ _. bounds >>= λ _. p passes.params >>= λ _. p passes.invariants) U (λ _ W. kept_assoc (λ _. p passes.params) (λ _. p passes.invariants) bounds W)))
-
-  module _ (T : Table) (o : Result Unit Refusal) (U : Table) where
-    module _ (a : Does s (p passes.events) T o U) where
-      pub names_no : (x : Refusal) → o ≡ Err x → Does s (names_rule s) T (Err x) U
-      unfolding names_rule ◌>>◌
-      names_no x e = does_cut s _ _ T o U a x e
-
-      module _ (e : o ≡ Ok tt) (q : Result Unit Refusal) (g : Answers bounds (done_of s q)) where
-        pub bounds_no : (x : Refusal) → q ≡ Err x → Does s (names_rule s) T (Err x) U
-        unfolding names_rule ◌>>◌
-        bounds_no x f = does_then s _ _ T o U a e (Err x) U (does_cut s _ _ U q U (asks_none s _ U q g) x f)
-
-        pub names_ok : q ≡ Ok tt → (r : Result Unit Refusal) (W : Table) → Does s (p passes.params) U r W → Does s (names_rule s) T r W
-        unfolding names_rule ◌>>◌
-        names_ok f r W k = does_then s _ _ T o U a e r W (does_then s _ _ U q U (asks_none s _ U q g) f r W k)
-
-    module _ (a : Does s (names_rule s) T o U) where
-      pub after_no : (x : Refusal) → o ≡ Err x → Does s (after_fields s) T (Err x) U
-      unfolding after_fields ◌>>◌
-      after_no x e = does_cut s _ _ T o U a x e
-
-      pub after_ok : o ≡ Ok tt → (r : Result Unit Refusal) (W : Table) → Does s (p passes.invariants) U r W → Does s (after_fields s) T r W
-      unfolding after_fields ◌>>◌
-      after_ok e r W k = does_then s _ _ T o U a e r W k
-
-    module _ (a : Does s (p passes.fields) T o U) where
-      pub before_no : (x : Refusal) → o ≡ Err x → Does s (before_entries (model_in s)) T (Err x) U
-      before_no x e = record { gives = before_grouped T ∙ (does_cut s _ (after_fields s) T o U a x e).gives }
-
-      pub before_ok : o ≡ Ok tt → (r : Result Unit Refusal) (W : Table) → Does s (after_fields s) U r W → Does s (before_entries (model_in s)) T r W
-      before_ok e r W k = record { gives = before_grouped T ∙ (does_then s _ _ T o U a e r W k).gives }
-
-    module _ (a : Does s (p passes.entries) T o U) where
-      pub entries_no : (x : Refusal) → o ≡ Err x → Does s (from_entries s) T (Err x) U
-      unfolding from_entries ◌>>◌
-      entries_no x e = does_cut s _ _ T o U a x e
-
-      module _ (e : o ≡ Ok tt) (q : Result Unit Refusal) (g : Answers (check_key_kinds (model_in s)) (done_of s q)) where
-        pub kinds_no : (x : Refusal) → q ≡ Err x → Does s (from_entries s) T (Err x) U
-        unfolding from_entries ◌>>◌
-        kinds_no x f = does_then s _ _ T o U a e (Err x) U (does_cut s _ _ U q U (asks_none s _ U q g) x f)
-
-        pub entries_ok : q ≡ Ok tt → (r : Result Unit Refusal) (W : Table) → Does s (p passes.genesis) U r W → Does s (from_entries s) T r W
-        unfolding from_entries ◌>>◌
-        entries_ok f r W k = does_then s _ _ T o U a e r W (does_then s _ _ U q U (asks_none s _ U q g) f r W k)
-
-    module _ (a : Does s (before_entries (model_in s)) T o U) where
-      pub check_no : (x : Refusal) → o ≡ Err x → Does s (check (model_in s)) T (Err x) U
-      unfolding check from_entries pass_rule ◌>>◌
-      check_no x e = does_cut s _ _ T o U a x e
-
-      pub check_ok : o ≡ Ok tt → (r : Result Unit Refusal) (W : Table) → Does s (from_entries s) U r W → Does s (check (model_in s)) T r W
-      unfolding check from_entries pass_rule ◌>>◌
-      check_ok e r W k = does_then s _ _ T o U a e r W k
+pub cut : {s : List ℕ} {p : Rule Unit} (q : Rule Unit) {T U : Table} {d : Result Unit Refusal} {x : Refusal} → Does s p T d U → d ≡ Err x → Does s (p >>= λ _. q) T (Err x) U
+cut {s} {p} q {T} {U} {d} {x} a e = does_cut s p q T d U a x e

@@ -11,15 +11,15 @@ ghost use Rattle.typing.specs.Asks.{Does};
 ghost use Rattle.checking.specs.Walk.{BodyAt, BodyStmt, entry_env, EntryIn, with_params, StmtDoes, StmtOf, types_rule, uses_rule, with_locals};
 ghost use Rattle.grammar.specs.Kinds as kinds;
 
-use crate::records::check_records;
+use crate::records::{check_records, clause_predicate};
 use arithmetic::check_arithmetic;
 use assets::{body_assets, clauses_assets};
 use emits::{check_emit, refuse_name_recipient};
 use env::Env;
-use grammar::{kinds, sorts};
+use grammar::Kind;
 use lookups::{body_line, clauses_line};
 use refusals::Refusal;
-use rules::codes;
+use rules::Ty;
 use sheet::{LoadedSheet, body_count, clause_count, param_count};
 use statements::{check_stmt_types, expect_predicate};
 use typing::ty_of;
@@ -60,7 +60,7 @@ fn check_let(sheet: &LoadedSheet<'_>, env: Env, table: &mut [u8], i: usize) -> R
     ensures { StmtDoes sheet.now.bytes.now sheet.now.lines.now (env_of sheet.now.bytes.now table.old env) i table.old result table.new }
 {
     let ty = ty_of(sheet, env, table, i + 1)?;
-    if ty == codes::COLLECTION {
+    if ty == Ty::Collection {
         Err(Refusal::CollectionLocal(i + 1))
     } else {
         Ok(())
@@ -76,21 +76,21 @@ fn check_do(sheet: &LoadedSheet<'_>, env: Env, table: &mut [u8], i: usize) -> Re
 }
 
 // The statement at line i of an entry.
+#[tactic(auto, using(crate::proofs::Bodies::stmt_needs))]
 fn check_stmt(sheet: &LoadedSheet<'_>, env: Env, table: &mut [u8], i: usize) -> Result<(), Refusal>
     requires { BodyStmt sheet.now.bytes.now sheet.now.lines.now env table.old i }
     ensures { StmtDoes sheet.now.bytes.now sheet.now.lines.now (env_of sheet.now.bytes.now table.old env) i table.old result table.new }
 {
-    let k = sheet.kind(i);
-    if k == kinds::GUARD {
+    if sheet.is(i, Kind::Guard) {
         return expect_predicate(sheet, env, table, i + 1);
     }
-    if k == kinds::LET {
+    if sheet.is(i, Kind::Let) {
         return check_let(sheet, env, table, i);
     }
-    if k == kinds::EMIT {
+    if sheet.is(i, Kind::Emit) {
         return check_emit(sheet, env, table, i);
     }
-    if k == kinds::ASSIGN {
+    if sheet.is(i, Kind::Assign) {
         return check_stmt_types(sheet, env, table, i);
     }
     check_do(sheet, env, table, i)
@@ -135,11 +135,10 @@ fn entry_clauses(sheet: &LoadedSheet<'_>, table: &mut [u8], i: usize) -> Result<
     let env = with_params(i + 1, param_count(sheet.lines, i), false);
     check_records(
         sheet,
-        env,
         table,
-        sorts::CLAUSE,
         clauses_line(sheet.lines, i),
         clause_count(sheet.lines, i),
+        |table, clause| clause_predicate(sheet, env, table, clause),
     )
 }
 

@@ -1,194 +1,213 @@
-// `check`: its passes over the items.
-ghost use Rattle.std.specs.Prelude.{cond, map, ◌≡◌, ◌<◌, ◌+◌, eqb};
+// `check`: its rules over the items.
+ghost use Rattle.std.specs.Prelude.{[]};
 ghost use Rattle.rules.specs.Ast.{item_of};
-ghost use Rattle.rules.specs.Check.{before_entries};
-ghost use Rattle.rules.specs.Check.{check as check_of};
-ghost use Rattle.rules.specs.Model.{build, item_model};
-ghost use Rattle.rules.specs.Standing.{model_in, node_at, nodes_at};
+ghost use Rattle.rules.specs.Asking.{for_each};
+ghost use Rattle.rules.specs.Check.{before_entries, check_field, check_event_param, check_entry_param};
+ghost use Rattle.rules.specs.Check.{check as check_of, check_entry as check_entry_of, check_genesis as check_genesis_of};
+ghost use Rattle.rules.specs.Model.{item_model};
+ghost use Rattle.rules.specs.Standing.{model_in, node_at};
+ghost use Rattle.rules.specs.Statements.{expect_predicate};
+ghost use Rattle.rules.specs.Typing as typing;
+ghost use Rattle.sheet.specs.Scratch.{item_count};
 ghost use Rattle.typing.specs.Asks.{Does};
-ghost use Rattle.checking.specs.Passes as passes;
-ghost use Rattle.checking.specs.Walk.{after_fields, from_entries, ItemIn, ItemsIn, names_rule, OwnItem, PassIn, pass_rule, SheetIn};
-ghost use Rattle.sheet.specs.Scratch.{field_count, genesis_count};
-ghost use Rattle.grammar.specs.Grammar.{Field, Stmt};
-ghost use Rattle.grammar.specs.Table.{sort_number};
+ghost use Rattle.checking.specs.Each.{Gives, GivesEach, GivesOf, TakesItems};
+ghost use Rattle.checking.specs.Walk.{ItemIn, SheetIn};
+ghost use Rattle.grammar.specs.Kinds as kinds;
+ghost use Rattle.grammar.specs.Coded.{kind_number};
 
 use crate::entry::{check_entry, with_params};
-use crate::records::{check_params, check_records};
+use crate::records::{
+    check_entry_param, check_event_param, check_field, check_genesis, check_records,
+};
 use declarations::guardian_fields;
-use grammar::{kinds, sorts};
+use grammar::Kind;
 use key_kinds::check_key_kinds;
 use refusals::Refusal;
 use sheet::{LoadedSheet, field_count, genesis_count, item_count, param_count};
 use statements::expect_predicate;
 
-// The passes over the items.
-const FIELDS: usize = 0;
-
-const EVENTS: usize = 1;
-
-const INVARIANTS: usize = 2;
-
-const GENESIS: usize = 3;
-
-const ENTRIES: usize = 4;
-
-const PARAMS: usize = 5;
-
-// The kind of item that each pass looks at.
-const ITEM_KINDS: [usize; 6] = [
-    kinds::STATE,
-    kinds::EVENT,
-    kinds::INVARIANT,
-    kinds::GENESIS,
-    kinds::ENTRY,
-    kinds::ENTRY,
-];
-
-// Whether a pass looks at items of kind k.
-fn looks_at(pass: usize, k: usize) -> bool
-    requires { pass < passes.count }
-    ensures { result ≡ eqb k (passes.item_kind pass) }
-{
-    k == ITEM_KINDS[pass]
-}
-
-// The sort of the records of a state, or of genesis.
-fn record_sort(pass: usize) -> u8
-    ensures { result ≡ cond (eqb pass passes.fields) (sort_number Field) (sort_number Stmt) }
-{
-    if pass == FIELDS {
-        sorts::FIELD
-    } else {
-        sorts::STMT
-    }
-}
-
-// How many it has.
-fn record_count(lines: &[u16], pass: usize, i: usize) -> usize
-    ensures { result ≡ cond (eqb pass passes.fields) (field_count lines.now i) (genesis_count lines.now i) }
-{
-    if pass == FIELDS {
-        field_count(lines, i)
-    } else {
-        genesis_count(lines, i)
-    }
-}
-
-// What a pass does with an item that it looks at.
-fn pass_item(
+// `check` at each item of a kind, in the order of the sheet, until it refuses.
+fn check_items<F: Fn(&mut [u8], usize) -> Result<(), Refusal>>(
     sheet: &LoadedSheet<'_>,
     table: &mut [u8],
-    pass: usize,
-    i: usize,
+    kind: Kind,
+    check: F,
 ) -> Result<(), Refusal>
-    requires { OwnItem sheet.now.bytes.now sheet.now.lines.now table.old pass i }
-    ensures { Does sheet.now.bytes.now (pass_rule sheet.now.bytes.now pass (item_model (item_of (node_at sheet.now.bytes.now i)))) table.old result table.new }
+    requires { TakesItems (F.pre check) sheet.now.lines.now table.old (kind_number kind) }
+    ensures { GivesEach (GivesOf (kind_number kind) sheet.now.lines.now (Gives (F.post check))) sheet.now.lines.now (item_count sheet.now.lines.now 0) 1 table.old result table.new }
 {
-    let k = sheet.kind(i);
-    if pass == ENTRIES {
-        return check_entry(sheet, table, i);
+    for at in sheet.records(1, item_count(sheet.lines, 0)) {
+        if sheet.is(at, kind) {
+            check(table, at)?;
+        }
     }
-    if pass == INVARIANTS {
-        return expect_predicate(sheet, with_params(0, 0, false), table, i + 1);
-    }
-    if (pass == EVENTS) | (pass == PARAMS) {
-        return check_params(sheet, k == kinds::EVENT, i + 1, param_count(sheet.lines, i));
-    }
+    Ok(())
+}
+
+// The fields of the state at line i.
+fn state_fields(sheet: &LoadedSheet<'_>, table: &mut [u8], i: usize) -> Result<(), Refusal>
+    requires { ItemIn kinds.state sheet.now.bytes.now sheet.now.lines.now table.old i }
+    ensures { Does sheet.now.bytes.now (for_each (item_model (item_of (node_at sheet.now.bytes.now i))).fields (check_field (typing.new (model_in sheet.now.bytes.now) []))) table.old result table.new }
+{
+    let env = with_params(0, 0, false);
     check_records(
         sheet,
-        with_params(0, 0, k == kinds::GENESIS),
         table,
-        record_sort(pass),
         i + 1,
-        record_count(sheet.lines, pass, i),
+        field_count(sheet.lines, i),
+        |table, at| { check_field(sheet, env, table, at) },
     )
 }
 
-fn check_item(
-    sheet: &LoadedSheet<'_>,
-    table: &mut [u8],
-    pass: usize,
-    i: usize,
-) -> Result<(), Refusal>
-    requires { ItemIn sheet.now.bytes.now sheet.now.lines.now table.old pass i }
-    ensures { Does sheet.now.bytes.now (pass_rule sheet.now.bytes.now pass (item_model (item_of (node_at sheet.now.bytes.now i)))) table.old result table.new }
-{
-    if !looks_at(pass, sheet.kind(i)) {
-        return Ok(());
-    }
-    pass_item(sheet, table, pass, i)
-}
-
-// A pass over `left` items, the first of which stands at line at.
-fn check_items(
-    sheet: &LoadedSheet<'_>,
-    table: &mut [u8],
-    pass: usize,
-    at: usize,
-    left: usize,
-) -> Result<(), Refusal>
-    requires { ItemsIn sheet.now.bytes.now sheet.now.lines.now table.old pass left at }
-    ensures { Does sheet.now.bytes.now (pass_rule sheet.now.bytes.now pass (build (map item_of (nodes_at sheet.now.bytes.now left at)))) table.old result table.new }
-{
-    if left == 0 {
-        return Ok(());
-    }
-    check_item(sheet, table, pass, at)?;
-    check_items(sheet, table, pass, sheet.end(at), left - 1)
-}
-
-// A pass over all items.
-fn check_pass(sheet: &LoadedSheet<'_>, table: &mut [u8], pass: usize) -> Result<(), Refusal>
-    requires { PassIn sheet.now.bytes.now sheet.now.lines.now table.old pass }
-    ensures { Does sheet.now.bytes.now (pass_rule sheet.now.bytes.now pass (model_in sheet.now.bytes.now)) table.old result table.new }
-{
-    check_items(sheet, table, pass, 1, item_count(sheet.lines, 0))
-}
-
-// Events, guardian sets, and the parameters of entries.
-fn check_names(sheet: &LoadedSheet<'_>, table: &mut [u8]) -> Result<(), Refusal>
+// The fields of all states.
+#[tactic(auto, using(crate::proofs::Passing::items_in))]
+fn check_fields(sheet: &LoadedSheet<'_>, table: &mut [u8]) -> Result<(), Refusal>
     requires { SheetIn sheet.now.bytes.now sheet.now.lines.now table.old }
-    ensures { Does sheet.now.bytes.now (names_rule sheet.now.bytes.now) table.old result table.new }
+    ensures { Does sheet.now.bytes.now (for_each (model_in sheet.now.bytes.now).fields (check_field (typing.new (model_in sheet.now.bytes.now) []))) table.old result table.new }
 {
-    check_pass(sheet, table, EVENTS)?;
-    guardian_fields(sheet)?;
-    check_pass(sheet, table, PARAMS)
+    check_items(
+        sheet,
+        table,
+        Kind::State,
+        |table, i| state_fields(sheet, table, i),
+    )
 }
 
-// ... and invariants
-fn after_fields(sheet: &LoadedSheet<'_>, table: &mut [u8]) -> Result<(), Refusal>
-    requires { SheetIn sheet.now.bytes.now sheet.now.lines.now table.old }
-    ensures { Does sheet.now.bytes.now (after_fields sheet.now.bytes.now) table.old result table.new }
+// The parameters of the event at line i.
+fn event_params(sheet: &LoadedSheet<'_>, table: &mut [u8], i: usize) -> Result<(), Refusal>
+    requires { ItemIn kinds.event sheet.now.bytes.now sheet.now.lines.now table.old i }
+    ensures { Does sheet.now.bytes.now (for_each (item_model (item_of (node_at sheet.now.bytes.now i))).events (λ e. for_each e.params check_event_param)) table.old result table.new }
 {
-    check_names(sheet, table)?;
-    check_pass(sheet, table, INVARIANTS)
+    check_records(sheet, table, i + 1, param_count(sheet.lines, i), |_, at| {
+        check_event_param(sheet, at)
+    })
+}
+
+// The parameters of all events.
+#[tactic(auto, using(crate::proofs::Passing::items_in))]
+fn check_events(sheet: &LoadedSheet<'_>, table: &mut [u8]) -> Result<(), Refusal>
+    requires { SheetIn sheet.now.bytes.now sheet.now.lines.now table.old }
+    ensures { Does sheet.now.bytes.now (for_each (model_in sheet.now.bytes.now).events (λ e. for_each e.params check_event_param)) table.old result table.new }
+{
+    check_items(
+        sheet,
+        table,
+        Kind::Event,
+        |table, i| event_params(sheet, table, i),
+    )
+}
+
+// The parameters of the entry at line i.
+fn entry_params(sheet: &LoadedSheet<'_>, table: &mut [u8], i: usize) -> Result<(), Refusal>
+    requires { ItemIn kinds.entry sheet.now.bytes.now sheet.now.lines.now table.old i }
+    ensures { Does sheet.now.bytes.now (for_each (item_model (item_of (node_at sheet.now.bytes.now i))).entries (λ e. for_each e.params check_entry_param)) table.old result table.new }
+{
+    check_records(sheet, table, i + 1, param_count(sheet.lines, i), |_, at| {
+        check_entry_param(sheet, at)
+    })
+}
+
+// The parameters of all entries.
+#[tactic(auto, using(crate::proofs::Passing::items_in))]
+fn check_params(sheet: &LoadedSheet<'_>, table: &mut [u8]) -> Result<(), Refusal>
+    requires { SheetIn sheet.now.bytes.now sheet.now.lines.now table.old }
+    ensures { Does sheet.now.bytes.now (for_each (model_in sheet.now.bytes.now).entries (λ e. for_each e.params check_entry_param)) table.old result table.new }
+{
+    check_items(
+        sheet,
+        table,
+        Kind::Entry,
+        |table, i| entry_params(sheet, table, i),
+    )
+}
+
+// The condition of the invariant at line i.
+fn check_invariant(sheet: &LoadedSheet<'_>, table: &mut [u8], i: usize) -> Result<(), Refusal>
+    requires { ItemIn kinds.invariant sheet.now.bytes.now sheet.now.lines.now table.old i }
+    ensures { Does sheet.now.bytes.now (for_each (item_model (item_of (node_at sheet.now.bytes.now i))).invariants (expect_predicate (typing.new (model_in sheet.now.bytes.now) []))) table.old result table.new }
+{
+    expect_predicate(sheet, with_params(0, 0, false), table, i + 1)
+}
+
+// All invariants.
+#[tactic(auto, using(crate::proofs::Passing::items_in))]
+fn check_invariants(sheet: &LoadedSheet<'_>, table: &mut [u8]) -> Result<(), Refusal>
+    requires { SheetIn sheet.now.bytes.now sheet.now.lines.now table.old }
+    ensures { Does sheet.now.bytes.now (for_each (model_in sheet.now.bytes.now).invariants (expect_predicate (typing.new (model_in sheet.now.bytes.now) []))) table.old result table.new }
+{
+    check_items(
+        sheet,
+        table,
+        Kind::Invariant,
+        |table, i| check_invariant(sheet, table, i),
+    )
+}
+
+// The statements of the genesis at line i.
+fn genesis_stmts(sheet: &LoadedSheet<'_>, table: &mut [u8], i: usize) -> Result<(), Refusal>
+    requires { ItemIn kinds.genesis sheet.now.bytes.now sheet.now.lines.now table.old i }
+    ensures { Does sheet.now.bytes.now (for_each (item_model (item_of (node_at sheet.now.bytes.now i))).genesis (check_genesis_of (typing.in_genesis (typing.new (model_in sheet.now.bytes.now) [])))) table.old result table.new }
+{
+    let env = with_params(0, 0, true);
+    check_records(
+        sheet,
+        table,
+        i + 1,
+        genesis_count(sheet.lines, i),
+        |table, at| { check_genesis(sheet, env, table, at) },
+    )
+}
+
+// The statements of genesis.
+#[tactic(auto, using(crate::proofs::Passing::items_in))]
+fn check_genesis_stmts(sheet: &LoadedSheet<'_>, table: &mut [u8]) -> Result<(), Refusal>
+    requires { SheetIn sheet.now.bytes.now sheet.now.lines.now table.old }
+    ensures { Does sheet.now.bytes.now (for_each (model_in sheet.now.bytes.now).genesis (check_genesis_of (typing.in_genesis (typing.new (model_in sheet.now.bytes.now) [])))) table.old result table.new }
+{
+    check_items(
+        sheet,
+        table,
+        Kind::Genesis,
+        |table, i| genesis_stmts(sheet, table, i),
+    )
+}
+
+// All entries.
+#[tactic(auto, using(crate::proofs::Passing::items_in))]
+fn check_entries(sheet: &LoadedSheet<'_>, table: &mut [u8]) -> Result<(), Refusal>
+    requires { SheetIn sheet.now.bytes.now sheet.now.lines.now table.old }
+    ensures { Does sheet.now.bytes.now (for_each (model_in sheet.now.bytes.now).entries (check_entry_of (model_in sheet.now.bytes.now))) table.old result table.new }
+{
+    check_items(
+        sheet,
+        table,
+        Kind::Entry,
+        |table, i| check_entry(sheet, table, i),
+    )
 }
 
 // What comes before the first entry.
+#[tactic(auto, using(crate::proofs::Passing::sheet_needs))]
 pub fn before_entries(sheet: &LoadedSheet<'_>, table: &mut [u8]) -> Result<(), Refusal>
     requires { SheetIn sheet.now.bytes.now sheet.now.lines.now table.old }
     ensures { Does sheet.now.bytes.now (before_entries (model_in sheet.now.bytes.now)) table.old result table.new }
 {
-    check_pass(sheet, table, FIELDS)?;
-    after_fields(sheet, table)
-}
-
-// Entries, key kinds, genesis.
-fn from_entries(sheet: &LoadedSheet<'_>, table: &mut [u8]) -> Result<(), Refusal>
-    requires { SheetIn sheet.now.bytes.now sheet.now.lines.now table.old }
-    ensures { Does sheet.now.bytes.now (from_entries sheet.now.bytes.now) table.old result table.new }
-{
-    check_pass(sheet, table, ENTRIES)?;
-    check_key_kinds(sheet)?;
-    check_pass(sheet, table, GENESIS)
+    check_fields(sheet, table)?;
+    check_events(sheet, table)?;
+    guardian_fields(sheet)?;
+    check_params(sheet, table)?;
+    check_invariants(sheet, table)
 }
 
 // The rules on a sheet that is read: accepted, or the first refusal, and the table with the types asked. Of several
 // guardian sets with a bad size among the fields the Rust may name any; the first in the sheet is named here.
+#[tactic(auto, using(crate::proofs::Passing::sheet_needs))]
 pub fn check(sheet: &LoadedSheet<'_>, table: &mut [u8]) -> Result<(), Refusal>
     requires { SheetIn sheet.now.bytes.now sheet.now.lines.now table.old }
     ensures { Does sheet.now.bytes.now (check_of (model_in sheet.now.bytes.now)) table.old result table.new }
 {
     before_entries(sheet, table)?;
-    from_entries(sheet, table)
+    check_entries(sheet, table)?;
+    check_key_kinds(sheet)?;
+    check_genesis_stmts(sheet, table)
 }

@@ -34,10 +34,10 @@ use Rattle.refusals.specs.Refusal.{done_of}
 use Rattle.refusals.specs.declared.refusal.Refusal.{Refusal}
 use Rattle.refusals.proofs.Answers.{gives, then_fine, then_refused}
 use Rattle.lookups.proofs.Fields.{last_map, as_field, field-name, all_kind, items_at, item_here, not_state, of_state}
-use Rattle.declarations.specs.Bounds.{bound_if_last, bounds_of, fields_left, FieldsLeft}
+use Rattle.declarations.specs.Bounds.{bound_if_last, bounds_of, fields_left, FieldsLeft, FieldBefore, ItemBefore}
 use Rattle.grammar.specs.Kinds as kinds
 
-pub next_fits : (S : List ℕ) (σ : grammar.Sort) (m i : ℕ) → Row S σ (suc m) i → length S < 18446744073709551616 → Fits w64 (i + 1)
+next_fits : (S : List ℕ) (σ : grammar.Sort) (m i : ℕ) → Row S σ (suc m) i → length S < 18446744073709551616 → Fits w64 (i + 1)
 next_fits S σ m i r h = record { fits = omega (arith, (row_first r).within) }
 
 -- ------------------------------------------------------------ a later field of the name
@@ -47,36 +47,36 @@ unfolding is_some or_else
 some_or_lem none a = refl
 some_or_lem (some b) a = refl
 
-module _ (s S : List ℕ) (x : Name) (m i n j : ℕ) (h : FieldsLeft s S m i n j) where
-  pub left_fields : Stretch s S m i
+module _ (s S : List ℕ) (x : Name) (u v : Records) (h : FieldsLeft s S u v) where
+  pub left_fields : Stretch s S u.left u.at
   left_fields = record { loaded = h.loaded; sort = grammar.Field; row = h.fields }
 
-  pub left_items : RecordsAt grammar.Item s S n j
+  pub left_items : RecordsAt grammar.Item s S v.left v.at
   left_items = record { loaded = h.loaded; row = h.items }
 
-  module _ (f : Option ℕ) (l : Last s S kinds.field x m i f) where
-    in_item : last_named (λ y. y.name) x (map field_of (nodes_at s m i)) ≡ found_field s f
+  module _ (f : Option ℕ) (l : Last s S kinds.field x u.left u.at f) where
+    in_item : last_named (λ y. y.name) x (map field_of (nodes_at s u.left u.at)) ≡ found_field s f
     in_item =
-        last_map field_of (λ y. y.name) node_name x field-name (nodes_at s m i)
+        last_map field_of (λ y. y.name) node_name x field-name (nodes_at s u.left u.at)
         ∙ sym (as_field s f ∙ ap (Option.map field_of) (l.found ∙ ap (last_named node_name x) (all_kind kinds.field (λ a b. omega (arith, b.kind.0, b.kind.1)) h.loaded h.fields)))
 
-    by_search : last_named (λ y. y.name) x (fields_left s m i n j) ≡ or_else (field_named (model_at s n j) x) (found_field s f)
+    by_search : last_named (λ y. y.name) x (fields_left s u v) ≡ or_else (field_named (model_at s v.left v.at) x) (found_field s f)
     unfolding fields_left field_named
     by_search =
         sym (or_none _)
-        ∙ last_append (λ y. y.name) x (map field_of (nodes_at s m i)) (model_at s n j).fields none
+        ∙ last_append (λ y. y.name) x (map field_of (nodes_at s u.left u.at)) (model_at s v.left v.at).fields none
         ∙ rw (or_none, in_item) refl
 
-    pub later_here : found f ≡ true → true ≡ is_some (last_named (λ y. y.name) x (fields_left s m i n j))
+    pub later_here : found f ≡ true → true ≡ is_some (last_named (λ y. y.name) x (fields_left s u v))
     unfolding found_field
     later_here e = rw by_search (by_cases f e)
       where
-        by_cases : (f : Option ℕ) → found f ≡ true → true ≡ is_some (or_else (field_named (model_at s n j) x) (found_field s f))
-        by_cases (Some k) e = sym (some_or_lem (field_named (model_at s n j) x) (field_at s k))
+        by_cases : (f : Option ℕ) → found f ≡ true → true ≡ is_some (or_else (field_named (model_at s v.left v.at) x) (found_field s f))
+        by_cases (Some k) e = sym (some_or_lem (field_named (model_at s v.left v.at) x) (field_at s k))
         by_cases None e = absurd (true≢false (sym e))
 
-    module _ (e : found f ≡ false) (r : Option ℕ) (t : FieldsNamed s S x n j r) where
-      pub later_there : (b : Bool) → b ≡ found r → b ≡ is_some (last_named (λ y. y.name) x (fields_left s m i n j))
+    module _ (e : found f ≡ false) (r : Option ℕ) (t : FieldsNamed s S x v.left v.at r) where
+      pub later_there : (b : Bool) → b ≡ found r → b ≡ is_some (last_named (λ y. y.name) x (fields_left s u v))
       unfolding found_field or_else is_some
       later_there b q = q ∙ rw (by_search, ← t.found) (by_cases f r e)
         where
@@ -92,42 +92,45 @@ unfolding provided
 provided_fine true p a = a
 provided_fine false p a = gives tt
 
-module _ (s S : List ℕ) (i m n j : ℕ) (h : FieldsLeft s S (suc m) i n j) where
+module _ (s S : List ℕ) (i : ℕ) (u v : Records) (b : FieldBefore s S i u v) where
   abbrev here : Here S grammar.Field i
-  here = row_first h.fields
+  here = row_first b.fields
 
   of_kind_lem : kind_at S i ≡ kinds.field
   of_kind_lem = omega (arith, here.kind.0, here.kind.1)
 
   field_type : Here S grammar.Ty (suc i)
-  field_type = (field_at_lem h.loaded here.within of_kind_lem).1
+  field_type = (field_at_lem b.loaded here.within of_kind_lem).1
 
   pub field_typed : TypeAt s S (i + 1)
-  field_typed = rw (add-one i) (record { loaded = h.loaded; here = field_type })
+  field_typed = rw (add-one i) (record { loaded = b.loaded; here = field_type })
 
-  pub field_rest : (k : ℕ) → k ≡ end_at S i → FieldsLeft s S m k n j
-  field_rest k e = rw e (record { loaded = h.loaded; fields = row_rest h.fields; items = h.items })
+  pub field_fits : length S < 18446744073709551616 → Fits w64 (i + 1)
+  field_fits = next_fits S grammar.Field u.left i b.fields
+
+  pub field_rest : FieldsLeft s S u v
+  field_rest = record { loaded = b.loaded; fields = rw b.behind (row_rest b.fields); items = b.items }
 
   module _ (r : Result Unit Refusal) (a : Answers (guardian_bound (type_at s (i + 1))) (done_of s r)) where
     abbrev later : List Field
-    later = fields_left s m (end_at S i) n j
+    later = fields_left s u v
 
     own : Answers (guardian_bound (field_at s i).ty) (done_of s r)
-    own = rw ((field_at_lem h.loaded here.within of_kind_lem).0, ← add-one i) a
+    own = rw ((field_at_lem b.loaded here.within of_kind_lem).0, ← add-one i) a
 
     pub field_fine : r ≡ Ok tt → Answers (bound_if_last (field_at s i) later) (done_of s (Ok tt))
     unfolding bound_if_last done_of
     field_fine e = provided_fine (not (is_some (last_named (λ g. g.name) (field_at s i).name later))) (guardian_bound (field_at s i).ty) (rw e at own)
 
-    module _ (why : Refusal) (e : r ≡ Err why) (x : Name) (k : ℕ) (b : Bool) (y : x ≡ name_at s S i) (z : k ≡ end_at S i) (q : b ≡ is_some (last_named (λ g. g.name) x (fields_left s m k n j))) where
-      told : is_some (last_named (λ g. g.name) (field_at s i).name later) ≡ b
-      told = rw (q, (field_at_lem h.loaded here.within of_kind_lem).0, y, z) refl
+    module _ (why : Refusal) (e : r ≡ Err why) (x : Name) (c : Bool) (y : x ≡ name_at s S i) (q : c ≡ is_some (last_named (λ g. g.name) x later)) where
+      told : is_some (last_named (λ g. g.name) (field_at s i).name later) ≡ c
+      told = rw (q, (field_at_lem b.loaded here.within of_kind_lem).0, y) refl
 
-      pub field_passed : b ≡ true → Answers (bound_if_last (field_at s i) later) (done_of s (Ok tt))
+      pub field_passed : c ≡ true → Answers (bound_if_last (field_at s i) later) (done_of s (Ok tt))
       unfolding bound_if_last provided done_of
       field_passed t = rw (bound_if_last, told, t) (gives tt)
 
-      pub field-refused : b ≡ false → Answers (bound_if_last (field_at s i) later) (done_of s (Err why))
+      pub field-refused : c ≡ false → Answers (bound_if_last (field_at s i) later) (done_of s (Err why))
       unfolding bound_if_last provided
       field-refused t = rw (bound_if_last, told, t, ← e) own
 
@@ -173,68 +176,65 @@ pub record Enough (p q : Rule Unit) : Type 0 where
 -- ------------------------------------------------------------ the fields of an item
 
 -- what is left of the bounds of the item's fields: those of the fields that r goes over
-pub record BoundsGoing (s S : List ℕ) (item more next : ℕ) (r : Records) : Type 0 where
+pub record BoundsGoing (s S : List ℕ) (item : ℕ) (q r : Records) : Type 0 where
   pub lines : r.lines.now ≡ S
-  pub fields : FieldsLeft s S r.left r.at more next
-  pub ends : next ≡ end_at S item
-  pub rest : Enough (bounds_of (map field_of (item_fields (node_at s item))) (model_at s more next).fields) (bounds_of (map field_of (nodes_at s r.left r.at)) (model_at s more next).fields)
+  pub fields : FieldsLeft s S r q
+  pub rest : Enough (bounds_of (map field_of (item_fields (node_at s item))) (model_at s q.left q.at).fields) (bounds_of (map field_of (nodes_at s r.left r.at)) (model_at s q.left q.at).fields)
 
-module _ (s S : List ℕ) (item more : ℕ) (h : RecordsAt grammar.Item s S (suc more) item) (k : ℕ) (e : k ≡ kind_at S item) where
+module _ (s S : List ℕ) (item : ℕ) (q : Records) (b : ItemBefore s S item q) where
+  pub item_fits : length S < 18446744073709551616 → Fits w64 (item + 1)
+  item_fits = next_fits S grammar.Item q.left item b.items
+
+module _ (s S : List ℕ) (item : ℕ) (q : Records) (b : ItemBefore s S item q) where
   item_at : ItemAt s S item
-  item_at = record { loaded = h.loaded; here = row_first h.row }
+  item_at = record { loaded = b.loaded; here = row_first b.items }
 
-  pub no_bounds : k ≢ kinds.state → Answers (bounds_of (map field_of (item_fields (node_at s item))) (model_at s more (end_at S item)).fields) (done_of s (Ok tt))
+  pub no_bounds : kind_at S item ≢ kinds.state → Answers (bounds_of (map field_of (item_fields (node_at s item))) (model_at s q.left q.at).fields) (done_of s (Ok tt))
   unfolding bounds_of done_of
-  no_bounds q = rw (not_state s S item item_at k e q) (gives tt)
+  no_bounds f = rw (not_state s S item item_at f) (gives tt)
 
-  pub bounds_start : (next left : ℕ) (r : Records) → k ≡ kinds.state → next ≡ end_at S item → left ≡ field_count S item → r.at ≡ item + 1 → r.left ≡ left → r.lines.now ≡ S
-      → BoundsGoing s S item more next r
-  bounds_start next left r q z c y l n =
-      let o = of_state s S item item_at k e r.left r.at q (l ∙ c) y in
+  pub bounds_start : (left : ℕ) (r : Records) → kind_at S item ≡ kinds.state → left ≡ field_count S item → r.at ≡ item + 1 → r.left ≡ left → r.lines.now ≡ S → BoundsGoing s S item q r
+  bounds_start left r f c y l n =
+      let o = of_state s S item item_at r.left r.at f (l ∙ c) y in
       record {
         lines = n;
-        fields = record { loaded = h.loaded; fields = o.1; items = rw z (row_rest h.row) };
-        ends = z;
+        fields = record { loaded = b.loaded; fields = o.1; items = rw b.behind (row_rest b.items) };
         rest = record { answer = λ d a. rw o.0 a };
       }
 
-module _ (s S : List ℕ) (item more next : ℕ) (r : Records) (g : BoundsGoing s S item more next r) where
+module _ (s S : List ℕ) (item : ℕ) (q r : Records) (g : BoundsGoing s S item q r) where
   abbrev its : Rule Unit
-  its = bounds_of (map field_of (item_fields (node_at s item))) (model_at s more (end_at S item)).fields
-
-  from_rest : (d : Res Unit) → Answers (bounds_of (map field_of (nodes_at s r.left r.at)) (model_at s more next).fields) d → Answers its d
-  from_rest d a = rw (← g.ends) (g.rest.answer d a)
+  its = bounds_of (map field_of (item_fields (node_at s item))) (model_at s q.left q.at).fields
 
   pub bounds_over : r.left ≡ 0 → Answers its (done_of s (Ok tt))
   unfolding bounds_of done_of
-  bounds_over q = from_rest (ok tt) (rw (list_none records s r.left r.at (omega (arith, q))) (gives tt))
+  bounds_over e = g.rest.answer (ok tt) (rw (list_none records s r.left r.at (omega (arith, e))) (gives tt))
 
   module _ (i : ℕ) (t : Records) (h : Steps r i t) where
-    pub bounds_field : FieldsLeft s S (suc t.left) i more next
-    bounds_field = rw (← h.left, h.here) g.fields
+    pub bounds_field : FieldBefore s S i t q
+    bounds_field = record { loaded = g.fields.loaded; fields = rw (← h.left, h.here) g.fields.fields; items = g.fields.items; behind = behind_is g.lines h }
 
-    module _ (d : Result Unit Refusal) (a : Answers (bound_if_last (field_at s i) (fields_left s t.left (end_at S i) more next)) (done_of s d)) where
+    module _ (d : Result Unit Refusal) (a : Answers (bound_if_last (field_at s i) (fields_left s t q)) (done_of s d)) where
       abbrev others : Rule Unit
-      others = bounds_of (map field_of (nodes_at s t.left (end_at S i))) (model_at s more next).fields
+      others = bounds_of (map field_of (nodes_at s t.left t.at)) (model_at s q.left q.at).fields
 
-      split : bounds_of (map field_of (nodes_at s r.left r.at)) (model_at s more next).fields ≡ (bound_if_last (field_at s i) (fields_left s t.left (end_at S i) more next) >> others)
+      split : bounds_of (map field_of (nodes_at s r.left r.at)) (model_at s q.left q.at).fields ≡ (bound_if_last (field_at s i) (fields_left s t q) >> others)
       unfolding bounds_of fields_left field_at
       split =
-          rw (h.left, ← h.here)
-          (ap (λ ts. bounds_of (map field_of ts) (model_at s more next).fields) (records.first g.fields.loaded t.left (row_first bounds_field.fields).within))
+          rw (h.left, ← h.here, behind_is g.lines h)
+          (ap (λ ts. bounds_of (map field_of ts) (model_at s q.left q.at).fields) (records.first g.fields.loaded t.left (row_first bounds_field.fields).within))
 
       pub bounds_refused : (why : Refusal) → d ≡ Err why → Answers its (done_of s (Err why))
       unfolding done_of
-      bounds_refused why e = from_rest (done_of s (Err why)) (rw split (then_refused _ others _ (rw e at a)))
+      bounds_refused why e = g.rest.answer (done_of s (Err why)) (rw split (then_refused _ others _ (rw e at a)))
 
-      pub bounds_turn : d ≡ Ok tt → BoundsGoing s S item more next t
+      pub bounds_turn : d ≡ Ok tt → BoundsGoing s S item q t
       unfolding done_of
       bounds_turn e =
           record {
             lines = h.lines ∙ g.lines;
-            fields = field_rest s S i t.left more next bounds_field t.at (behind_is g.lines h);
-            ends = g.ends;
-            rest = record { answer = λ y b. g.rest.answer y (rw split (then_fine _ others tt y (rw e at a) (rw (← behind_is g.lines h) b))) };
+            fields = field_rest s S i t q bounds_field;
+            rest = record { answer = λ y b. g.rest.answer y (rw split (then_fine _ others tt y (rw e at a) b)) };
           }
 
 -- ------------------------------------------------------------ all items
@@ -255,21 +255,22 @@ module _ (s S : List ℕ) (r : Records) (g : WalkGoing s S r) where
   walk_over q = (row_over records g.walk (omega (arith, q))).answer (ok tt) (gives tt)
 
   module _ (i : ℕ) (t : Records) (h : Steps r i t) where
-    pub walk_item : RecordsAt grammar.Item s S (suc t.left) i
-    walk_item = record { loaded = g.walk.loaded; row = rw (← h.left, h.here) g.walk.row }
+    pub walk_item : ItemBefore s S i t
+    walk_item = record { loaded = g.walk.loaded; items = rw (← h.left, h.here) g.walk.row; behind = behind_is g.lines h }
 
-    module _ (d : Result Unit Refusal) (a : Answers (bounds_of (map field_of (item_fields (node_at s i))) (model_at s t.left (end_at S i)).fields) (done_of s d)) where
+    module _ (d : Result Unit Refusal) (a : Answers (bounds_of (map field_of (item_fields (node_at s i))) (model_at s t.left t.at).fields) (done_of s d)) where
       abbrev behind : Rule Unit
-      behind = for_each (values (model_at s t.left (end_at S i)).fields) bound
+      behind = for_each (values (model_at s t.left t.at).fields) bound
 
-      item_first : (model_at s r.left r.at).fields ≡ map field_of (item_fields (node_at s i)) ++ (model_at s t.left (end_at S i)).fields
+      item_first : (model_at s r.left r.at).fields ≡ map field_of (item_fields (node_at s i)) ++ (model_at s t.left t.at).fields
       unfolding model_at build joined
       item_first =
-          rw (h.left, ← h.here)
-          (ap (λ ts. (build (map item_of ts)).fields) (records.first g.walk.loaded t.left (row_first walk_item.row).within) ∙ rw (item_here g.walk.loaded (row_first walk_item.row)) refl)
+          rw (h.left, ← h.here, behind_is g.lines h)
+          (ap (λ ts. (build (map item_of ts)).fields) (records.first g.walk.loaded t.left (row_first walk_item.items).within)
+          ∙ rw (item_here g.walk.loaded (row_first walk_item.items)) refl)
 
-      parted : for_each (values (model_at s r.left r.at).fields) bound ≡ (bounds_of (map field_of (item_fields (node_at s i))) (model_at s t.left (end_at S i)).fields >> behind)
-      parted = ap (λ fs. for_each (values fs) bound) item_first ∙ walk (map field_of (item_fields (node_at s i))) (model_at s t.left (end_at S i)).fields
+      parted : for_each (values (model_at s r.left r.at).fields) bound ≡ (bounds_of (map field_of (item_fields (node_at s i))) (model_at s t.left t.at).fields >> behind)
+      parted = ap (λ fs. for_each (values fs) bound) item_first ∙ walk (map field_of (item_fields (node_at s i))) (model_at s t.left t.at).fields
 
       pub walk_refused : (why : Refusal) → d ≡ Err why → Answers (for_each (values (model_in s).fields) bound) (done_of s (Err why))
       unfolding done_of model_at
@@ -283,7 +284,7 @@ module _ (s S : List ℕ) (r : Records) (g : WalkGoing s S r) where
             walk =
                 record {
                   loaded = g.walk.loaded;
-                  row = rw (behind_is g.lines h) (row_rest walk_item.row);
-                  known = record { answer = λ y b. g.walk.known.answer y (rw parted (then_fine _ behind tt y (rw e at a) (rw (← behind_is g.lines h) b))) };
+                  row = rw (behind_is g.lines h) (row_rest walk_item.items);
+                  known = record { answer = λ y b. g.walk.known.answer y (rw parted (then_fine _ behind tt y (rw e at a) b)) };
                 };
           }

@@ -1,8 +1,8 @@
 -- Digest words in a name. Assumes nothing.
 use mathlib.Core.Path.{◌≡◌, refl, sym, ap, ◌∙◌}
 use mathlib.Core.List.{List, [], ◌∷◌}
-use mathlib.Core.Bool.{Bool, true, false, not, ◌&&◌, ◌||◌, and-eq-true_iff, and-false, or-false}
-use Prim.Native.Nat.{ℕ, zero, suc, ◌+◌, ◌-◌, ◌≤◌, ◌<◌}
+use mathlib.Core.Bool.{Bool, true, false, cond, not, ◌&&◌, ◌||◌, and-false, or-false}
+use Prim.Native.Nat.{ℕ, zero, suc, ◌+◌, ◌-◌, ◌<◌}
 use Prim.Native.String.{String}
 use Prim.Native.Nat.compare
 use native.Mathlib.Numerals.{add-one}
@@ -10,9 +10,11 @@ use native.Mathlib.Omega.{arith}
 use lib.Dec.{leb, eqb}
 use lib.ListN.{length, take, drop, drop_of_length-le, length-drop}
 use lib.Seq.{drop-cons, take_all}
-use borrow.Author.Tests.{le-leb, lt-leb, leb-true, not-true, not-false}
+use borrow.Author.Tests.{le-leb, lt-leb, leb-true, leb-false, not-true, not-false}
 use Rattle.std.specs.Prelude.{Result, Ok, zip}
 use Rattle.std.specs.List.{list_any, list_all, range_with_len}
+use Rattle.std.specs.Char.{to_ascii_lowercase}
+use Rattle.std.proofs.lemmas.Str.Ascii.{lowercase_is}
 use Rattle.text.specs.Text.{bytes, same}
 use Rattle.sheet.specs.Scratch.{name_at}
 use Rattle.rules.specs.Text.{Name, is}
@@ -26,22 +28,28 @@ use Rattle.refusals.specs.declared.refusal.Refusal.TheVariants.{Digest}
 use Rattle.refusals.proofs.Answers.{fits, expects}
 use Rattle.lookups.proofs.Types.{named_word}
 use Rattle.declarations.specs.Lines.{Named}
-use Rattle.declarations.specs.Tests.{small, starts_any}
+use Rattle.declarations.specs.Tests.{starts_any}
 use Rattle.refusals.specs.declared.refusal.Refusal.{Refusal}
 
-pub capital : (b : ℕ) → (leb 65 b && leb b 90) ≡ true → b ≤ 90
-capital b e = leb-true b 90 ((and-eq-true_iff (leb 65 b) (leb b 90)).0 e).1
+-- the library's small letters are the rules'
+small : (b : ℕ) → cond (leb 65 b && leb b 90) (b + 32) b ≡ to_ascii_lowercase b
+small b = by_cases (leb 65 b) (leb b 90) refl refl
+  where
+    by_cases : (l m : Bool) → leb 65 b ≡ l → leb b 90 ≡ m → cond (l && m) (b + 32) b ≡ to_ascii_lowercase b
+    by_cases true true e f = sym ((lowercase_is b).0 (leb-true 65 b e, leb-true b 90 f))
+    by_cases true false e f = sym ((lowercase_is b).2 (leb-false b 90 f))
+    by_cases false m e f = sym ((lowercase_is b).1 (leb-false 65 b e))
 
 -- letter by letter
-pub leads : (s w : Name) → (leb (length w) (length s) && list_all (λ p. eqb (small p.0) p.1) (zip s w)) ≡ starts_with (lower s) w
-unfolding starts_with lower small
+pub leads : (s w : Name) → (leb (length w) (length s) && list_all (λ p. eqb (to_ascii_lowercase p.0) p.1) (zip s w)) ≡ starts_with (lower s) w
+unfolding starts_with lower
 leads [] [] = refl
 leads (a ∷ s) [] = rw (le-leb 0 (suc (length s)) (omega arith)) refl
 leads [] (b ∷ w) = rw (lt-leb (suc (length w)) 0 (omega arith)) refl
-leads (a ∷ s) (b ∷ w) = rw (compare.suc-suc (length w) (length s)) (by_cases (eqb (small a) b) (leads s w))
+leads (a ∷ s) (b ∷ w) = rw (compare.suc-suc (length w) (length s), small a) (by_cases (eqb (to_ascii_lowercase a) b) (leads s w))
   where
-    by_cases : (t : Bool) → (leb (length w) (length s) && list_all (λ p. eqb (small p.0) p.1) (zip s w)) ≡ starts_with (lower s) w
-        → (leb (length w) (length s) && (t && list_all (λ p. eqb (small p.0) p.1) (zip s w))) ≡ (t && starts_with (lower s) w)
+    by_cases : (t : Bool) → (leb (length w) (length s) && list_all (λ p. eqb (to_ascii_lowercase p.0) p.1) (zip s w)) ≡ starts_with (lower s) w
+        → (leb (length w) (length s) && (t && list_all (λ p. eqb (to_ascii_lowercase p.0) p.1) (zip s w))) ≡ (t && starts_with (lower s) w)
     by_cases true e = e
     by_cases false e = and-false (leb (length w) (length s))
 

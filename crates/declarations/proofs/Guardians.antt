@@ -27,40 +27,38 @@ use Rattle.declarations.specs.Tests.{size_fits}
 use Rattle.grammar.specs.Kinds as kinds
 use Rattle.refusals.specs.declared.refusal.Refusal.{Refusal}
 
--- What `members_fit` meets: m arguments, of which the first has the kind k.
+-- What `members_fit` meets: m arguments.
 module _ (s S : List ℕ) (i m : ℕ) (h : TypeAt s S i) (c : m ≡ type_arg_count S i) where
   pub no_members : m ≡ 0 → false ≡ size_fits (members_of (args (type_at s i)))
   unfolding size_fits members_of
   no_members e = rw (args_here s S i m h c, list_none arguments s m (suc i) (omega arith)) refl
 
-  module _ (k : ℕ) (e : m ≢ 0) (f : k ≡ kind_at S (i + 1)) where
+  module _ (e : m ≢ 0) where
     some : 0 < m
     some = omega arith
 
     here : Here S grammar.Arg (suc i)
     here = row_first (row_some some (args_row s S i m h c))
 
-    of_kind_lem : k ≡ kind_at S (suc i)
-    of_kind_lem = rw (← add-one i) f
-
     abbrev others : List Arg
     others = args_at s (m - 1) (end_at S (suc i))
 
-    first : args (type_at s i) ≡ arg_of_kind s S (suc i) k ∷ others
+    first : args (type_at s i) ≡ arg_of_kind s S (suc i) (kind_at S (suc i)) ∷ others
     first =
         args_here s S i m h c
         ∙ list_some arguments h.loaded some (args_row s S i m h c)
-        ∙ rw (arg_told s S (suc i) k h.loaded of_kind_lem) refl
+        ∙ rw (arg_told s S (suc i) (kind_at S (suc i)) h.loaded refl) refl
 
-    pub other_members : k ≢ kinds.num → false ≡ size_fits (members_of (args (type_at s i)))
+    pub other_members : kind_at S (i + 1) ≢ kinds.num → false ≡ size_fits (members_of (args (type_at s i)))
     unfolding size_fits members_of
     other_members g =
         rw first
-        (by_kind (λ k. k ≢ kinds.num → false ≡ size_fits (members_of (arg_of_kind s S (suc i) k ∷ others))) k here of_kind_lem (λ g. refl) (λ g. absurd (g refl)) (λ g. refl) g)
+        (by_kind (λ k. k ≢ kinds.num → false ≡ size_fits (members_of (arg_of_kind s S (suc i) k ∷ others))) (kind_at S (suc i)) here refl
+        (λ g. refl) (λ g. absurd (g refl)) (λ g. refl) (rw (← add-one i) g))
 
-    pub num_members : (x : Name) (r : Bool) → k ≡ kinds.num → x ≡ name_at s S (i + 1) → r ≡ size_fits (parse_u64 x) → r ≡ size_fits (members_of (args (type_at s i)))
+    pub num_members : (x : Name) (r : Bool) → kind_at S (i + 1) ≡ kinds.num → x ≡ name_at s S (i + 1) → r ≡ size_fits (parse_u64 x) → r ≡ size_fits (members_of (args (type_at s i)))
     unfolding members_of
-    num_members x r g y z = z ∙ rw (first, g, y, add-one) refl
+    num_members x r g y z = let k : kind_at S (suc i) ≡ kinds.num = rw (add-one i) at g in z ∙ rw (first, k, y, add-one) refl
 
 pub guardian_fits_lem : (s S : List ℕ) (i : ℕ) (x : Name) (w m : Bool) → TypeAt s S i → x ≡ name_at s S i → w ≡ same x (bytes "GuardianSet")
     → m ≡ size_fits (members_of (args (type_at s i))) → (not w || m) ≡ guardian_fits (type_at s i)

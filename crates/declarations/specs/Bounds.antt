@@ -1,6 +1,8 @@
 -- The bounds of state fields, field by field.
-use Rattle.std.specs.Prelude.{ℕ, List, [], ◌∷◌, ◌++◌, map, not}
+use Rattle.std.specs.Prelude.{ℕ, suc, List, [], ◌∷◌, ◌++◌, map, not, ◌≡◌}
 use Rattle.grammar.specs.Grammar as grammar
+use Rattle.sheet.specs.Scratch.{end_at}
+use Rattle.sheet.specs.declared.records.Records.{Records}
 use Rattle.rules.specs.Text.{last_named}
 use Rattle.rules.specs.Ast.{Field, field_of}
 use Rattle.rules.specs.Asking.{Rule, ret, ◌>>◌, provided}
@@ -18,12 +20,25 @@ unfoldable pub bounds_of : List Field → (later : List Field) → Rule Unit
 bounds_of [] later = ret tt
 bounds_of (f ∷ fs) later = bound_if_last f (fs ++ later) >> bounds_of fs later
 
--- m fields from line i on, and those of n items from line j on
-unfoldable pub fields_left : List ℕ → (m i n j : ℕ) → List Field
-fields_left s m i n j = map field_of (nodes_at s m i) ++ (model_at s n j).fields
+-- the fields that r goes over, and those of the items that q goes over
+unfoldable pub fields_left : List ℕ → (r q : Records) → List Field
+fields_left s r q = map field_of (nodes_at s r.left r.at) ++ (model_at s q.left q.at).fields
 
 -- they stand there
-pub record FieldsLeft (s S : List ℕ) (m i n j : ℕ) : Type 0 where
+pub record FieldsLeft (s S : List ℕ) (r q : Records) : Type 0 where
   pub loaded : Loaded s S
-  pub fields : Row S grammar.Field m i
-  pub items : Row S grammar.Item n j
+  pub fields : Row S grammar.Field r.left r.at
+  pub items : Row S grammar.Item q.left q.at
+
+-- ... behind a field at line i
+pub record FieldBefore (s S : List ℕ) (i : ℕ) (r q : Records) : Type 0 where
+  pub loaded : Loaded s S
+  pub fields : Row S grammar.Field (suc r.left) i
+  pub items : Row S grammar.Item q.left q.at
+  pub behind : r.at ≡ end_at S i
+
+-- an item stands at line i, and behind it those that q goes over
+pub record ItemBefore (s S : List ℕ) (i : ℕ) (q : Records) : Type 0 where
+  pub loaded : Loaded s S
+  pub items : Row S grammar.Item (suc q.left) i
+  pub behind : q.at ≡ end_at S i

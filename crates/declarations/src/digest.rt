@@ -6,27 +6,21 @@ ghost use Rattle.rules.specs.Standing.{param_at, type_at};
 ghost use Rattle.refusals.specs.Answers.{Answers};
 ghost use Rattle.refusals.specs.Refusal.{done_of};
 ghost use Rattle.declarations.specs.Lines.{Named};
-ghost use Rattle.declarations.specs.Tests.{small, starts_any};
+ghost use Rattle.declarations.specs.Tests.{starts_any};
 
 use crate::answer::expect;
 use refusals::Refusal;
 use sheet::LoadedSheet;
 use text::is_word;
 
-fn lower(b: u8) -> u8
-    ensures { result ≡ small b }
-{
-    if (65 <= b) & (b <= 90) {
-        return b + 32;
-    }
-    b
-}
-
 // Whether s starts with word, small and capital letters alike.
 fn starts_with(s: &[u8], word: &[u8]) -> bool
     ensures { result ≡ starts_with (lower_of s.now) word.now }
 {
-    (word.len() <= s.len()) & s.iter().zip(word).all(|(a, b)| lower(*a) == *b)
+    (word.len() <= s.len())
+        & s.iter()
+            .zip(word)
+            .all(|(a, b)| a.to_ascii_lowercase() == *b)
 }
 
 // Whether s starts with a digest word.

@@ -10,7 +10,7 @@ ghost use Rattle.refusals.specs.Refusal.{done_of};
 ghost use Rattle.declarations.specs.Tests.{size_fits};
 
 use crate::answer::expect;
-use grammar::kinds;
+use grammar::Kind;
 use refusals::Refusal;
 use sheet::{LoadedSheet, type_arg_count};
 use text::is_word;
@@ -20,10 +20,7 @@ fn with_digit(n: usize, b: u8) -> usize
     requires { n ≤ 256 }
     ensures { result ≡ n * 10 + (b - 48) }
 {
-    if b < 48 {
-        return n * 10;
-    }
-    n * 10 + (b - 48) as usize
+    n * 10 + usize::from(b.saturating_sub(b'0'))
 }
 
 // Whether a text without its underscores is a number from 1 to 256.
@@ -51,7 +48,7 @@ fn members_fit(sheet: &LoadedSheet<'_>, ty: usize) -> bool
     if type_arg_count(sheet.lines, ty) == 0 {
         return false;
     }
-    if sheet.kind(ty + 1) != kinds::NUM {
+    if !sheet.is(ty + 1, Kind::Num) {
         return false;
     }
     size_fits(sheet.name(ty + 1))

@@ -3,31 +3,31 @@ ghost use Rattle.std.specs.Prelude.{true, ◌≡◌};
 ghost use Rattle.grammar.specs.Grammar.{Arg};
 ghost use Rattle.rules.specs.Ast.{args, type_name};
 ghost use Rattle.rules.specs.Declarations.{event_field_type, inner_fits, storable_arg, storable_args, storable_keyed};
-ghost use Rattle.rules.specs.Declarations.{known as known_of, storable as storable_of};
+ghost use Rattle.rules.specs.Declarations.{arity_of as arity_in, known as known_of, storable as storable_of};
 ghost use Rattle.rules.specs.Standing.{Here, arg_at, type_at};
 ghost use Rattle.refusals.specs.Answers.{Answers};
 ghost use Rattle.lookups.specs.Lines.{TypeAt};
-ghost use Rattle.refusals.specs.Refusal.{arity as arity_in, done_of};
-ghost use Rattle.declarations.specs.Tests.{refused_inside, takes_none};
-ghost use Rattle.rules.specs.Kept.{ty_from};
+ghost use Rattle.rules.specs.Text.{option_of};
+ghost use Rattle.std.proofs.Math.Option.{some};
+ghost use Rattle.refusals.specs.Refusal.{done_of};
+ghost use Rattle.declarations.specs.Tests.{takes_none};
 
 use crate::answer::expect;
-use grammar::kinds;
-use lookups::{ty_of_decl, type_code};
+use grammar::Kind;
+use lookups::ty_of_decl;
 use refusals::Refusal;
-use rules::codes;
+use rules::Ty;
 use sheet::{LoadedSheet, type_arg_count};
 use text::is_word;
 
-// Int, Bool, Time, Address, Word64 or Name.
-fn takes_no_args(ty: u8) -> bool
-    ensures { result ≡ takes_none (ty_from ty) }
+#[tactic(auto, unfolding(crate::specs::Tests::takes_none, rules::specs::Types::is_ty, rules::specs::Types::eq_ty, rules::specs::Asking::code))]
+fn takes_no_args(ty: Ty) -> bool
+    ensures { result ≡ takes_none ty }
 {
-    let t = type_code(ty);
-    (t == codes::INT)
-        | ((t == codes::BOOLEAN)
-            | ((t == codes::TIME)
-                | ((t == codes::ADDRESS) | ((t == codes::WORD64) | (t == codes::NAME)))))
+    matches!(
+        ty,
+        Ty::Int | Ty::Boolean | Ty::Time | Ty::Address | Ty::Word64 | Ty::Name
+    )
 }
 
 // The last arm of `storable`, and the whole of `event_field_type`.
@@ -36,7 +36,7 @@ fn known(sheet: &LoadedSheet<'_>, ty: usize) -> Result<(), Refusal>
     ensures { Answers (known_of (type_at sheet.now.bytes.now ty)) (done_of sheet.now.bytes.now result) }
 {
     let decl = ty_of_decl(sheet, ty);
-    if decl == codes::UNKNOWN {
+    if decl == Ty::Unknown {
         return Err(Refusal::UnknownType(ty));
     }
     expect(
@@ -52,25 +52,15 @@ pub fn event_field_type(sheet: &LoadedSheet<'_>, ty: usize) -> Result<(), Refusa
     known(sheet, ty)
 }
 
-// How many arguments a Map or Registry takes; 0 for any other name.
-pub fn arity_of(name: &[u8]) -> usize
-    ensures { result ≡ arity_in name.now }
+// How many arguments a Map or Registry takes.
+#[tactic(auto, unfolding(rules::specs::Declarations::arity_of, rules::specs::Text::pick, rules::specs::Text::is, rules::specs::Text::option_of))]
+pub fn arity_of(name: &[u8]) -> Option<usize>
+    ensures { result ≡ option_of (arity_in name.now) }
 {
     if is_word(name, b"Map") {
-        return 2;
+        return Some(2);
     }
-    if is_word(name, b"Registry") {
-        return 1;
-    }
-    0
-}
-
-// Unknown, Asset, Str or Collection.
-fn is_refused_inside(ty: u8) -> bool
-    ensures { result ≡ refused_inside (ty_from ty) }
-{
-    let t = type_code(ty);
-    (t == codes::UNKNOWN) | ((t == codes::ASSET) | ((t == codes::STR) | (t == codes::COLLECTION)))
+    is_word(name, b"Registry").then_some(1)
 }
 
 // Whether the type at line inner may be a key or value of the Map or Registry at line ty.
@@ -79,11 +69,11 @@ fn inner_fits(sheet: &LoadedSheet<'_>, ty: usize, inner: usize, key: bool) -> bo
     requires inner_at { TypeAt sheet.now.bytes.now sheet.now.lines.now inner }
     ensures { result ≡ inner_fits (type_name (type_at sheet.now.bytes.now ty)) key (type_at sheet.now.bytes.now inner) }
 {
-    let decl = ty_of_decl(sheet, inner);
-    if decl == codes::NAME {
-        return key | is_word(sheet.name(ty), b"Map");
+    match ty_of_decl(sheet, inner) {
+        Ty::Name => key | is_word(sheet.name(ty), b"Map"),
+        Ty::Unknown | Ty::Asset | Ty::Str | Ty::Collection => false,
+        _ => type_arg_count(sheet.lines, inner) == 0,
     }
-    !is_refused_inside(decl) & (type_arg_count(sheet.lines, inner) == 0)
 }
 
 // The argument at line arg of the Map or Registry at line ty.
@@ -92,7 +82,7 @@ fn storable_arg(sheet: &LoadedSheet<'_>, ty: usize, arg: usize, key: bool) -> Re
     requires arg_here { Here sheet.now.lines.now Arg arg }
     ensures { Answers (storable_arg (type_at sheet.now.bytes.now ty) key (arg_at sheet.now.bytes.now arg)) (done_of sheet.now.bytes.now result) }
 {
-    if sheet.kind(arg) != kinds::TYPE {
+    if !sheet.is(arg, Kind::Type) {
         return Err(Refusal::OnlyTypes(ty));
     }
     let why = Refusal::InnerType {
@@ -117,7 +107,7 @@ fn storable_args(sheet: &LoadedSheet<'_>, ty: usize) -> Result<(), Refusal>
 
 fn storable_keyed(sheet: &LoadedSheet<'_>, ty: usize, arity: usize) -> Result<(), Refusal>
     requires ty_at { TypeAt sheet.now.bytes.now sheet.now.lines.now ty }
-    requires arity_of_ty { arity ≡ arity_in (type_name (type_at sheet.now.bytes.now ty)) }
+    requires arity_of_ty { arity_in (type_name (type_at sheet.now.bytes.now ty)) ≡ some arity }
     ensures { Answers (storable_keyed (type_at sheet.now.bytes.now ty) arity) (done_of sheet.now.bytes.now result) }
 {
     if type_arg_count(sheet.lines, ty) != arity {
@@ -134,9 +124,8 @@ pub fn storable(sheet: &LoadedSheet<'_>, ty: usize) -> Result<(), Refusal>
     if is_word(word, b"Q_Name") {
         return Err(Refusal::NameStored(ty));
     }
-    let arity = arity_of(word);
-    if arity == 0 {
-        return known(sheet, ty);
+    match arity_of(word) {
+        Some(arity) => storable_keyed(sheet, ty, arity),
+        None => known(sheet, ty),
     }
-    storable_keyed(sheet, ty, arity)
 }

@@ -8,7 +8,8 @@ use native.Mathlib.Numerals.{add-one}
 use native.Mathlib.Omega.{arith}
 use mir.Syntax.{w64}
 use mir.Val.{Fits}
-use borrow.Author.Tests.{eq-eqb, ne_eqb, eqb-true, eqb-false}
+use denote.Enum.Bare.{sameb}
+use borrow.Author.Tests.{eqb-true, eqb-false}
 use lib.Dec.{eqb}
 use lib.ListN.{length}
 use Rattle.std.specs.Prelude.{Option, Some, None, Result, Ok, Err}
@@ -17,9 +18,12 @@ use Rattle.sheet.specs.Scratch.{kind_at, end_at, name_at, line_count, emit_arg_c
 use Rattle.sheet.specs.Tree.{take_nodes}
 use Rattle.rules.specs.Text.{Name}
 use Rattle.rules.specs.Ast.{Expr, Exprs, nil, more, list, span, exprs_of}
-use Rattle.rules.specs.Asking.{Ty, code, ok, Rule, ret, ◌>>=◌, ◌>>◌, expect, if_some, for_each}
-use Rattle.rules.specs.Kept.{Table, kept, ty_from}
-use Rattle.rules.specs.Types.{eq_ty, is_ty, one_word, ty_of_decl}
+use Rattle.rules.specs.Asking.{ok, Rule, ret, ◌>>=◌, ◌>>◌, expect, if_some, for_each}
+use Rattle.rules.specs.contracts.ty.Ty.{the_type}
+use Rattle.rules.specs.declared.ty.Ty.{Ty}
+use Rattle.rules.specs.declared.ty.Ty.TheVariants.{Address, Name as TName, Collection}
+use Rattle.rules.specs.Kept.{Table, kept}
+use Rattle.rules.specs.Types.{is_ty, one_word, ty_of_decl}
 use Rattle.rules.specs.Typing.{Env as Environment, asked, ask_of, ty_of, typings, ask_each, is_name_param}
 use Rattle.rules.specs.Statements.{emit_mismatch, emit_text, check_emit_field, check_emit_fields}
 use Rattle.rules.specs.Standing.{event_at, expr_at, exprs_at, param_at, params_at, type_at, Here, Row}
@@ -28,13 +32,13 @@ use Rattle.rules.proofs.Parts.{parts}
 use Rattle.rules.proofs.Records.{event_at_lem, param_at_lem, no_params, group}
 use Rattle.rules.proofs.Rows as rows
 use Rattle.rules.proofs.Rows.{exprs, row_some, list_some}
+use Rattle.rules.proofs.Same.{told_ty}
 use Rattle.rules.proofs.Standing.{stands, row_first, row_rest}
 use Rattle.lookups.specs.Lines.{TypeAt}
 use Rattle.refusals.specs.Refusal.{refusal_of, done_of}
 use Rattle.refusals.specs.declared.refusal.Refusal.{Refusal}
 use Rattle.refusals.specs.declared.refusal.Refusal.TheVariants.{EmitField}
 use Rattle.refusals.proofs.Answers.{fits, misfits}
-use Rattle.lookups.proofs.Codes.{from_code}
 use Rattle.text.proofs.Tests.{or_parts}
 use Rattle.env.specs.Force.{env_of, ExprIn}
 use Rattle.env.specs.declared.env.Env.{Env}
@@ -42,36 +46,39 @@ use Rattle.typing.specs.Asks.{Asks, NoValue, AsksAll, Types, Does}
 use Rattle.typing.proofs.Calls.{did}
 use Rattle.typing.proofs.Doing.{typed_then, not_typed, does_then, does_cut}
 use Rattle.typing.proofs.Onward.{Onward, onward, no_value_below, no_value_next, off_judged, off_each}
-use Rattle.typing.proofs.Operators.{gave_code}
 use Rattle.emits.specs.Emit.{emit_rule, fields_rule, EmitIn, FieldIn, FieldsIn, Mismatches, JudgesField}
 use Rattle.refusals.specs.Answers.{Answers}
 use Rattle.lookups.specs.Event.{found_event, EventNamed}
 use Rattle.grammar.specs.Kinds as kinds
-use Rattle.rules.specs.Codes as codes
 
 -- ------------------------------------------------------------ mismatch and judge_field
 
-module _ (c d : ℕ) (b : Bool) where
-  pub mismatch_name : c ≡ codes.name → Mismatches c d b (not (eqb d codes.name) || not b)
-  unfolding emit_mismatch eq_ty code
-  mismatch_name e = record { tests = λ Γ arg want got n k l. rw (emit_mismatch, ← k, eq-eqb c codes.name e, ← l, ← n) refl }
+-- whether the type wanted, and the type got, is a name
+module _ (want got : Ty) (b v u : Bool) (k : v ≡ sameb the_type want TName) (l : u ≡ sameb the_type got TName) where
+  pub mismatch_name : v ≡ true → Mismatches want got b (not u || not b)
+  unfolding emit_mismatch
+  mismatch_name e = record { tests = λ Γ arg n. rw (emit_mismatch, ← told_ty want TName v k, e, ← told_ty got TName u l, ← n) refl }
 
-  pub mismatch_other : (w : Bool) → c ≢ codes.name → w ≡ one_word (ty_from c) → Mismatches c d b (((eqb d codes.name || eqb d codes.collection) || eqb c codes.collection) || (eqb d codes.address && w))
-  unfolding emit_mismatch eq_ty is_ty code
-  mismatch_other w e h =
-      record { tests = λ Γ arg want got n k l. rw (emit_mismatch, ← k, ne_eqb c codes.name e, h, from_code c want k, ← k, ← l, or-false) refl }
+  pub mismatch_other : (x y z w : Bool) → v ≡ false → x ≡ sameb the_type got Collection → y ≡ sameb the_type want Collection → z ≡ sameb the_type got Address → w ≡ one_word want
+      → Mismatches want got b (((u || x) || y) || (z && w))
+  unfolding emit_mismatch is_ty
+  mismatch_other x y z w e f g h i =
+      record {
+        tests = λ Γ arg n.
+            rw (emit_mismatch, ← told_ty want TName v k, e, ← told_ty got TName u l, ← told_ty got Collection x f, ← told_ty want Collection y g, ← told_ty got Address z h, ← i, or-false) refl;
+      }
 
-module _ (s : List ℕ) (env : Env) (arg param c d : ℕ) (n m : Bool) (e : n ≡ is_name_param (env_of s [] env) (expr_at s arg)) (h : Mismatches c d n m) where
-  fitting : (want got : Ty) (x : Bool) → c ≡ code want → d ≡ code got → m ≡ x → not (emit_mismatch (env_of s [] env) (expr_at s arg) want got) ≡ not x
-  fitting want got x k l q = ap not (sym (h.tests (env_of s [] env) (expr_at s arg) want got e k l) ∙ q)
+module _ (s : List ℕ) (env : Env) (arg param : ℕ) (want got : Ty) (n m : Bool) (e : n ≡ is_name_param (env_of s [] env) (expr_at s arg)) (h : Mismatches want got n m) where
+  fitting : (x : Bool) → m ≡ x → not (emit_mismatch (env_of s [] env) (expr_at s arg) want got) ≡ not x
+  fitting x q = ap not (sym (h.tests (env_of s [] env) (expr_at s arg) e) ∙ q)
 
-  pub field_wrong : m ≡ true → JudgesField s env arg param c d (Err (EmitField arg param d))
+  pub field_wrong : m ≡ true → JudgesField s env arg param want got (Err (EmitField arg param got))
   unfolding done_of refusal_of
-  field_wrong q = record { judged = λ want got k l. rw (from_code d got l) (misfits _ 43 _ _ (fitting want got true k l q)) }
+  field_wrong q = misfits _ 43 _ _ (fitting true q)
 
-  pub field_fine : m ≡ false → JudgesField s env arg param c d (Ok tt)
+  pub field_fine : m ≡ false → JudgesField s env arg param want got (Ok tt)
   unfolding done_of
-  field_fine q = record { judged = λ want got k l. fits _ 43 _ _ (fitting want got false k l q) }
+  field_fine q = fits _ 43 _ _ (fitting false q)
 
 -- ------------------------------------------------------------ check_field
 
@@ -91,21 +98,24 @@ module _ (s S : List ℕ) (env : Env) (T : Table) (arg param : ℕ) (h : FieldIn
   pub field_fits : length S < 18446744073709551616 → Fits w64 (param + 1)
   field_fits l = record { fits = omega (arith, typed.1.within) }
 
-  module _ (a : Result ℕ Refusal) (U : Table) (k : Types s (ty_of (env_of s T env) (expr_at s arg)) T a U) where
+  module _ (a : Result Ty Refusal) (U : Table) (k : Types s (ty_of (env_of s T env) (expr_at s arg)) T a U) where
     pub field_no : (r : Refusal) → a ≡ Err r → Does s (check_emit_field (env_of s T env) (expr_at s arg) (param_at s param)) T (Err r) U
     unfolding check_emit_field
     field_no r e = not_typed s (ty_of (env_of s T env) (expr_at s arg)) _ T a U k r e
 
-    module _ (c want : ℕ) (r : Result Unit Refusal) (e : a ≡ Ok c) (w : want ≡ code (ty_of_decl (type_at s (param + 1)))) (j : JudgesField s env arg param want c r) where
-      judged : Answers (expect (not (emit_mismatch (env_of s T env) (expr_at s arg) (ty_of_decl (param_at s param).ty) (ty_from c))) 43 (span (expr_at s arg)) (emit_text (param_at s param) (ty_from c))) (done_of s r)
-      unfolding emit_mismatch is_name_param env_of
-      judged =
+    module _ (got want : Ty) (r : Result Unit Refusal) (e : a ≡ Ok got) (w : want ≡ ty_of_decl (type_at s (param + 1))) (j : JudgesField s env arg param want got r) where
+      wanted : want ≡ ty_of_decl (param_at s param).ty
+      wanted =
           let q : (param_at s param).ty ≡ type_at s (param + 1) = ap (λ p. p.ty) typed.0 ∙ rw (add-one param) refl in
-          j.judged (ty_of_decl (param_at s param).ty) (ty_from c) (rw q w) (gave_code s _ T a U k c e)
+          w ∙ sym (ap ty_of_decl q)
+
+      judged : Answers (expect (not (emit_mismatch (env_of s T env) (expr_at s arg) (ty_of_decl (param_at s param).ty) got)) 43 (span (expr_at s arg)) (emit_text (param_at s param) got)) (done_of s r)
+      unfolding emit_mismatch is_name_param env_of
+      judged = rw (← wanted) j
 
       pub field_ok : Does s (check_emit_field (env_of s T env) (expr_at s arg) (param_at s param)) T r U
       unfolding check_emit_field
-      field_ok = typed_then s (ty_of (env_of s T env) (expr_at s arg)) _ T a U k c r e judged
+      field_ok = typed_then s (ty_of (env_of s T env) (expr_at s arg)) _ T a U k got r e judged
 
 -- ------------------------------------------------------------ check_fields
 

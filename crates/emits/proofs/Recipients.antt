@@ -2,98 +2,103 @@
 use mathlib.Core.Logic.{◌≢◌}
 use mathlib.Core.Path.{◌≡◌, refl, sym, ap, ◌∙◌}
 use mathlib.Core.List.{List, [], ◌∷◌}
+use mathlib.Core.Bool.{Bool, true, false, ◌||◌, true≢false}
+use denote.Enum.Bare.{sameb}
 use Prim.Native.Nat.{ℕ, zero, suc, ◌+◌, ◌-◌, ◌<◌, ◌≤◌}
-use Prim.Native.String.{String}
 use native.Mathlib.Numerals.{add-one}
 use native.Mathlib.Omega.{arith}
 use borrow.Author.Tests.{eq-eqb, ne_eqb}
-use lib.ListN.{get_or, take, get_elem?}
+use lib.ListN.{take, get_elem?}
 use Rattle.std.specs.Prelude.{Result, Ok, Err}
-use Rattle.text.specs.Text.{bytes, ended}
-use Rattle.text.specs.Word.{index_in, split}
+use Rattle.text.specs.Text.{bytes, same}
+use Rattle.text.proofs.Tests.{or_parts}
 use Rattle.grammar.specs.Grammar as grammar
 use Rattle.sheet.specs.Scratch.{kind_at, end_at, name_at, call_arg_count}
 use Rattle.sheet.specs.Tree.{take_nodes}
-use Rattle.rules.specs.Text.{Name}
+use Rattle.rules.specs.Text.{Name, is, pick}
 use Rattle.rules.specs.Ast.{Expr, list, exprs_of}
-use Rattle.rules.specs.Asking.{code, Rule, ◌>>=◌, if_some, for_each}
-use Rattle.rules.specs.Kept.{Table, kept, ty_from}
-use Rattle.rules.specs.Types.{eq_ty}
+use Rattle.rules.specs.Asking.{Rule, ◌>>=◌, if_some, for_each}
+use Rattle.rules.specs.contracts.ty.Ty.{the_type}
+use Rattle.rules.specs.declared.ty.Ty.{Ty}
+use Rattle.rules.specs.declared.ty.Ty.TheVariants.{Name as TName}
+use Rattle.rules.specs.Kept.{Table, kept}
 use Rattle.rules.specs.Typing.{ty_of}
 use Rattle.rules.specs.Statements.{positions, refuse_name_recipient}
 use Rattle.rules.specs.Standing.{expr_at, exprs_at, Loaded, Row, stop, next}
 use Rattle.rules.proofs.Exprs.{call_at_lem, ident_at, is-call_at}
-use Rattle.rules.proofs.Parts.{stop as end, ◌also◌, pick}
 use Rattle.rules.proofs.Rows.{row_some, exprs_some}
+use Rattle.rules.proofs.Same.{told_ty}
 use Rattle.rules.proofs.Standing.{exprs_next, row_first, row_rest, row_take}
 use Rattle.lookups.specs.Lines.{ExprAt}
 use Rattle.refusals.specs.Refusal.{refusal_of, done_of}
 use Rattle.refusals.specs.declared.refusal.Refusal.{Refusal}
 use Rattle.refusals.specs.declared.refusal.Refusal.TheVariants.{Recipient}
 use Rattle.refusals.proofs.Answers.{fits, misfits}
-use Rattle.lookups.proofs.Tables.{words_in, place_most, pick_place}
 use Rattle.env.specs.Force.{env_of}
 use Rattle.env.specs.declared.env.Env.{Env}
 use Rattle.typing.specs.Asks.{Asks, NoValue, AsksAll, Types, Does}
 use Rattle.typing.proofs.Calls.{did}
 use Rattle.typing.proofs.Doing.{typed_then, not_typed, does_then, does_cut}
 use Rattle.typing.proofs.Onward.{Onward, onward, no_value_next, off_judged}
-use Rattle.typing.proofs.Operators.{gave_code}
 use Rattle.emits.specs.Recipient.{recipient_rule, recipients_rule, Recipients, JudgesRecipient}
 use Rattle.grammar.specs.Kinds as kinds
-use Rattle.rules.specs.Codes as codes
 
 -- ------------------------------------------------------------ recipients
 
-abbrev callees : List (String × List ℕ)
-callees = ("send", 0 ∷ []) ∷ ("mint_asset", 0 ∷ []) ∷ ("send_asset", 0 ∷ 1 ∷ []) ∷ []
+-- the recipients' places, by whether the name is `send`, `mint_asset` and `send_asset`
+by_name : (a b c : Bool) → List ℕ
+by_name a b c = elim a [ true ↦ 0 ∷ [] | false ↦ elim b [ true ↦ 0 ∷ [] | false ↦ elim c [ true ↦ 0 ∷ 1 ∷ [] | false ↦ [] ] ] ]
 
-module _ (s S : List ℕ) (callee : ℕ) (h : ExprAt s S callee) (k : ℕ) (ek : k ≡ kind_at S callee) where
-  pub no_name : k ≢ kinds.id → Recipients s callee 0
+first_only : (a b c : Bool) → (a || b) ≡ true → by_name a b c ≡ 0 ∷ []
+unfolding by_name
+first_only true b c e = refl
+first_only false true c e = refl
+first_only false false c e = absurd (true≢false (sym e))
+
+module _ (s S : List ℕ) (callee : ℕ) (h : ExprAt s S callee) where
+  pub no_name : kind_at S callee ≢ kinds.id → Recipients s callee 0
   unfolding positions
-  no_name n = record { first = rw (positions, ident_at h.loaded h.here, ← ek, ne_eqb k kinds.id n) refl; few = omega arith }
+  no_name n = record { first = rw (positions, ident_at h.loaded h.here, ne_eqb (kind_at S callee) kinds.id n) refl; few = omega arith }
 
-  module _ (x : Name) (p : ℕ) (e : k ≡ kinds.id) (ex : x ≡ name_at s S callee) (ep : p ≡ index_in x (split (bytes "send mint_asset send_asset "))) where
-    abbrev At : ℕ → List ℕ
-    At p = get_or ((0 ∷ []) ∷ (0 ∷ []) ∷ (0 ∷ 1 ∷ []) ∷ []) p []
+  module _ (x : Name) (e : kind_at S callee ≡ kinds.id) (ex : x ≡ name_at s S callee) (a b : Bool) (u : a ≡ same x (bytes "send")) (v : b ≡ same x (bytes "mint_asset")) where
+    by_tests : (c : Bool) → c ≡ same x (bytes "send_asset") → positions (expr_at s callee) ≡ by_name a b c
+    unfolding positions by_name pick is
+    by_tests c w = rw (positions, ident_at h.loaded h.here, eq-eqb (kind_at S callee) kinds.id e, ← ex, u, v, w) refl
 
-    by_place : positions (expr_at s callee) ≡ At p
-    unfolding positions split ended
-    by_place = rw (positions, ident_at h.loaded h.here, ← ek, eq-eqb k kinds.id e, ← ex, ep) (pick_place x callees [])
+    pub one_recipient : (a || b) ≡ true → Recipients s callee 1
+    one_recipient t = record { first = by_tests _ refl ∙ first_only a b _ t; few = omega arith }
 
-    pub one_recipient : p < 2 → Recipients s callee 1
-    one_recipient l =
-        record { first = by_place ∙ pick {P = λ p. At p ≡ 0 ∷ []} {i = 0} {n = 2} p (refl also refl also end) (omega arith) l; few = omega arith }
+    module _ (t : (a || b) ≡ false) (c : Bool) (w : c ≡ same x (bytes "send_asset")) where
+      left : positions (expr_at s callee) ≡ by_name false false c
+      left = let n = or_parts a b t in by_tests c w ∙ rw (n.0, n.1) refl
 
-    pub two_recipients : p ≡ 2 → Recipients s callee 2
-    two_recipients q = record { first = by_place ∙ rw q refl; few = omega arith }
+      pub two_recipients : c ≡ true → Recipients s callee 2
+      unfolding by_name
+      two_recipients q = record { first = left ∙ rw q refl; few = omega arith }
 
-    pub no_recipient : 2 ≤ p → p ≢ 2 → Recipients s callee 0
-    unfolding split ended
-    no_recipient l n =
-        let q : p ≡ 3 = omega (arith, place_most x (words_in callees)) in
-        record { first = by_place ∙ rw q refl; few = omega arith }
+      pub no_recipient : c ≡ false → Recipients s callee 0
+      unfolding by_name
+      no_recipient q = record { first = left ∙ rw q refl; few = omega arith }
 
 -- ------------------------------------------------------------ one recipient
 
-module _ (arg c : ℕ) where
-  pub recipient_wrong : c ≡ codes.name → JudgesRecipient arg c (Err (Recipient arg))
-  unfolding eq_ty code done_of refusal_of
-  recipient_wrong e = record { judged = λ s t k. misfits _ 29 _ _ (rw (← k, eq-eqb c codes.name e) refl) }
+module _ (arg : ℕ) (t : Ty) (b : Bool) (k : b ≡ sameb the_type t TName) where
+  pub recipient_wrong : b ≡ true → JudgesRecipient arg t (Err (Recipient arg))
+  unfolding done_of refusal_of
+  recipient_wrong e = record { judged = λ s. misfits _ 29 _ _ (rw (← told_ty t TName b k, e) refl) }
 
-  pub recipient_fine : c ≢ codes.name → JudgesRecipient arg c (Ok tt)
-  unfolding eq_ty code done_of
-  recipient_fine e = record { judged = λ s t k. fits _ 29 _ _ (rw (← k, ne_eqb c codes.name e) refl) }
+  pub recipient_fine : b ≡ false → JudgesRecipient arg t (Ok tt)
+  unfolding done_of
+  recipient_fine e = record { judged = λ s. fits _ 29 _ _ (rw (← told_ty t TName b k, e) refl) }
 
-module _ (s S : List ℕ) (env : Env) (T : Table) (arg : ℕ) (a : Result ℕ Refusal) (U : Table) (k : Types s (ty_of (env_of s T env) (expr_at s arg)) T a U) where
+module _ (s S : List ℕ) (env : Env) (T : Table) (arg : ℕ) (a : Result Ty Refusal) (U : Table) (k : Types s (ty_of (env_of s T env) (expr_at s arg)) T a U) where
   pub recipient_no : (r : Refusal) → a ≡ Err r → Does s (recipient_rule (env_of s T env) (expr_at s arg)) T (Err r) U
   unfolding recipient_rule
   recipient_no r e = not_typed s (ty_of (env_of s T env) (expr_at s arg)) _ T a U k r e
 
-  pub recipient_ok : (c : ℕ) (r : Result Unit Refusal) → a ≡ Ok c → JudgesRecipient arg c r → Does s (recipient_rule (env_of s T env) (expr_at s arg)) T r U
+  pub recipient_ok : (t : Ty) (r : Result Unit Refusal) → a ≡ Ok t → JudgesRecipient arg t r → Does s (recipient_rule (env_of s T env) (expr_at s arg)) T r U
   unfolding recipient_rule
-  recipient_ok c r e j =
-      typed_then s (ty_of (env_of s T env) (expr_at s arg)) _ T a U k c r e (j.judged s (ty_from c) (gave_code s _ T a U k c e))
+  recipient_ok t r e j = typed_then s (ty_of (env_of s T env) (expr_at s arg)) _ T a U k t r e (j.judged s)
 
 -- ------------------------------------------------------------ several recipients
 
@@ -166,17 +171,17 @@ take_all zero d (next h r) l = absurd (omega arith)
 take_all {s} (suc n) {m = suc m} {i} d (next h r) l =
     rw (exprs_next d m i h.within) (ap (λ es. expr_at s i ∷ es) (take_all n d r (omega arith)))
 
-module _ (s S : List ℕ) (env : Env) (T : Table) (i : ℕ) (h : Asks s S env T i) (k : ℕ) (ek : k ≡ kind_at S i) where
+module _ (s S : List ℕ) (env : Env) (T : Table) (i : ℕ) (h : Asks s S env T i) where
   abbrev Refuses : Rule Unit
   Refuses = refuse_name_recipient (env_of s T env) (expr_at s i)
 
-  pub no_call : k ≢ kinds.call → Does s Refuses T (Ok tt) T
+  pub no_call : kind_at S i ≢ kinds.call → Does s Refuses T (Ok tt) T
   unfolding refuse_name_recipient if_some done_of kept
-  no_call n = record { gives = rw (is-call_at h.ready.force.loaded h.here, ← ek, ne_eqb k kinds.call n) refl }
+  no_call n = record { gives = rw (is-call_at h.ready.force.loaded h.here, ne_eqb (kind_at S i) kinds.call n) refl }
 
-  module _ (e : k ≡ kinds.call) where
+  module _ (e : kind_at S i ≡ kinds.call) where
     all : Row S grammar.Expr (suc (call_arg_count S i)) (suc i)
-    all = (call_at_lem h.ready.force.loaded h.here (sym ek ∙ e)).1
+    all = (call_at_lem h.ready.force.loaded h.here e).1
 
     pub callee_there : ExprAt s S (i + 1)
     callee_there = record { loaded = h.ready.force.loaded; here = rw (add-one i) (row_first all) }
@@ -191,7 +196,7 @@ module _ (s S : List ℕ) (env : Env) (T : Table) (i : ℕ) (h : Asks s S env T 
       opened' : kept Refuses T ≡ kept (recipients_rule (env_of s T env) (take due (list (exprs_at s m at)))) T
       unfolding refuse_name_recipient recipients_rule recipient_rule if_some
       opened' =
-          rw (is-call_at h.ready.force.loaded h.here, ← ek, eq-eqb k kinds.call e, ← add-one i, r.first, ← em, ← ea)
+          rw (is-call_at h.ready.force.loaded h.here, eq-eqb (kind_at S i) kinds.call e, ← add-one i, r.first, ← em, ← ea)
           (first_ones due r.few (recipient_rule (env_of s T env)) (list (exprs_at s m at)) T)
 
       pub few_asks : m < due → AsksAll s S env T m at

@@ -5,7 +5,8 @@ use Rattle.grammar.specs.Grammar as grammar
 use Rattle.sheet.specs.Scratch.{kind_at, line_count}
 use Rattle.rules.specs.Text.{Name}
 use Rattle.rules.specs.Ast.{Expr, Param, span}
-use Rattle.rules.specs.Asking.{Ty, code, Rule, ret, ◌>>=◌, ◌>>◌, expect, for_each}
+use Rattle.rules.specs.Asking.{Rule, ret, ◌>>=◌, ◌>>◌, expect, for_each}
+use Rattle.rules.specs.declared.ty.Ty.{Ty}
 use Rattle.rules.specs.Kept.{Table}
 use Rattle.rules.specs.Typing.{Env, is_name_param, ty_of}
 use Rattle.rules.specs.Statements.{emit_mismatch, emit_text, check_emit_field, check_emit_fields}
@@ -49,10 +50,10 @@ pub record FieldsIn (s S : List ℕ) (env : CodeEnv) (T : Table) (arg args param
 
 -- ------------------------------------------------------------ what is promised
 
--- r is `emit_mismatch` of the types whose codes are c and d, for every argument that is a Q_Name parameter's bare name or not, as b says
-pub record Mismatches (c d : ℕ) (b r : Bool) : Type 0 where
-  pub tests : (Γ : Env) (arg : Expr) (want got : Ty) → b ≡ is_name_param Γ arg → c ≡ code want → d ≡ code got → r ≡ emit_mismatch Γ arg want got
+-- r is `emit_mismatch` of the types, for every argument that is a Q_Name parameter's bare name or not, as b says
+pub record Mismatches (want got : Ty) (b r : Bool) : Type 0 where
+  pub tests : (Γ : Env) (arg : Expr) → b ≡ is_name_param Γ arg → r ≡ emit_mismatch Γ arg want got
 
-pub record JudgesField (s : List ℕ) (env : CodeEnv) (arg param c d : ℕ) (r : Result Unit Refusal) : Type 0 where
-  pub judged : (want got : Ty) → c ≡ code want → d ≡ code got
-      → Answers (expect (not (emit_mismatch (env_of s [] env) (expr_at s arg) want got)) 43 (span (expr_at s arg)) (emit_text (param_at s param) got)) (done_of s r)
+abbrev pub JudgesField : List ℕ → CodeEnv → (arg param : ℕ) → (want got : Ty) → Result Unit Refusal → Type 0
+JudgesField s env arg param want got r =
+    Answers (expect (not (emit_mismatch (env_of s [] env) (expr_at s arg) want got)) 43 (span (expr_at s arg)) (emit_text (param_at s param) got)) (done_of s r)

@@ -1,7 +1,9 @@
 -- What the checks of a call's recipients promise.
 use Rattle.std.specs.Prelude.{ℕ, ◌≤◌, not, List, [], ◌∷◌, ◌≡◌, take, Result}
 use Rattle.rules.specs.Ast.{Expr, span}
-use Rattle.rules.specs.Asking.{Ty, TName, code, Rule, ◌>>=◌, expect, for_each}
+use Rattle.rules.specs.Asking.{Rule, ◌>>=◌, expect, for_each}
+use Rattle.rules.specs.declared.ty.Ty.{Ty}
+use Rattle.rules.specs.declared.ty.Ty.TheVariants.{Name as TName}
 use Rattle.rules.specs.Types.{eq_ty}
 use Rattle.rules.specs.Typing.{Env, ty_of}
 use Rattle.rules.specs.Statements.{positions, recipient_text}
@@ -24,5 +26,5 @@ pub record Recipients (s : List ℕ) (callee r : ℕ) : Type 0 where
   pub first : positions (expr_at s callee) ≡ take r (0 ∷ 1 ∷ [])
   pub few : r ≤ 2
 
-pub record JudgesRecipient (arg c : ℕ) (r : Result Unit Refusal) : Type 0 where
-  pub judged : (s : List ℕ) (t : Ty) → c ≡ code t → Answers (expect (not (eq_ty t TName)) 29 (span (expr_at s arg)) recipient_text) (done_of s r)
+pub record JudgesRecipient (arg : ℕ) (t : Ty) (r : Result Unit Refusal) : Type 0 where
+  pub judged : (s : List ℕ) → Answers (expect (not (eq_ty t TName)) 29 (span (expr_at s arg)) recipient_text) (done_of s r)

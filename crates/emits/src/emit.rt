@@ -11,20 +11,22 @@ ghost use Rattle.emits.specs.Emit.{EmitIn, emit_rule, FieldIn, FieldsIn, fields_
 use env::{Env, is_name_param};
 use lookups::{event_named, one_word, ty_of_decl};
 use refusals::Refusal;
-use rules::codes;
+use rules::Ty;
 use sheet::{LoadedSheet, emit_arg_count, param_count};
 use typing::{ask_each, ty_of};
 
-// `mismatch` by codes: an argument of the type got doesn't fit a parameter of the type want. `straight`: the argument is
-// the bare name of a Q_Name parameter.
-fn mismatch(want: u8, got: u8, straight: bool) -> bool
+// `emit_mismatch`: an argument of the type got doesn't fit a parameter of the type want. `straight`: the argument is the bare
+// name of a Q_Name parameter.
+fn mismatch(want: Ty, got: Ty, straight: bool) -> bool
     ensures { Mismatches want got straight result }
 {
-    if want == codes::NAME {
-        return (got != codes::NAME) | !straight;
+    if want == Ty::Name {
+        return (got != Ty::Name) | !straight;
     }
-    (((got == codes::NAME) | (got == codes::COLLECTION)) | (want == codes::COLLECTION))
-        | ((got == codes::ADDRESS) & one_word(want))
+    (got == Ty::Name)
+        | (got == Ty::Collection)
+        | (want == Ty::Collection)
+        | ((got == Ty::Address) & one_word(want))
 }
 
 // Judges the argument at line arg, of the type got, for the parameter at line param, of the type want.
@@ -33,8 +35,8 @@ fn judge_field(
     env: Env,
     arg: usize,
     param: usize,
-    want: u8,
-    got: u8,
+    want: Ty,
+    got: Ty,
 ) -> Result<(), Refusal>
     requires { ExprIn sheet.now.bytes.now sheet.now.lines.now env arg }
     ensures { JudgesField sheet.now.bytes.now env arg param want got result }

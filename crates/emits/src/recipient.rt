@@ -8,11 +8,11 @@ ghost use Rattle.typing.specs.Asks.{Asks, AsksAll, Does};
 ghost use Rattle.emits.specs.Recipient.{JudgesRecipient, recipient_rule, recipients_rule, Recipients};
 
 use env::Env;
-use grammar::kinds;
+use grammar::Kind;
 use refusals::Refusal;
-use rules::codes;
+use rules::Ty;
 use sheet::{LoadedSheet, call_arg_count};
-use text::index_in;
+use text::is_word;
 use typing::ty_of;
 
 // How many arguments, from the first on, of a call with the callee at this line are recipients.
@@ -20,24 +20,24 @@ fn recipients(sheet: &LoadedSheet<'_>, callee: usize) -> usize
     requires { ExprAt sheet.now.bytes.now sheet.now.lines.now callee }
     ensures { Recipients sheet.now.bytes.now callee result }
 {
-    if sheet.kind(callee) != kinds::ID {
+    if !sheet.is(callee, Kind::Id) {
         return 0;
     }
-    let place = index_in(sheet.name(callee), b"send mint_asset send_asset ");
-    if place < 2 {
+    let name = sheet.name(callee);
+    if is_word(name, b"send") | is_word(name, b"mint_asset") {
         return 1;
     }
-    if place == 2 {
+    if is_word(name, b"send_asset") {
         return 2;
     }
     0
 }
 
 // Judges the recipient at line arg by its type.
-fn judge_recipient(arg: usize, ty: u8) -> Result<(), Refusal>
+fn judge_recipient(arg: usize, ty: Ty) -> Result<(), Refusal>
     ensures { JudgesRecipient arg ty result }
 {
-    if ty == codes::NAME {
+    if ty == Ty::Name {
         Err(Refusal::Recipient(arg))
     } else {
         Ok(())
@@ -86,7 +86,7 @@ pub fn refuse_name_recipient(
     requires { Asks sheet.now.bytes.now sheet.now.lines.now env table.old i }
     ensures { Does sheet.now.bytes.now (refuse_name_recipient (env_of sheet.now.bytes.now table.old env) (expr_at sheet.now.bytes.now i)) table.old result table.new }
 {
-    if sheet.kind(i) != kinds::CALL {
+    if !sheet.is(i, Kind::Call) {
         return Ok(());
     }
     let args = call_arg_count(sheet.lines, i);

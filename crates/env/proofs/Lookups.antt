@@ -5,27 +5,29 @@ use mathlib.Core.List.{List, [], ◌∷◌, map, map-map}
 use mathlib.Core.Bool.{Bool, true, false, true≢false, ◌||◌}
 use mathlib.Core.Option
 use mathlib.Core.Option.{Option as Maybe, none, some}
-use Prim.Native.String.{String}
 use Prim.Native.Nat.{ℕ, suc, ◌+◌, ◌<◌}
 use native.Mathlib.Numerals.{add-one}
 use native.Mathlib.Omega.{arith}
 use mir.Syntax.{w64}
 use mir.Val.{Fits}
-use lib.Dec.{eqb}
 use lib.ListN.{length, get_or}
 use borrow.Author.Tests.{eq-eqb, ne_eqb}
 use Rattle.std.specs.Bool.{then_some}
 use Rattle.std.specs.Option.{option_eq}
-use Rattle.std.specs.Prelude.{Option, Some, None, is_some}
+use Rattle.std.specs.Prelude.{Option, Some, None, is_some, unwrap_or}
 use Rattle.text.specs.Text.{bytes, same}
 use Rattle.grammar.specs.Grammar as grammar
 use Rattle.sheet.specs.Load.{sorts, copies}
 use Rattle.sheet.specs.Scratch.{kind_at, name_at, line_count}
 use Rattle.sheet.specs.Tree.{Node, node}
-use Rattle.rules.specs.Text.{Name, is, is_one, last_named, get}
+use Rattle.rules.specs.Text.{Name, is, is_one, last_named, get, option_of}
 use Rattle.rules.specs.Ast.{param_of, type_name}
-use Rattle.rules.specs.Asking.{Ty, TName, code}
-use Rattle.rules.specs.Kept.{Table, ty_from}
+use Rattle.rules.specs.declared.ty.Ty.{Ty}
+use Rattle.rules.specs.declared.ty.Ty.TheVariants.{Address, Name as TName, Unknown}
+use denote.Enum.Bare.{sameb}
+use Rattle.rules.specs.contracts.ty.Ty.{the_type as ty_type}
+use Rattle.rules.proofs.Same.{same_ty}
+use Rattle.rules.specs.Kept.{Table, ty_from, ty_of_mark}
 use Rattle.rules.specs.Types.{ty_of_decl, eq_ty}
 use Rattle.rules.specs.Check.{param_types}
 use Rattle.rules.specs.Typing as typing
@@ -34,14 +36,15 @@ use Rattle.rules.specs.Standing.{node_name, nodes_at, expr_at, type_at, field_at
 use Rattle.rules.proofs.Exprs.{ident_at}
 use Rattle.rules.proofs.Parts.{parts}
 use Rattle.rules.proofs.Standing.{Stands, stands, row_behind, row_first}
+use Rattle.lookups.proofs.Tables.{either_word}
 use Rattle.lookups.specs.Found.{of_kind, found_node, found_field, FoundKind, Last, FieldNamed}
 use Rattle.lookups.proofs.Fields.{last_map, all_kind, param-name}
+use Rattle.lookups.proofs.Options.{option_or}
 use Rattle.lookups.proofs.Types.{type_name_lem}
 pub use Rattle.lookups.proofs.Behind.{TypeBehind, behind, found_typed, found_next}
-use Rattle.env.specs.Force.{params_in, local_of, lets, env_of, code_found, InForce, ExprIn, Ready, field_ty, field_node, keyed_node, FieldFound, KeyedFound}
+use Rattle.env.specs.Force.{params_in, local_of, lets, env_of, InForce, ExprIn, Ready, field_ty, field_node, keyed_node, FieldFound, KeyedFound}
 use Rattle.env.specs.declared.env.Env.{Env}
 use Rattle.grammar.specs.Kinds as kinds
-use Rattle.rules.specs.Codes as codes
 
 -- ------------------------------------------------------------ what a map has
 
@@ -70,42 +73,42 @@ module _ (s S : List ℕ) (env : Env) (x : Name) (h : InForce s S env) (r : Opti
       let all : of_kind kinds.param ns ≡ ns = all_kind kinds.param (λ i a. omega (arith, a.kind.0, a.kind.1)) h.loaded h.params in
       ap (get x) (params-list s env) ∙ get-map param_ty node_name x param-name ns ∙ rw (l.found, all) refl
 
-  pub param_there : (i v : ℕ) → r ≡ Some i → v ≡ code (ty_of_decl (type_at s (i + 1))) → Some v ≡ code_found (get x (params_in s env))
-  unfolding found_node code_found param_at
+  pub param_there : (i : ℕ) (v : Ty) → r ≡ Some i → v ≡ ty_of_decl (type_at s (i + 1)) → Some v ≡ option_of (get x (params_in s env))
+  unfolding found_node option_of param_at
   param_there i v e q =
       let t = behind kinds.param s S h.loaded r i e l.kind (omega arith) (omega arith) in
       rw (q, param_got, e, t.param, add-one i) refl
 
-  pub no_param : r ≡ None → None ≡ code_found (get x (params_in s env))
-  unfolding found_node code_found
+  pub no_param : r ≡ None → None ≡ option_of (get x (params_in s env))
+  unfolding found_node option_of
   no_param e = rw (param_got, e) refl
 
-there : (o : Maybe Ty) → is_some (code_found o) ≡ true → (t : Ty) × (o ≡ some t)
-unfolding code_found
+there : (o : Maybe Ty) → is_some (option_of o) ≡ true → (t : Ty) × (o ≡ some t)
+unfolding option_of
 there none e = absurd (true≢false (sym e))
 there (some t) e = (t, refl)
 
-unmarked : (o : Maybe Ty) → is_some (code_found o) ≡ false → o ≡ none
-unfolding code_found
+unmarked : (o : Maybe Ty) → is_some (option_of o) ≡ false → o ≡ none
+unfolding option_of
 unmarked none e = refl
 unmarked (some t) e = absurd (true≢false e)
 
 -- ------------------------------------------------------------ state fields
 
 module _ (s S : List ℕ) (x : Name) (d : Loaded s S) (r : Option ℕ) (n : FieldNamed s S x r) where
-  pub field_there : (i v : ℕ) → r ≡ Some i → v ≡ code (ty_of_decl (type_at s (i + 1))) → v ≡ code (field_ty s x)
+  pub field_there : (i : ℕ) (v : Ty) → r ≡ Some i → v ≡ ty_of_decl (type_at s (i + 1)) → v ≡ field_ty s x
   unfolding found_field field_ty
   field_there i v e q =
       let t = behind kinds.field s S d r i e n.kind (omega arith) (omega arith) in
       q ∙ rw (field_ty, ← n.found, e, t.field, add-one i) refl
 
   module _ (b : Bool) (e : r ≡ None) (w : b ≡ same x (bytes "deployer")) where
-    pub deployer : b ≡ true → codes.address ≡ code (field_ty s x)
-    unfolding found_field field_ty is code
+    pub deployer : b ≡ true → Address ≡ field_ty s x
+    unfolding found_field field_ty is
     deployer q = rw (field_ty, ← n.found, e, ← w, q) refl
 
-    pub no_field : b ≡ false → codes.unknown ≡ code (field_ty s x)
-    unfolding found_field field_ty is code
+    pub no_field : b ≡ false → Unknown ≡ field_ty s x
+    unfolding found_field field_ty is
     no_field q = rw (field_ty, ← n.found, e, ← w, q) refl
 
 -- ------------------------------------------------------------ locals
@@ -114,14 +117,18 @@ local_name : (T : Table) (t : Node) → (local_of T t).0 ≡ node_name t
 unfolding local_of node_name
 local_name T (node i l ps) = refl
 
-module _ (s S : List ℕ) (env : Env) (T : Table) (x : Name) (h : Ready s S env T) (o : Option ℕ) (p : o ≡ code_found (get x (params_in s env))) where
-  pub by_param : (ty : ℕ) → o ≡ Some ty → ty ≡ code (ty_of_ident (env_of s T env) x)
-  unfolding ty_of_ident env_of code_found
+from_mark : (v : ℕ) → unwrap_or (option_of (ty_of_mark v)) Unknown ≡ ty_from v
+unfolding ty_from
+from_mark v = option_or (ty_of_mark v) Unknown
+
+module _ (s S : List ℕ) (env : Env) (T : Table) (x : Name) (h : Ready s S env T) (o : Option Ty) (p : o ≡ option_of (get x (params_in s env))) where
+  pub by_param : (ty : Ty) → o ≡ Some ty → ty ≡ ty_of_ident (env_of s T env) x
+  unfolding ty_of_ident env_of option_of
   by_param ty n = by_cases (get x (params_in s env)) refl (sym p ∙ n)
     where
-      by_cases : (g : Maybe Ty) → get x (params_in s env) ≡ g → code_found g ≡ Some ty → ty ≡ code (ty_of_ident (env_of s T env) x)
+      by_cases : (g : Maybe Ty) → get x (params_in s env) ≡ g → option_of g ≡ Some ty → ty ≡ ty_of_ident (env_of s T env) x
       by_cases none e f = absurd (let z : ◌≡◌ {A = ℕ} 0 1 = cc f in omega arith)
-      by_cases (some t) e f = (let q : ty ≡ code t = cc f in q) ∙ rw (ty_of_ident, e) refl
+      by_cases (some t) e f = (let q : ty ≡ t = cc f in q) ∙ rw (ty_of_ident, e) refl
 
   module _ (z : o ≡ None) (r : Option ℕ) (l : Last s S kinds.let' x env.bound env.body r) where
     no_such : get x (params_in s env) ≡ none
@@ -148,13 +155,13 @@ module _ (s S : List ℕ) (env : Env) (T : Table) (x : Name) (h : Ready s S env 
       pub value_next : length T < 18446744073709551616 → Fits w64 (i + 1)
       value_next f = record { fits = omega (arith, value_within) }
 
-      pub by_local : (v c : ℕ) → v ≡ get_or T (i + 1) 0 → c ≡ code (ty_from v) → c ≡ code (ty_of_ident (env_of s T env) x)
+      pub by_local : (v : ℕ) (m : Option Ty) (c : Ty) → v ≡ get_or T (i + 1) 0 → m ≡ option_of (ty_of_mark v) → c ≡ unwrap_or m Unknown → c ≡ ty_of_ident (env_of s T env) x
       unfolding ty_of_ident env_of found_node lets local_of
-      by_local v c f k =
+      by_local v m c f w k =
           let g : get x (map (local_of T) (lets s env.bound env.body)) ≡ some (ty_from (get_or T (suc i) 0)) = local_got ∙ rw (e, let_line.here) refl in
-          k ∙ rw (f, add-one i, ty_of_ident, no_such, g) refl
+          k ∙ ap (λ o. unwrap_or o Unknown) w ∙ from_mark v ∙ rw (f, add-one i, ty_of_ident, no_such, g) refl
 
-    pub by_field : (v : ℕ) → r ≡ None → v ≡ code (field_ty s x) → v ≡ code (ty_of_ident (env_of s T env) x)
+    pub by_field : (v : Ty) → r ≡ None → v ≡ field_ty s x → v ≡ ty_of_ident (env_of s T env) x
     unfolding ty_of_ident env_of found_node field_ty
     by_field v e f =
         let g : get x (map (local_of T) (lets s env.bound env.body)) ≡ none = local_got ∙ rw e refl in
@@ -162,29 +169,29 @@ module _ (s S : List ℕ) (env : Env) (T : Table) (x : Name) (h : Ready s S env 
 
 -- ------------------------------------------------------------ bare names
 
-module _ (s S : List ℕ) (env : Env) (i : ℕ) (h : ExprIn s S env i) (k : ℕ) (e : k ≡ kind_at S i) where
-  no_ident : k ≢ kinds.id → ident_of (expr_at s i) ≡ none
-  no_ident n = ident_at h.force.loaded h.here ∙ rw (← e, ne_eqb k kinds.id n) refl
+module _ (s S : List ℕ) (env : Env) (i : ℕ) (h : ExprIn s S env i) where
+  no_ident : kind_at S i ≢ kinds.id → ident_of (expr_at s i) ≡ none
+  no_ident n = ident_at h.force.loaded h.here ∙ rw (ne_eqb (kind_at S i) kinds.id n) refl
 
-  pub no_name : k ≢ kinds.id → false ≡ is_name_param (env_of s [] env) (expr_at s i)
+  pub no_name : kind_at S i ≢ kinds.id → false ≡ is_name_param (env_of s [] env) (expr_at s i)
   unfolding is_name_param
   no_name n = rw (is_name_param, no_ident n) refl
 
-  pub no_state : k ≢ kinds.id → FieldFound s S env i None
+  pub no_state : kind_at S i ≢ kinds.id → FieldFound s S env i None
   unfolding typing.state_field_of field_node found_field found_node
   no_state n = record { found = rw (typing.state_field_of, no_ident n) refl; node = rw (field_node, no_ident n) refl; kind = tt }
 
-  module _ (q : k ≡ kinds.id) (x : Name) (n : x ≡ name_at s S i) (o : Option ℕ) (p : o ≡ code_found (get x (params_in s env))) where
+  module _ (q : kind_at S i ≡ kinds.id) (x : Name) (n : x ≡ name_at s S i) (o : Option Ty) (p : o ≡ option_of (get x (params_in s env))) where
     the_ident : ident_of (expr_at s i) ≡ some x
-    the_ident = ident_at h.force.loaded h.here ∙ rw (← e, eq-eqb k kinds.id q, n) refl
+    the_ident = ident_at h.force.loaded h.here ∙ rw (eq-eqb (kind_at S i) kinds.id q, n) refl
 
-    pub name-param : (b : Bool) → b ≡ option_eq eqb o (Some codes.name) → b ≡ is_name_param (env_of s [] env) (expr_at s i)
-    unfolding is_name_param env_of code_found eq_ty code
+    pub name-param : (b : Bool) → b ≡ option_eq (sameb ty_type) o (Some TName) → b ≡ is_name_param (env_of s [] env) (expr_at s i)
+    unfolding is_name_param env_of option_of
     name-param b f = f ∙ rw (is_name_param, the_ident, p) (by_cases (get x (params_in s env)))
       where
-        by_cases : (o : Maybe Ty) → option_eq eqb (code_found o) (Some codes.name) ≡ elim o [ none ↦ false | some t ↦ eq_ty t TName ]
+        by_cases : (o : Maybe Ty) → option_eq (sameb ty_type) (option_of o) (Some TName) ≡ elim o [ none ↦ false | some t ↦ eq_ty t TName ]
         by_cases none = refl
-        by_cases (some t) = refl
+        by_cases (some t) = same_ty t TName
 
     pub hidden : is_some o ≡ true → FieldFound s S env i None
     unfolding typing.state_field_of field_node env_of found_field found_node
@@ -199,16 +206,6 @@ module _ (s S : List ℕ) (env : Env) (i : ℕ) (h : ExprIn s S env i) (k : ℕ)
         record { found = f.found ∙ rw (typing.state_field_of, the_ident, g) refl; node = f.node ∙ rw (field_node, the_ident, g) refl; kind = f.kind }
 
 -- ------------------------------------------------------------ fields by their type
-
--- one of two words
-pub either_word : (x : Name) (v w : String) → is_one x (v ∷ w ∷ []) ≡ (is x v || is x w)
-unfolding is_one
-either_word x v w = by_cases (is x v) (is x w)
-  where
-    by_cases : (a b : Bool) → elim a as (λ _. Bool) [ true ↦ true | false ↦ elim b as (λ _. Bool) [ true ↦ true | false ↦ false ] ] ≡ (a || b)
-    by_cases true b = refl
-    by_cases false true = refl
-    by_cases false false = refl
 
 module _ (s S : List ℕ) (env : Env) (i : ℕ) (h : ExprIn s S env i) (r : Option ℕ) (f : FieldFound s S env i r) where
   pub nothing_keyed : r ≡ None → KeyedFound s S env i None

@@ -41,14 +41,14 @@ hit s S xs i = eqb (kind_at S i) kinds.id && among (name_at s S i) xs
 pub bound-lets : (s S : List ℕ) (env : Env) → InForce s S env → Stretch s S env.bound env.body
 bound-lets s S env f = record { loaded = f.loaded; sort = grammar.Stmt; row = f.locals }
 
-module _ (s S : List ℕ) (env : Env) (i at k : ℕ) (f : InForce s S env) (e : k ≡ kind_at S at) where
-  pub no_id : (r : Bool) → k ≢ kinds.id → r ≡ false → r ≡ hit s S (later i (ends_in s env)) at
-  no_id r q z = z ∙ rw (← e, ne_eqb k kinds.id q) refl
+module _ (s S : List ℕ) (env : Env) (i at : ℕ) (f : InForce s S env) where
+  pub no_id : (r : Bool) → kind_at S at ≢ kinds.id → r ≡ false → r ≡ hit s S (later i (ends_in s env)) at
+  no_id r q z = z ∙ rw (ne_eqb (kind_at S at) kinds.id q) refl
 
-  module _ (x : Name) (r : Option ℕ) (q : k ≡ kinds.id) (n : x ≡ name_at s S at) (l : Last s S kinds.let' x env.bound env.body r) where
+  module _ (x : Name) (r : Option ℕ) (q : kind_at S at ≡ kinds.id) (n : x ≡ name_at s S at) (l : Last s S kinds.let' x env.bound env.body r) where
     by_search : ends_behind s i (found_node s r) ≡ hit s S (later i (ends_in s env)) at
     unfolding lets
-    by_search = ap (ends_behind s i) l.found ∙ rw (← e, eq-eqb k kinds.id q, ← n) (sym (among_later s S env f x i))
+    by_search = ap (ends_behind s i) l.found ∙ rw (eq-eqb (kind_at S at) kinds.id q, ← n) (sym (among_later s S env f x i))
 
     pub is_later : (j v : ℕ) (b : Bool) → r ≡ Some j → v ≡ end_at S j → b ≡ ltb i v → b ≡ hit s S (later i (ends_in s env)) at
     unfolding found_node

@@ -5,7 +5,9 @@ use Rattle.sheet.specs.Scratch.{kind_at}
 use Rattle.sheet.specs.Tree.{Node}
 use Rattle.rules.specs.Text.{Name, is, is_one, pick}
 use Rattle.rules.specs.Ast.{Type', Expr, Field, type_name}
-use Rattle.rules.specs.Asking.{Ty, Int, Boolean, Asset, Time, Unknown, Rule, expect, if_some}
+use Rattle.rules.specs.Asking.{Rule, expect, if_some}
+use Rattle.rules.specs.declared.ty.Ty.{Ty}
+use Rattle.rules.specs.declared.ty.Ty.TheVariants.{Int, Boolean, Asset, Time, Unknown}
 use Rattle.rules.specs.Types.{declared_arg, is_ty}
 use Rattle.rules.specs.Typing as typing
 use Rattle.rules.specs.Typing.{dot_of, ident_is, keyed_field, keyed_op_fits, keyed_op_text, ty_of_get}
@@ -15,15 +17,6 @@ use Rattle.lookups.specs.Lines.{ExprAt}
 use Rattle.env.specs.Force.{env_of, keyed_node}
 use Rattle.env.specs.declared.env.Env.{Env}
 use Rattle.grammar.specs.Kinds as kinds
-use Rattle.rules.specs.Codes as codes
-
--- the codes of a dot's type by the place of its name in the code's table, and of any other name
-abbrev pub dot_codes : List ℕ
-dot_codes = codes.int ∷ codes.word64 ∷ codes.time ∷ codes.int ∷ codes.unknown ∷ []
-
--- ... of a call's type by its method; that of `get` is looked up
-abbrev pub method_codes : List ℕ
-method_codes = codes.boolean ∷ codes.asset ∷ codes.int ∷ codes.unknown ∷ []
 
 -- how many arguments of a method are judged by declared types
 unfoldable pub wants_of : Name → ℕ

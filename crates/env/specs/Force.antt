@@ -1,12 +1,13 @@
 -- The rules' `Env` of the code's, and what the code asks of it.
-use Rattle.std.specs.Prelude.{ℕ, suc, ◌≤◌, List, [], ◌∷◌, map, true, false, ◌≡◌, length, get_or, Option, Some, None}
+use Rattle.std.specs.Prelude.{ℕ, suc, ◌≤◌, List, [], ◌∷◌, map, true, false, ◌≡◌, length, get_or, Option}
 use Rattle.std.proofs.Math.Option.{Option as Maybe, none, some}
 use Rattle.grammar.specs.Grammar as grammar
 use Rattle.sheet.specs.Scratch.{skip, line_count, item_count}
 use Rattle.sheet.specs.Tree.{Node, node}
 use Rattle.rules.specs.Text.{Name, is, is_one, get, last_named}
 use Rattle.rules.specs.Ast.{line_after, field_of, param_of, type_name}
-use Rattle.rules.specs.Asking.{Ty, Address, Unknown, code}
+use Rattle.rules.specs.declared.ty.Ty.{Ty}
+use Rattle.rules.specs.declared.ty.Ty.TheVariants.{Address, Unknown}
 use Rattle.rules.specs.Kept.{Table, ty_from}
 use Rattle.rules.specs.Types.{ty_of_decl}
 use Rattle.rules.specs.Model.{field_named}
@@ -65,11 +66,6 @@ pub record Ready (s S : List ℕ) (env : Env) (T : Table) : Type 0 where
   pub room : line_count S ≤ length T
 
 -- ------------------------------------------------------------ what is found
-
--- the code of a type that was found
-unfoldable pub code_found : Maybe Ty → Option ℕ
-code_found none = None
-code_found (some t) = Some (code t)
 
 -- the type of a name that is no parameter's and no local's
 unfoldable pub field_ty : List ℕ → Name → Ty

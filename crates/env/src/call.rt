@@ -1,6 +1,5 @@
 // Calls and dots: what their callee, method and base tell.
-ghost use Rattle.std.specs.Prelude.{[], ◌∷◌, ◌≡◌, ◌<◌, get_or};
-ghost use Rattle.rules.specs.Asking.{code};
+ghost use Rattle.std.specs.Prelude.{[], ◌∷◌, ◌≡◌};
 ghost use Rattle.rules.specs.Standing.{expr_at, type_at};
 ghost use Rattle.rules.specs.Text.{is_one};
 ghost use Rattle.rules.specs.Typing.{expect_asset_receiver, keyed_op_fits, ty_of_dot};
@@ -9,38 +8,37 @@ ghost use Rattle.refusals.specs.Answers.{Answers};
 ghost use Rattle.lookups.specs.Found.{found_field};
 ghost use Rattle.lookups.specs.Lines.{TypeAt};
 ghost use Rattle.refusals.specs.Refusal.{done_of};
-ghost use Rattle.env.specs.Calls.{Callee, call_ty, dot_codes, get_ty, KeyedOf, method_codes, method_ty, op_rule, wants_of};
+ghost use Rattle.env.specs.Calls.{Callee, call_ty, get_ty, KeyedOf, method_ty, op_rule, wants_of};
 ghost use Rattle.env.specs.Force.{env_of, ExprIn};
 
 use crate::env::{Env, is_pool, keyed_field};
-use grammar::kinds;
+use grammar::Kind;
 use lookups::declared_arg;
 use refusals::Refusal;
-use rules::codes;
+use rules::Ty;
 use sheet::LoadedSheet;
-use text::{index_in, is_word};
+use text::{is_word, place_in};
 
 // The type of a dot with this name.
-pub fn ty_of_dot(x: &[u8]) -> u8
-    ensures { result ≡ code (ty_of_dot x.now) }
+#[tactic(auto, unfolding(rules::specs::Typing::ty_of_dot, rules::specs::Text::pick, rules::specs::Text::is))]
+pub fn ty_of_dot(x: &[u8]) -> Ty
+    ensures { result ≡ ty_of_dot x.now }
 {
-    dot_code(index_in(x, b"amount signer_bits first len "))
+    if is_word(x, b"amount") {
+        return Ty::Int;
+    }
+    if is_word(x, b"signer_bits") {
+        return Ty::Word64;
+    }
+    if is_word(x, b"first") {
+        return Ty::Time;
+    }
+    if is_word(x, b"len") {
+        Ty::Int
+    } else {
+        Ty::Unknown
+    }
 }
-
-fn dot_code(place: usize) -> u8
-    requires { place < 5 }
-    ensures { result ≡ get_or dot_codes place 0 }
-{
-    DOTS[place]
-}
-
-const DOTS: [u8; 5] = [
-    codes::INT,
-    codes::WORD64,
-    codes::TIME,
-    codes::INT,
-    codes::UNKNOWN,
-];
 
 // How many arguments of this method are judged by the types that the Map or Registry declares.
 pub fn wants(method: &[u8]) -> usize
@@ -49,7 +47,7 @@ pub fn wants(method: &[u8]) -> usize
     if is_word(method, b"set") {
         return 2;
     }
-    if index_in(method, b"insert remove contains get credit debit ") < 6 {
+    if place_in(method, b"insert remove contains get credit debit ").is_some() {
         1
     } else {
         0
@@ -68,7 +66,7 @@ pub fn keyed_of(sheet: &LoadedSheet<'_>, env: Env, callee: usize) -> Option<usiz
     requires { ExprIn sheet.now.bytes.now sheet.now.lines.now env callee }
     ensures { KeyedOf sheet.now.bytes.now sheet.now.lines.now env callee result }
 {
-    if sheet.kind(callee) != kinds::DOT {
+    if !sheet.is(callee, Kind::Dot) {
         return None;
     }
     keyed_field(sheet, env, callee + 1)
@@ -83,10 +81,11 @@ pub fn expect_asset_receiver(
     requires { ExprIn sheet.now.bytes.now sheet.now.lines.now env callee }
     ensures { Answers (expect_asset_receiver (env_of sheet.now.bytes.now [] env) (expr_at sheet.now.bytes.now callee)) (done_of sheet.now.bytes.now result) }
 {
-    if sheet.kind(callee) != kinds::DOT {
+    if !sheet.is(callee, Kind::Dot) {
         return Ok(());
     }
-    if index_in(sheet.name(callee), b"merge split ") == 2 {
+    let method = sheet.name(callee);
+    if !(is_word(method, b"merge") | is_word(method, b"split")) {
         return Ok(());
     }
     if is_pool(sheet, env, callee + 1) {
@@ -102,12 +101,12 @@ fn keyed_op_fits(sheet: &LoadedSheet<'_>, ty: usize, method: &[u8]) -> bool
     ensures { result ≡ keyed_op_fits (type_at sheet.now.bytes.now ty) method.now }
 {
     if is_word(sheet.name(ty), b"Registry") {
-        return index_in(method, b"insert remove contains ") < 3;
+        return place_in(method, b"insert remove contains ").is_some();
     }
-    if index_in(method, b"set get contains remove ") < 4 {
+    if place_in(method, b"set get contains remove ").is_some() {
         return true;
     }
-    moves_amount(method) & (declared_arg(sheet, ty, 1) == codes::INT)
+    moves_amount(method) & (declared_arg(sheet, ty, 1) == Ty::Int)
 }
 
 // `expect_keyed_op`: the Map or Registry that the callee uses, if any, has the method.
@@ -119,7 +118,7 @@ pub fn expect_keyed_op(
     requires { Callee sheet.now.bytes.now sheet.now.lines.now callee keyed }
     ensures { Answers (op_rule (found_field sheet.now.bytes.now keyed) (expr_at sheet.now.bytes.now callee)) (done_of sheet.now.bytes.now result) }
 {
-    if sheet.kind(callee) != kinds::DOT {
+    if !sheet.is(callee, Kind::Dot) {
         return Ok(());
     }
     let Some(field) = keyed else {
@@ -133,57 +132,53 @@ pub fn expect_keyed_op(
 }
 
 // The type that `get` gives on a Map or Registry, whose declared type stands at line ty.
-fn ty_of_get(sheet: &LoadedSheet<'_>, ty: usize) -> u8
+fn ty_of_get(sheet: &LoadedSheet<'_>, ty: usize) -> Ty
     requires { TypeAt sheet.now.bytes.now sheet.now.lines.now ty }
-    ensures { result ≡ code (get_ty (type_at sheet.now.bytes.now ty)) }
+    ensures { result ≡ get_ty (type_at sheet.now.bytes.now ty) }
 {
     if !is_word(sheet.name(ty), b"Map") {
-        return codes::INT;
+        return Ty::Int;
     }
     let value = declared_arg(sheet, ty, 1);
-    if (value == codes::UNKNOWN) | (value == codes::TIME) {
-        codes::INT
+    if (value == Ty::Unknown) | (value == Ty::Time) {
+        Ty::Int
     } else {
         value
     }
 }
 
 // The type of a call by its dot's method.
-fn ty_of_method(sheet: &LoadedSheet<'_>, callee: usize, keyed: Option<usize>) -> u8
+fn ty_of_method(sheet: &LoadedSheet<'_>, callee: usize, keyed: Option<usize>) -> Ty
     requires { Callee sheet.now.bytes.now sheet.now.lines.now callee keyed }
-    ensures { result ≡ code (method_ty (name_at sheet.now.bytes.now sheet.now.lines.now callee) (found_field sheet.now.bytes.now keyed)) }
+    ensures { result ≡ method_ty (name_at sheet.now.bytes.now sheet.now.lines.now callee) (found_field sheet.now.bytes.now keyed) }
 {
-    let place = index_in(sheet.name(callee), b"contains split get ");
-    if place != 2 {
-        return method_code(place);
+    let method = sheet.name(callee);
+    if is_word(method, b"contains") {
+        return Ty::Boolean;
+    }
+    if is_word(method, b"split") {
+        return Ty::Asset;
+    }
+    if !is_word(method, b"get") {
+        return Ty::Unknown;
     }
     match keyed {
         Some(field) => ty_of_get(sheet, field + 1),
-        None => codes::INT,
+        None => Ty::Int,
     }
 }
-
-fn method_code(place: usize) -> u8
-    requires { place < 4 }
-    ensures { result ≡ get_or method_codes place 0 }
-{
-    METHODS[place]
-}
-
-const METHODS: [u8; 4] = [codes::BOOLEAN, codes::ASSET, codes::INT, codes::UNKNOWN];
 
 // `ty_of_call`: the type of a call, by its callee.
-pub fn ty_of_call(sheet: &LoadedSheet<'_>, callee: usize, keyed: Option<usize>) -> u8
+pub fn ty_of_call(sheet: &LoadedSheet<'_>, callee: usize, keyed: Option<usize>) -> Ty
     requires { Callee sheet.now.bytes.now sheet.now.lines.now callee keyed }
-    ensures { result ≡ code (call_ty (found_field sheet.now.bytes.now keyed) (expr_at sheet.now.bytes.now callee)) }
+    ensures { result ≡ call_ty (found_field sheet.now.bytes.now keyed) (expr_at sheet.now.bytes.now callee) }
 {
-    let k = sheet.kind(callee);
-    if k == kinds::DOT {
+    if sheet.is(callee, Kind::Dot) {
         return ty_of_method(sheet, callee, keyed);
     }
-    if (k == kinds::ID) & is_word(sheet.name(callee), b"mint") {
-        codes::ASSET
+    if sheet.is(callee, Kind::Id) & is_word(sheet.name(callee), b"mint") {
+        Ty::Asset
     } else {
-        codes::UNKNOWN
+        Ty::Unknown
     }
 }

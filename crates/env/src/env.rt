@@ -1,14 +1,13 @@
 // `Env` and its lookups by name.
 ghost use Rattle.std.specs.Prelude.{[], ◌≡◌};
-ghost use Rattle.rules.specs.Asking.{code};
 ghost use Rattle.rules.specs.Standing.{expr_at};
-ghost use Rattle.rules.specs.Text.{get};
+ghost use Rattle.rules.specs.Text.{get, option_of};
 ghost use Rattle.rules.specs.Typing.{is_name_param, is_pool, ty_of_ident};
-ghost use Rattle.env.specs.Force.{code_found, env_of, ExprIn, FieldFound, field_ty, InForce, KeyedFound, params_in, Ready};
+ghost use Rattle.env.specs.Force.{env_of, ExprIn, FieldFound, field_ty, InForce, KeyedFound, params_in, Ready};
 
-use grammar::kinds;
-use lookups::{field_named, last_named, ty_of_decl, type_code};
-use rules::codes;
+use grammar::Kind;
+use lookups::{field_named, last_named, ty_of_decl};
+use rules::Ty;
 use sheet::LoadedSheet;
 use text::is_word;
 
@@ -25,40 +24,40 @@ pub struct Env {
 }
 
 // The type of the last parameter of the name x.
-fn param(sheet: &LoadedSheet<'_>, env: Env, x: &[u8]) -> Option<u8>
+fn param(sheet: &LoadedSheet<'_>, env: Env, x: &[u8]) -> Option<Ty>
     requires { InForce sheet.now.bytes.now sheet.now.lines.now env }
-    ensures { result ≡ code_found (get x.now (params_in sheet.now.bytes.now env)) }
+    ensures { result ≡ option_of (get x.now (params_in sheet.now.bytes.now env)) }
 {
-    let i = last_named(sheet, kinds::PARAM, x, env.params, env.count)?;
+    let i = last_named(sheet, Kind::Param, x, env.params, env.count)?;
     Some(ty_of_decl(sheet, i + 1))
 }
 
 // The type of a name that is no parameter's and no local's.
-fn ty_of_field(sheet: &LoadedSheet<'_>, x: &[u8]) -> u8
-    ensures { result ≡ code (field_ty sheet.now.bytes.now x.now) }
+fn ty_of_field(sheet: &LoadedSheet<'_>, x: &[u8]) -> Ty
+    ensures { result ≡ field_ty sheet.now.bytes.now x.now }
 {
     match field_named(sheet, x) {
         Some(i) => ty_of_decl(sheet, i + 1),
         None => {
             if is_word(x, b"deployer") {
-                codes::ADDRESS
+                Ty::Address
             } else {
-                codes::UNKNOWN
+                Ty::Unknown
             }
         }
     }
 }
 
 // `ty_of_ident`: a local hides a field here. Its type is what the table has for its value, Unknown where that is no type.
-pub fn ty_of_ident(sheet: &LoadedSheet<'_>, env: Env, table: &[u8], x: &[u8]) -> u8
+pub fn ty_of_ident(sheet: &LoadedSheet<'_>, env: Env, table: &[u8], x: &[u8]) -> Ty
     requires { Ready sheet.now.bytes.now sheet.now.lines.now env table.now }
-    ensures { result ≡ code (ty_of_ident (env_of sheet.now.bytes.now table.now env) x.now) }
+    ensures { result ≡ ty_of_ident (env_of sheet.now.bytes.now table.now env) x.now }
 {
     if let Some(ty) = param(sheet, env, x) {
         return ty;
     }
-    match last_named(sheet, kinds::LET, x, env.body, env.bound) {
-        Some(i) => type_code(table[i + 1]),
+    match last_named(sheet, Kind::Let, x, env.body, env.bound) {
+        Some(i) => Ty::of_mark(table[i + 1]).unwrap_or(Ty::Unknown),
         None => ty_of_field(sheet, x),
     }
 }
@@ -68,10 +67,10 @@ pub fn is_name_param(sheet: &LoadedSheet<'_>, env: Env, i: usize) -> bool
     requires { ExprIn sheet.now.bytes.now sheet.now.lines.now env i }
     ensures { result ≡ is_name_param (env_of sheet.now.bytes.now [] env) (expr_at sheet.now.bytes.now i) }
 {
-    if sheet.kind(i) != kinds::ID {
+    if !sheet.is(i, Kind::Id) {
         return false;
     }
-    param(sheet, env, sheet.name(i)) == Some(codes::NAME)
+    param(sheet, env, sheet.name(i)) == Some(Ty::Name)
 }
 
 // The state field of the bare name at line i, which no parameter has; a local doesn't hide it.
@@ -79,7 +78,7 @@ fn field_of(sheet: &LoadedSheet<'_>, env: Env, i: usize) -> Option<usize>
     requires { ExprIn sheet.now.bytes.now sheet.now.lines.now env i }
     ensures { FieldFound sheet.now.bytes.now sheet.now.lines.now env i result }
 {
-    if sheet.kind(i) != kinds::ID {
+    if !sheet.is(i, Kind::Id) {
         return None;
     }
     let x = sheet.name(i);

@@ -1,52 +1,52 @@
 // The judging of types that were asked.
-ghost use Rattle.std.specs.Prelude.{◌&&◌, ◌||◌, not, [], ◌≡◌, eqb, get_or};
-ghost use Rattle.rules.specs.Asking.{code};
-ghost use Rattle.rules.specs.Ast.{bin_ops, Neg, Shr, unary_ops};
-ghost use Rattle.rules.specs.Types.{is_zero_literal};
+ghost use Rattle.std.specs.Prelude.{◌&&◌, ◌||◌, not, [], ◌∷◌, ◌≡◌};
+ghost use Rattle.rules.specs.Types.{eq_ty, is_ty, is_zero_literal};
+ghost use Rattle.rules.specs.declared.ty.Ty.TheVariants.{Address, Asset, Int, Name, Unknown};
 ghost use Rattle.rules.specs.Standing.{expr_at};
 ghost use Rattle.rules.specs.Typing.{is_name_param, judge_binary, judge_unary};
 ghost use Rattle.rules.specs.Typing.{arithmetic as arithmetic_of, equality as equality_of, logical as logical_of, ordering as ordering_of};
+ghost use Rattle.rules.specs.Operators.{bin_meant, unary_meant};
 ghost use Rattle.env.specs.Answers.{both_of, Judged, Judged2, JudgedIn, JudgesAmount, JudgesKey, Operands};
 ghost use Rattle.lookups.specs.Lines.{ExprAt};
 ghost use Rattle.env.specs.Force.{env_of, ExprIn};
-ghost use Rattle.rules.specs.Codes as codes;
-ghost use Rattle.rules.specs.Kept.{ty_from};
 
 use crate::env::{Env, is_name_param};
-use grammar::ops;
-use lookups::{compatible, is_zero_literal, numeric, type_code};
+use grammar::{BinOp, UnaryOp};
+use lookups::{compatible, is_zero_literal, numeric};
 use refusals::Refusal;
-use rules::codes;
+use rules::Ty;
 use sheet::LoadedSheet;
 
-// Whether the type is the one of a code, or Unknown.
-fn or_unknown(ty: u8, want: u8) -> bool
-    ensures { result ≡ (eqb (code (ty_from ty)) want || eqb (code (ty_from ty)) codes.unknown) }
+// Whether the type is the wanted one, or Unknown.
+fn or_unknown(ty: Ty, want: Ty) -> bool
+    ensures { result ≡ (eq_ty ty want || eq_ty ty Unknown) }
 {
-    let t = type_code(ty);
-    (t == want) | (t == codes::UNKNOWN)
+    (ty == want) | (ty == Ty::Unknown)
 }
 
-pub fn judge_unary(op: usize, inner: usize, ty: u8) -> Result<u8, Refusal>
-    ensures { Judged (λ s. judge_unary (get_or unary_ops op Neg) (expr_at s inner)) ty result }
+pub fn judge_unary(op: UnaryOp, inner: usize, ty: Ty) -> Result<Ty, Refusal>
+    ensures { Judged (λ s. judge_unary (unary_meant op) (expr_at s inner)) ty result }
 {
-    if op == ops::UN_NOT {
-        if or_unknown(ty, codes::BOOLEAN) {
-            Ok(codes::BOOLEAN)
-        } else {
-            Err(Refusal::Not(inner))
+    match op {
+        UnaryOp::Not => {
+            if or_unknown(ty, Ty::Boolean) {
+                Ok(Ty::Boolean)
+            } else {
+                Err(Refusal::Not(inner))
+            }
         }
-    } else {
-        if or_unknown(ty, codes::INT) {
-            Ok(codes::INT)
-        } else {
-            Err(Refusal::Neg(inner))
+        UnaryOp::Neg => {
+            if or_unknown(ty, Ty::Int) {
+                Ok(Ty::Int)
+            } else {
+                Err(Refusal::Neg(inner))
+            }
         }
     }
 }
 
 // What two tests come to, with why each refuses and the type where both hold.
-fn both(l: bool, r: bool, left: Refusal, right: Refusal, ty: u8) -> Result<u8, Refusal>
+fn both(l: bool, r: bool, left: Refusal, right: Refusal, ty: Ty) -> Result<Ty, Refusal>
     ensures { result ≡ both_of l r left right ty }
 {
     if !l {
@@ -58,19 +58,19 @@ fn both(l: bool, r: bool, left: Refusal, right: Refusal, ty: u8) -> Result<u8, R
     Ok(ty)
 }
 
-fn logical(left: usize, right: usize, l: u8, r: u8) -> Result<u8, Refusal>
+fn logical(left: usize, right: usize, l: Ty, r: Ty) -> Result<Ty, Refusal>
     ensures { Judged2 (λ s. logical_of (expr_at s left) (expr_at s right)) l r result }
 {
     both(
-        or_unknown(l, codes::BOOLEAN),
-        or_unknown(r, codes::BOOLEAN),
+        or_unknown(l, Ty::Boolean),
+        or_unknown(r, Ty::Boolean),
         Refusal::Logical(left),
         Refusal::Logical(right),
-        codes::BOOLEAN,
+        Ty::Boolean,
     )
 }
 
-fn arithmetic(left: usize, right: usize, l: u8, r: u8) -> Result<u8, Refusal>
+fn arithmetic(left: usize, right: usize, l: Ty, r: Ty) -> Result<Ty, Refusal>
     ensures { Judged2 (λ s. arithmetic_of (expr_at s left) (expr_at s right)) l r result }
 {
     both(
@@ -78,11 +78,11 @@ fn arithmetic(left: usize, right: usize, l: u8, r: u8) -> Result<u8, Refusal>
         numeric(r),
         Refusal::Arithmetic(left),
         Refusal::Arithmetic(right),
-        codes::INT,
+        Ty::Int,
     )
 }
 
-fn ordering(left: usize, right: usize, l: u8, r: u8) -> Result<u8, Refusal>
+fn ordering(left: usize, right: usize, l: Ty, r: Ty) -> Result<Ty, Refusal>
     ensures { Judged2 (λ s. ordering_of (expr_at s left) (expr_at s right)) l r result }
 {
     both(
@@ -90,62 +90,68 @@ fn ordering(left: usize, right: usize, l: u8, r: u8) -> Result<u8, Refusal>
         numeric(r),
         Refusal::Ordering(left),
         Refusal::Ordering(right),
-        codes::BOOLEAN,
+        Ty::Boolean,
     )
 }
 
 // Whether a type is an address, and the other side the zero that means none.
-fn absent(sheet: &LoadedSheet<'_>, ty: u8, other: usize) -> bool
+fn absent(sheet: &LoadedSheet<'_>, ty: Ty, other: usize) -> bool
     requires { ExprAt sheet.now.bytes.now sheet.now.lines.now other }
-    ensures { result ≡ (eqb ty codes.address && is_zero_literal (expr_at sheet.now.bytes.now other)) }
+    ensures { result ≡ (eq_ty ty Address && is_zero_literal (expr_at sheet.now.bytes.now other)) }
 {
-    (ty == codes::ADDRESS) & is_zero_literal(sheet, other)
+    (ty == Ty::Address) & is_zero_literal(sheet, other)
 }
 
-fn equality(sheet: &LoadedSheet<'_>, left: usize, right: usize, l: u8, r: u8) -> Result<u8, Refusal>
+fn equality(sheet: &LoadedSheet<'_>, left: usize, right: usize, l: Ty, r: Ty) -> Result<Ty, Refusal>
     requires { Operands sheet.now.bytes.now sheet.now.lines.now left right }
     ensures { JudgedIn sheet.now.bytes.now (equality_of (expr_at sheet.now.bytes.now left) (expr_at sheet.now.bytes.now right)) l r result }
 {
-    if (l == codes::NAME) | (r == codes::NAME) {
+    if (l == Ty::Name) | (r == Ty::Name) {
         return Err(Refusal::NamesCompared(left));
     }
     if compatible(l, r) | absent(sheet, l, right) | absent(sheet, r, left) {
-        Ok(codes::BOOLEAN)
+        Ok(Ty::Boolean)
     } else {
         Err(Refusal::Compared { right, l, r })
     }
 }
 
-// Judges the types of both sides by the operator (grammar's ops).
+// Judges the types of both sides by the operator.
+#[tactic(auto, using(crate::proofs::Judging::in_sheet), unfolding(rules::specs::Operators::bin_meant, rules::specs::Typing::judge_binary))]
 pub fn judge_binary(
     sheet: &LoadedSheet<'_>,
-    op: usize,
+    op: BinOp,
     left: usize,
     right: usize,
-    l: u8,
-    r: u8,
-) -> Result<u8, Refusal>
+    l: Ty,
+    r: Ty,
+) -> Result<Ty, Refusal>
     requires { Operands sheet.now.bytes.now sheet.now.lines.now left right }
-    ensures { JudgedIn sheet.now.bytes.now (judge_binary (get_or bin_ops op Shr) (expr_at sheet.now.bytes.now left) (expr_at sheet.now.bytes.now right)) l r result }
+    ensures { JudgedIn sheet.now.bytes.now (judge_binary (bin_meant op) (expr_at sheet.now.bytes.now left) (expr_at sheet.now.bytes.now right)) l r result }
 {
-    if op < ops::BIN_EQ {
-        return logical(left, right, l, r);
+    match op {
+        BinOp::Or | BinOp::And => logical(left, right, l, r),
+        BinOp::Eq | BinOp::Ne => equality(sheet, left, right, l, r),
+        BinOp::Lt | BinOp::Gt | BinOp::Le | BinOp::Ge => ordering(left, right, l, r),
+        BinOp::Add | BinOp::Sub | BinOp::Mul | BinOp::Div | BinOp::Rem | BinOp::Shr => {
+            arithmetic(left, right, l, r)
+        }
     }
-    if op < ops::BIN_LT {
-        return equality(sheet, left, right, l, r);
-    }
-    if op < ops::BIN_ADD {
-        return ordering(left, right, l, r);
-    }
-    arithmetic(left, right, l, r)
+}
+
+// Whether a value of the type may be moved as an amount.
+#[tactic(auto, unfolding(rules::specs::Types::is_ty, rules::specs::Types::eq_ty, rules::specs::Asking::code))]
+fn is_amount(ty: Ty) -> bool
+    ensures { result ≡ is_ty ty (Int ∷ Asset ∷ Unknown ∷ []) }
+{
+    matches!(ty, Ty::Int | Ty::Asset | Ty::Unknown)
 }
 
 // Judges the amount that the method of the dot at line callee moves.
-pub fn judge_amount(callee: usize, arg: usize, got: u8) -> Result<(), Refusal>
+pub fn judge_amount(callee: usize, arg: usize, got: Ty) -> Result<(), Refusal>
     ensures { JudgesAmount callee arg got result }
 {
-    let t = type_code(got);
-    if (t == codes::INT) | ((t == codes::ASSET) | (t == codes::UNKNOWN)) {
+    if is_amount(got) {
         Ok(())
     } else {
         Err(Refusal::Amount { callee, arg })
@@ -153,11 +159,11 @@ pub fn judge_amount(callee: usize, arg: usize, got: u8) -> Result<(), Refusal>
 }
 
 // Whether the argument, of the type got, is no Q_Name or a Q_Name parameter.
-fn straight(sheet: &LoadedSheet<'_>, env: Env, arg: usize, got: u8) -> bool
+fn straight(sheet: &LoadedSheet<'_>, env: Env, arg: usize, got: Ty) -> bool
     requires { ExprIn sheet.now.bytes.now sheet.now.lines.now env arg }
-    ensures { result ≡ (not (eqb got codes.name) || is_name_param (env_of sheet.now.bytes.now [] env) (expr_at sheet.now.bytes.now arg)) }
+    ensures { result ≡ (not (eq_ty got Name) || is_name_param (env_of sheet.now.bytes.now [] env) (expr_at sheet.now.bytes.now arg)) }
 {
-    if got != codes::NAME {
+    if got != Ty::Name {
         return true;
     }
     is_name_param(sheet, env, arg)
@@ -170,8 +176,8 @@ pub fn judge_key(
     field: usize,
     is_key: bool,
     arg: usize,
-    want: u8,
-    got: u8,
+    want: Ty,
+    got: Ty,
 ) -> Result<(), Refusal>
     requires { ExprIn sheet.now.bytes.now sheet.now.lines.now env arg }
     ensures { JudgesKey sheet.now.bytes.now env field is_key arg want got result }
@@ -179,10 +185,10 @@ pub fn judge_key(
     if !straight(sheet, env, arg, got) {
         return Err(Refusal::NameNotParam { field, arg });
     }
-    if (want == codes::NAME) & (got != codes::NAME) {
+    if (want == Ty::Name) & (got != Ty::Name) {
         return Err(Refusal::NameWanted { field, arg });
     }
-    if (is_key & (got == codes::NAME)) | compatible(want, got) {
+    if (is_key & (got == Ty::Name)) | compatible(want, got) {
         Ok(())
     } else {
         Err(Refusal::Holds {

@@ -9,7 +9,7 @@ ghost use Rattle.env.specs.Force.{ends_in, env_of, ExprIn, InForce};
 ghost use Rattle.grammar.specs.Kinds as kinds;
 
 use crate::env::Env;
-use grammar::kinds;
+use grammar::Kind;
 use lookups::last_named;
 use sheet::LoadedSheet;
 
@@ -18,10 +18,10 @@ fn is_later(sheet: &LoadedSheet<'_>, env: Env, i: usize, at: usize) -> bool
     requires { InForce sheet.now.bytes.now sheet.now.lines.now env }
     ensures { result ≡ (eqb (kind_at sheet.now.lines.now at) kinds.id && among (name_at sheet.now.bytes.now sheet.now.lines.now at) (later i (ends_in sheet.now.bytes.now env))) }
 {
-    if sheet.kind(at) != kinds::ID {
+    if !sheet.is(at, Kind::Id) {
         return false;
     }
-    match last_named(sheet, kinds::LET, sheet.name(at), env.body, env.bound) {
+    match last_named(sheet, Kind::Let, sheet.name(at), env.body, env.bound) {
         Some(j) => i < sheet.end(j),
         None => false,
     }

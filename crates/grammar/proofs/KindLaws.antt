@@ -1,21 +1,22 @@
 -- Laws of the grammar's tables. Assumes nothing.
-use mathlib.Core.Logic.{◌≢◌}
 use mathlib.Core.Path.{◌≡◌, refl, sym, ◌∙◌}
 use mathlib.Core.List.{List, [], ◌∷◌}
 use mathlib.Core.Bool.{Bool, true, false, cond, ◌&&◌, true≢false}
 use Prim.Native.Nat.{ℕ, zero, suc, ◌+◌, ◌≤◌, ◌<◌}
 use native.Mathlib.Omega.{arith}
-use borrow.Author.Tests.{ltb-true, eqb-true}
+use borrow.Author.Tests.{ltb-true, eqb-true, lt-ltb}
 use lib.Dec.{eqb, ltb}
-use lib.ListN.{length, get_or}
+use lib.ListN.{length, get_or, take, drop}
+use native.Mathlib.Nat.{zero-add}
 use Prim.Native.String.{String}
-use Rattle.std.specs.Prelude.{Option, Some, IfSome}
+use Rattle.std.specs.Prelude.{Option, Some, None, IfSome, slice_get, option_and_then}
 use Rattle.std.specs.Bool.{then_some}
 use Rattle.text.specs.Text.{bytes, ended, same}
-use Rattle.text.specs.Word.{index_in, split}
-use Rattle.text.proofs.Words.{same-is}
+use Rattle.text.specs.Word.{index_in, place_in, split}
+use Rattle.text.proofs.Words.{same-is, place_told}
 use Rattle.grammar.specs.Grammar.{Placed, assign_ops, un_ops, bin_ops, Sort, Contract, Item, Field, Param, Ty, Arg, Clause, Stmt, Expr, records_for, no_kind, first_kind, within, words_of, kind_for}
-use Rattle.grammar.specs.Table.{sort_of, sort_number}
+use Rattle.grammar.specs.Coded.{kind_of, kinds}
+use Rattle.grammar.specs.declared.kinds.Kind.{Kind}
 
 -- the words of a sort's records, as the code has them
 abbrev pub table : Sort → String
@@ -78,8 +79,8 @@ stands ws k (v ∷ vs) (suc i) e h = by_cases (eqb (index_in v ws) k) e (λ f. s
 tried : (ws : List (List ℕ)) → standing ws 0 ws ≡ true → (w v : List ℕ) (k : ℕ) (r : Option ℕ) → r ≡ then_some (same w v) k → get_or ws k [] ≡ v → k < length ws → Placed w ws r
 tried ws o w v k r e h i = record { place = rw e (by_cases (same w v) refl) }
   where
-    by_cases : (t : Bool) → same w v ≡ t → IfSome (then_some t k) (λ k. k ≡ index_in w ws)
-    by_cases true s = rw (same-is w v s, ← h) (omega (arith, stands ws 0 ws k o i))
+    by_cases : (t : Bool) → same w v ≡ t → IfSome (then_some t k) (λ k. Some k ≡ place_in w ws)
+    by_cases true s = rw (place_told w ws, same-is w v s, ← h, stands ws 0 ws k o i, zero-add k, lt-ltb k (length ws) i) refl
     by_cases false s = tt
 
 pub tried_expr : (w v : List ℕ) (k : ℕ) (r : Option ℕ) → r ≡ then_some (same w v) k → get_or (words_of (records_for Expr)) k [] ≡ v → k < length (words_of (records_for Expr))
@@ -92,34 +93,53 @@ unfolding index_in same standing
 tried_bin = tried bin_ops refl
 
 -- The place is known, or looked for in the table.
-pub known : (w : List ℕ) (ws : List (List ℕ)) (r : Option ℕ) (k : ℕ) → Placed w ws r → r ≡ Some k → k ≡ index_in w ws
+pub known : (w : List ℕ) (ws : List (List ℕ)) (r : Option ℕ) (k : ℕ) → Placed w ws r → r ≡ Some k → Some k ≡ place_in w ws
 known w ws r k p e = rw e at p.place
 
-pub looked_expr : (w : List ℕ) (k : ℕ) → k ≡ index_in w (split (bytes (table Expr))) → k ≡ index_in w (words_of (records_for Expr))
-looked_expr w k e = e ∙ rw (words_of_lem Expr)
+pub looked_expr : (w : List ℕ) (r : Option ℕ) → r ≡ place_in w (split (bytes (table Expr))) → r ≡ place_in w (words_of (records_for Expr))
+looked_expr w r e = e ∙ rw (words_of_lem Expr)
 
-pub looked_bin : (w : List ℕ) (k : ℕ) → k ≡ index_in w (split (bytes "or and eq ne lt gt le ge add sub mul div rem shr ")) → k ≡ index_in w bin_ops
-looked_bin w k e = e ∙ rw bin-words
+pub looked_bin : (w : List ℕ) (r : Option ℕ) → r ≡ place_in w (split (bytes "or and eq ne lt gt le ge add sub mul div rem shr ")) → r ≡ place_in w bin_ops
+looked_bin w r e = e ∙ rw bin-words
 
-pub kind_at_lem : (s : Sort) (w : List ℕ) (p r : ℕ) → p ≡ index_in w (words_of (records_for s)) → r ≡ within (first_kind s) (length (records_for s)) p → r ≡ kind_for s w
+get_take : {A : Type 0} (n : ℕ) (xs : List A) (p : ℕ) → p < n → slice_get (take n xs) p ≡ slice_get xs p
+get_take zero xs p h = absurd (omega arith)
+get_take (suc n) [] p h = refl
+get_take (suc n) (x ∷ xs) zero h = refl
+get_take (suc n) (x ∷ xs) (suc p) h = get_take n xs p (omega arith)
+
+get_drop : {A : Type 0} (f : ℕ) (xs : List A) (p : ℕ) → slice_get (drop f xs) p ≡ slice_get xs (f + p)
+get_drop zero xs p = rw (zero-add p)
+get_drop (suc f) [] p = refl
+get_drop (suc f) (x ∷ xs) p = get_drop f xs p ∙ rw (let e : suc f + p ≡ suc (f + p) = omega arith in e)
+
+-- the kinds of the records that may stand where a sort is due
+abbrev pub kinds_for : Sort → List Kind
+kinds_for s = take (length (records_for s)) (drop (first_kind s) kinds)
+
+-- the kind at a word's place among those of its sort
+place_kind : (s : Sort) (w : List ℕ) (r : Option Kind) → length (words_of (records_for s)) ≡ length (records_for s)
+    → r ≡ option_and_then (slice_get (kinds_for s)) (place_in w (words_of (records_for s))) → r ≡ kind_of (kind_for s w)
 unfolding kind_for
-kind_at_lem s w p r f g = g ∙ rw f
+place_kind s w r n e = e ∙ rw (place_told w (words_of (records_for s)), n) (by_cases (index_in w (words_of (records_for s))) _ refl)
+  where
+    by_cases : (i : ℕ) (t : Bool) → ltb i (length (records_for s)) ≡ t
+        → option_and_then (slice_get (kinds_for s)) (then_some t i) ≡ kind_of (cond t (first_kind s + i) no_kind)
+    by_cases i true h = get_take (length (records_for s)) (drop (first_kind s) kinds) i (ltb-true i (length (records_for s)) h) ∙ get_drop (first_kind s) kinds i
+    by_cases i false h = refl
+
+-- the kind of an expression's word, whose place is o
+module _ (w : List ℕ) (o : Option ℕ) (e : o ≡ place_in w (words_of (records_for Expr))) (r : Option Kind) where
+  pub expr_none : o ≡ None → r ≡ None → r ≡ kind_of (kind_for Expr w)
+  expr_none h q = place_kind Expr w r refl (q ∙ rw (← e, h) refl)
+
+  pub expr_some : (p : ℕ) → o ≡ Some p → r ≡ slice_get (kinds_for Expr) p → r ≡ kind_of (kind_for Expr w)
+  expr_some p h q = place_kind Expr w r refl (q ∙ rw (← e, h) refl)
 
 -- an arm of `kind_for`
-pub kind_arm : (s : Sort) (w : List ℕ) (p r : ℕ) → p ≡ index_in w (split (bytes (table s))) → r ≡ within (first_kind s) (length (records_for s)) p → r ≡ kind_for s w
-kind_arm s w p r f g = kind_at_lem s w p r (f ∙ rw (words_of_lem s)) g
-
--- the numbers that have no arm of their own
-pub other_sort : (n : ℕ) → (n ≡ sort_number Contract → ⊥) → (n ≡ sort_number Item → ⊥) → (n ≡ sort_number Field → ⊥) → (n ≡ sort_number Param → ⊥) → (n ≡ sort_number Ty → ⊥) → (n ≡ sort_number Arg → ⊥) → (n ≡ sort_number Clause → ⊥) → (n ≡ sort_number Stmt → ⊥) → sort_of n ≡ Expr
-other_sort zero a b c d e f g h = absurd (a refl)
-other_sort (suc zero) a b c d e f g h = absurd (b refl)
-other_sort (suc (suc zero)) a b c d e f g h = absurd (c refl)
-other_sort (suc (suc (suc zero))) a b c d e f g h = absurd (d refl)
-other_sort (suc (suc (suc (suc zero)))) a b c d e f g h = absurd (e refl)
-other_sort (suc (suc (suc (suc (suc zero))))) a b c d e f g h = absurd (f refl)
-other_sort (suc (suc (suc (suc (suc (suc zero)))))) a b c d e f g h = absurd (g refl)
-other_sort (suc (suc (suc (suc (suc (suc (suc zero))))))) a b c d e f g h = absurd (h refl)
-other_sort (suc (suc (suc (suc (suc (suc (suc (suc n)))))))) a b c d e f g h = refl
+pub kind_arm : (s : Sort) (w : List ℕ) (r : Option Kind) → length (words_of (records_for s)) ≡ length (records_for s)
+    → r ≡ option_and_then (slice_get (kinds_for s)) (place_in w (split (bytes (table s)))) → r ≡ kind_of (kind_for s w)
+kind_arm s w r n e = place_kind s w r n (e ∙ rw (words_of_lem s))
 
 within_most : (k n p : ℕ) → k + n ≤ no_kind → within k n p ≤ no_kind
 within_most k n p h = by_cases (ltb p n) refl
@@ -128,10 +148,10 @@ within_most k n p h = by_cases (ltb p n) refl
     by_cases true e = omega (arith, ltb-true p n e)
     by_cases false e = omega arith
 
--- a kind that isn't `no_kind` is a record's
-pub kind_known : (s : Sort) (w : List ℕ) (k : ℕ) → k ≡ kind_for s w → k ≢ no_kind → k < no_kind
+-- a word's kind is below `no_kind`, or it
+pub kind_most : (s : Sort) (w : List ℕ) → kind_for s w ≤ no_kind
 unfolding kind_for
-kind_known s w k e h = omega (arith, rw (← e) at (within_most (first_kind s) (length (records_for s)) (index_in w (words_of (records_for s))) (room s)))
+kind_most s w = within_most (first_kind s) (length (records_for s)) (index_in w (words_of (records_for s))) (room s)
   where
     room : (s : Sort) → first_kind s + length (records_for s) ≤ no_kind
     room Contract = omega arith

@@ -1,3 +1,4 @@
 pub mod KindLaws
 pub mod TableLaws
 pub mod NameLaws
+pub mod Numbers

@@ -1,8 +1,8 @@
 -- The records of a sheet as tables: of each its word, its fields, its parts, and where it may stand.
-use Rattle.std.specs.Prelude.{ℕ, ◌+◌, cond, List, [], ◌∷◌, ◌++◌, ltb, length, get_or, Option, IfSome, ◌≡◌}
+use Rattle.std.specs.Prelude.{ℕ, ◌+◌, cond, List, [], ◌∷◌, ◌++◌, ltb, length, get_or, Option, Some, IfSome, ◌≡◌}
 use Prim.Native.String.{String}
 use Rattle.text.specs.Text.{bytes}
-use Rattle.text.specs.Word.{index_in}
+use Rattle.text.specs.Word.{index_in, place_in}
 use Rattle.grammar.specs.Kinds as kinds
 
 abbrev pub words : List String → List (List ℕ)
@@ -128,4 +128,4 @@ kind_for s w = within (first_kind s) (length (records_for s)) (index_in w (words
 
 -- r is the place of w among ws, or isn't known
 pub record Placed (w : List ℕ) (ws : List (List ℕ)) (r : Option ℕ) : Type 0 where
-  pub place : IfSome r (λ k. k ≡ index_in w ws)
+  pub place : IfSome r (λ k. Some k ≡ place_in w ws)

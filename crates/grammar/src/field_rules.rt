@@ -1,18 +1,36 @@
-// The rules of a record's fields: `rule_numbers` of specs/Table.antt.
-pub const SPAN: u8 = 1;
+// The rules of a record's fields.
+ghost use Rattle.std.specs.Prelude.{◌≡◌};
+ghost use Rattle.grammar.specs.Coded.{rule_of};
 
-pub const NAME: u8 = 2;
+#[derive(Clone, Copy)]
+pub enum Rule {
+    // SPAN and NSPAN
+    Span,
+    Name,
+    Text,
+    AssignOp,
+    UnaryOp,
+    BinOp,
+    // COUNT and FLAG, with the group of the record's parts that they tell. Parts that a record always has are its first group.
+    Count(usize),
+    Flag(usize),
+}
 
-pub const TEXT: u8 = 3;
-
-pub const ASSIGN_OP: u8 = 4;
-
-pub const UN_OP: u8 = 5;
-
-pub const BIN_OP: u8 = 6;
-
-// A COUNT, and a FLAG, that tells group 0 of a record's parts; for group g the number is g more. Parts that a record always has are its
-// first group.
-pub const COUNT: u8 = 7;
-
-pub const FLAG: u8 = 10;
+impl Rule {
+    // The rule of a number: `rule_numbers` of specs/Table.antt.
+    pub fn of(n: u8) -> Option<Rule>
+        ensures { result ≡ rule_of n }
+    {
+        match n {
+            0 => None,
+            1 => Some(Rule::Span),
+            2 => Some(Rule::Name),
+            3 => Some(Rule::Text),
+            4 => Some(Rule::AssignOp),
+            5 => Some(Rule::UnaryOp),
+            6 => Some(Rule::BinOp),
+            7..=9 => Some(Rule::Count(usize::from(n - 7))),
+            _ => Some(Rule::Flag(usize::from(n - 10))),
+        }
+    }
+}

@@ -1,109 +1,152 @@
 // The records of a sheet, by their words. A record's kind is its place among all of them (specs/Kinds.antt).
-ghost use Rattle.std.specs.Prelude.{◌≡◌, ◌+◌, ◌≤◌};
-ghost use Rattle.grammar.specs.Grammar.{kind_for, no_kind};
-ghost use Rattle.grammar.specs.Grammar.{within as within_of};
-ghost use Rattle.grammar.specs.Table.{sort_of};
+ghost use Rattle.std.specs.Prelude.{◌≡◌, option_and_then, slice_get};
+ghost use Rattle.text.specs.Word.{place_in, split};
+ghost use Rattle.grammar.specs.Grammar.{kind_for};
+ghost use Rattle.grammar.specs.Coded.{kind_number, kind_of, sort_meant};
 
-use crate::sorts;
-use crate::words::index_expr;
-use text::index_in;
+use crate::sorts::Sort;
+use crate::words::expr_kind;
+use text::place_in;
 
-pub const CONTRACT: usize = 0;
-
-pub const STATE: usize = 1;
-
-pub const EVENT: usize = 2;
-
-pub const INVARIANT: usize = 3;
-
-pub const GENESIS: usize = 4;
-
-pub const ENTRY: usize = 5;
-
-pub const FIELD: usize = 6;
-
-pub const PARAM: usize = 7;
-
-pub const TYPE: usize = 8;
-
-pub const NUM: usize = 9;
-
-pub const MOFN: usize = 10;
-
-pub const LIMITS: usize = 11;
-
-pub const DENIES: usize = 12;
-
-pub const MINTS: usize = 13;
-
-pub const AFTER: usize = 14;
-
-pub const GUARD: usize = 15;
-
-pub const LET: usize = 16;
-
-pub const EMIT: usize = 17;
-
-pub const ASSIGN: usize = 18;
-
-pub const DO: usize = 19;
-
-pub const INT: usize = 20;
-
-pub const ID: usize = 21;
-
-pub const DATE: usize = 22;
-
-pub const STR: usize = 23;
-
-pub const CALLER: usize = 24;
-
-pub const NATIVE: usize = 25;
-
-pub const INASSET: usize = 26;
-
-pub const NOW: usize = 27;
-
-pub const UN: usize = 28;
-
-pub const BIN: usize = 29;
-
-pub const DOT: usize = 30;
-
-pub const CALL: usize = 31;
-
-pub const CHECKED: usize = 32;
-
-pub const WRAPPING: usize = 33;
-
-// No record's kind.
-pub const NONE: usize = 34;
-
-#[tactic(auto, using(std::proofs::lemmas::Bool::Decides::nat_tests))]
-fn within(first: usize, n: usize, p: usize) -> usize
-    requires { first + n ≤ no_kind }
-    ensures { result ≡ within_of first n p }
-{
-    if p < n { first + p } else { NONE }
+#[derive(Clone, Copy, PartialEq, Eq)]
+pub enum Kind {
+    Contract,
+    State,
+    Event,
+    Invariant,
+    Genesis,
+    Entry,
+    Field,
+    Param,
+    Type,
+    Num,
+    Mofn,
+    Limits,
+    Denies,
+    Mints,
+    After,
+    Guard,
+    Let,
+    Emit,
+    Assign,
+    Do,
+    Int,
+    Id,
+    Date,
+    Str,
+    Caller,
+    Native,
+    Inasset,
+    Now,
+    Un,
+    Bin,
+    Dot,
+    Call,
+    Checked,
+    Wrapping,
 }
 
-// The kind of the record with this word where a sort is due; NONE where it isn't allowed.
-pub fn kind_for(sort: u8, word: &[u8]) -> usize
-    ensures { result ≡ kind_for (sort_of sort) word.now }
+impl Kind {
+    // Its place among all records.
+    pub fn number(self) -> usize
+        ensures { result ≡ kind_number self }
+    {
+        self as usize
+    }
+
+    // The kind of a number.
+    pub fn of(n: usize) -> Option<Kind>
+        ensures { result ≡ kind_of n }
+    {
+        match n {
+            0 => Some(Kind::Contract),
+            1 => Some(Kind::State),
+            2 => Some(Kind::Event),
+            3 => Some(Kind::Invariant),
+            4 => Some(Kind::Genesis),
+            5 => Some(Kind::Entry),
+            6 => Some(Kind::Field),
+            7 => Some(Kind::Param),
+            8 => Some(Kind::Type),
+            9 => Some(Kind::Num),
+            10 => Some(Kind::Mofn),
+            11 => Some(Kind::Limits),
+            12 => Some(Kind::Denies),
+            13 => Some(Kind::Mints),
+            14 => Some(Kind::After),
+            15 => Some(Kind::Guard),
+            16 => Some(Kind::Let),
+            17 => Some(Kind::Emit),
+            18 => Some(Kind::Assign),
+            19 => Some(Kind::Do),
+            20 => Some(Kind::Int),
+            21 => Some(Kind::Id),
+            22 => Some(Kind::Date),
+            23 => Some(Kind::Str),
+            24 => Some(Kind::Caller),
+            25 => Some(Kind::Native),
+            26 => Some(Kind::Inasset),
+            27 => Some(Kind::Now),
+            28 => Some(Kind::Un),
+            29 => Some(Kind::Bin),
+            30 => Some(Kind::Dot),
+            31 => Some(Kind::Call),
+            32 => Some(Kind::Checked),
+            33 => Some(Kind::Wrapping),
+            _ => None,
+        }
+    }
+}
+
+// The kind at a place, if there is one.
+pub fn kind_at(kinds: &[Kind], place: usize) -> Option<Kind>
+    ensures { result ≡ slice_get kinds.now place }
+{
+    kinds.get(place).copied()
+}
+
+// The kind of the record with this word, where the words of a table are those of some kinds.
+fn kind_in(word: &[u8], table: &[u8], kinds: &[Kind]) -> Option<Kind>
+    ensures { result ≡ option_and_then (slice_get kinds.now) (place_in word.now (split table.now)) }
+{
+    kind_at(kinds, place_in(word, table)?)
+}
+
+// The kind of the record with this word where a sort is due, if it is allowed there.
+pub fn kind_for(sort: Sort, word: &[u8]) -> Option<Kind>
+    ensures { result ≡ kind_of (kind_for (sort_meant sort) word.now) }
 {
     match sort {
-        sorts::CONTRACT => within(CONTRACT, 1, index_in(word, b"contract ")),
-        sorts::ITEM => within(
-            STATE,
-            5,
-            index_in(word, b"state event invariant genesis entry "),
+        Sort::Contract => kind_in(word, b"contract ", &[Kind::Contract]),
+        Sort::Item => kind_in(
+            word,
+            b"state event invariant genesis entry ",
+            &[
+                Kind::State,
+                Kind::Event,
+                Kind::Invariant,
+                Kind::Genesis,
+                Kind::Entry,
+            ],
         ),
-        sorts::FIELD => within(FIELD, 1, index_in(word, b"field ")),
-        sorts::PARAM => within(PARAM, 1, index_in(word, b"param ")),
-        sorts::TY => within(TYPE, 1, index_in(word, b"type ")),
-        sorts::ARG => within(TYPE, 3, index_in(word, b"type num mofn ")),
-        sorts::CLAUSE => within(LIMITS, 4, index_in(word, b"limits denies mints after ")),
-        sorts::STMT => within(GUARD, 5, index_in(word, b"guard let emit assign do ")),
-        _ => within(INT, 14, index_expr(word)),
+        Sort::Field => kind_in(word, b"field ", &[Kind::Field]),
+        Sort::Param => kind_in(word, b"param ", &[Kind::Param]),
+        Sort::Ty => kind_in(word, b"type ", &[Kind::Type]),
+        Sort::Arg => kind_in(
+            word,
+            b"type num mofn ",
+            &[Kind::Type, Kind::Num, Kind::Mofn],
+        ),
+        Sort::Clause => kind_in(
+            word,
+            b"limits denies mints after ",
+            &[Kind::Limits, Kind::Denies, Kind::Mints, Kind::After],
+        ),
+        Sort::Stmt => kind_in(
+            word,
+            b"guard let emit assign do ",
+            &[Kind::Guard, Kind::Let, Kind::Emit, Kind::Assign, Kind::Do],
+        ),
+        Sort::Expr => expr_kind(word),
     }
 }

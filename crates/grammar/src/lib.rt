@@ -1,13 +1,16 @@
-// The records of a sheet: their words, fields and parts, as numbers.
+// The records of a sheet: their words, fields and parts.
 #![tactic(auto)]
 
-pub mod field_rules;
-pub mod kinds;
-pub mod ops;
-pub mod sorts;
+mod field_rules;
+mod kinds;
+mod ops;
+mod sorts;
 mod tables;
 mod words;
 
-pub use kinds::kind_for;
+pub use field_rules::Rule;
+pub use kinds::{Kind, kind_for};
+pub use ops::{AssignOp, BinOp, UnaryOp};
+pub use sorts::Sort;
 pub use tables::{always, fields, part_sort, rule, starts_with_span};
-pub use words::index_bin;
+pub use words::place_of_bin;

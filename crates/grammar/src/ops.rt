@@ -1,38 +1,89 @@
-// The operators: the place of each among those of its record.
-pub const BIN_OR: usize = 0;
+// The operators, each at its place among those of its record.
+ghost use Rattle.std.specs.Prelude.{◌≡◌};
+ghost use Rattle.grammar.specs.Coded.{assign_of, bin_number, bin_of, unary_of};
 
-pub const BIN_AND: usize = 1;
+#[derive(Clone, Copy, PartialEq, Eq)]
+pub enum UnaryOp {
+    Not,
+    Neg,
+}
 
-pub const BIN_EQ: usize = 2;
+#[derive(Clone, Copy, PartialEq, Eq)]
+pub enum BinOp {
+    Or,
+    And,
+    Eq,
+    Ne,
+    Lt,
+    Gt,
+    Le,
+    Ge,
+    Add,
+    Sub,
+    Mul,
+    Div,
+    Rem,
+    Shr,
+}
 
-pub const BIN_NE: usize = 3;
+#[derive(Clone, Copy, PartialEq, Eq)]
+pub enum AssignOp {
+    Set,
+    Add,
+    Sub,
+}
 
-pub const BIN_LT: usize = 4;
+impl UnaryOp {
+    // The operator at a place; the last at every further one.
+    pub fn of(place: usize) -> UnaryOp
+        ensures { result ≡ unary_of place }
+    {
+        match place {
+            0 => UnaryOp::Not,
+            _ => UnaryOp::Neg,
+        }
+    }
+}
 
-pub const BIN_GT: usize = 5;
+impl BinOp {
+    // Its place among those of a `bin`.
+    pub fn number(self) -> usize
+        ensures { result ≡ bin_number self }
+    {
+        self as usize
+    }
 
-pub const BIN_LE: usize = 6;
+    pub fn of(place: usize) -> BinOp
+        ensures { result ≡ bin_of place }
+    {
+        match place {
+            0 => BinOp::Or,
+            1 => BinOp::And,
+            2 => BinOp::Eq,
+            3 => BinOp::Ne,
+            4 => BinOp::Lt,
+            5 => BinOp::Gt,
+            6 => BinOp::Le,
+            7 => BinOp::Ge,
+            8 => BinOp::Add,
+            9 => BinOp::Sub,
+            10 => BinOp::Mul,
+            11 => BinOp::Div,
+            12 => BinOp::Rem,
+            _ => BinOp::Shr,
+        }
+    }
+}
 
-pub const BIN_GE: usize = 7;
-
-pub const BIN_ADD: usize = 8;
-
-pub const BIN_SUB: usize = 9;
-
-pub const BIN_MUL: usize = 10;
-
-pub const BIN_DIV: usize = 11;
-
-pub const BIN_REM: usize = 12;
-
-pub const BIN_SHR: usize = 13;
-
-pub const ASSIGN_SET: usize = 0;
-
-pub const ASSIGN_ADD: usize = 1;
-
-pub const ASSIGN_SUB: usize = 2;
-
-pub const UN_NOT: usize = 0;
-
-pub const UN_NEG: usize = 1;
+impl AssignOp {
+    // `=` at every place that no operator has.
+    pub fn of(place: usize) -> AssignOp
+        ensures { result ≡ assign_of place }
+    {
+        match place {
+            1 => AssignOp::Add,
+            2 => AssignOp::Sub,
+            _ => AssignOp::Set,
+        }
+    }
+}

@@ -1,18 +1,35 @@
-// The sorts of records that may be due: `sort_number` of specs/Table.antt.
-pub const CONTRACT: u8 = 0;
+// The sorts of records that may be due.
+ghost use Rattle.std.specs.Prelude.{◌≡◌};
+ghost use Rattle.grammar.specs.Coded.{sort_from};
 
-pub const ITEM: u8 = 1;
+#[derive(Clone, Copy, PartialEq, Eq)]
+pub enum Sort {
+    Contract,
+    Item,
+    Field,
+    Param,
+    Ty,
+    Arg,
+    Clause,
+    Stmt,
+    Expr,
+}
 
-pub const FIELD: u8 = 2;
-
-pub const PARAM: u8 = 3;
-
-pub const TY: u8 = 4;
-
-pub const ARG: u8 = 5;
-
-pub const CLAUSE: u8 = 6;
-
-pub const STMT: u8 = 7;
-
-pub const EXPR: u8 = 8;
+impl Sort {
+    // The sort of a number: `sort_number` of specs/Table.antt.
+    pub fn of(n: u8) -> Sort
+        ensures { result ≡ sort_from n }
+    {
+        match n {
+            0 => Sort::Contract,
+            1 => Sort::Item,
+            2 => Sort::Field,
+            3 => Sort::Param,
+            4 => Sort::Ty,
+            5 => Sort::Arg,
+            6 => Sort::Clause,
+            7 => Sort::Stmt,
+            _ => Sort::Expr,
+        }
+    }
+}

@@ -1,55 +1,66 @@
 // The fields and parts of each record, by its kind: what specs/Table.antt makes of the grammar.
 // A table is made where it is read: bytes are made in a few instructions, numbers one by one.
 ghost use Rattle.std.specs.Prelude.{◌≡◌, ◌*◌, ◌+◌, ◌<◌, eqb, get_or};
-ghost use Rattle.grammar.specs.Grammar.{no_kind};
+ghost use Rattle.grammar.specs.Coded.{kind_number, rule_of, sort_from};
 ghost use Rattle.grammar.specs.Table.{always_table, length_table, most_fields, most_groups, rule_column, sort_table, span_rule};
 
-use crate::field_rules;
+use crate::field_rules::Rule;
+use crate::kinds::Kind;
+use crate::sorts::Sort;
 
 // The number of fields after the word.
-pub fn fields(kind: usize) -> usize
-    requires { kind < no_kind }
-    ensures { result ≡ get_or length_table kind 0 }
+pub fn fields(kind: Kind) -> usize
+    ensures { result ≡ get_or length_table (kind_number kind) 0 }
 {
-    usize::from(LENGTHS[kind])
+    usize::from(LENGTHS[kind as usize])
 }
 
-// The number of the rule of field j. A table for each field: only the one that is read is made.
-pub fn rule(kind: usize, j: usize) -> u8
-    requires { (kind < no_kind) × (j < most_fields) }
-    ensures { result ≡ get_or (rule_column j) kind 0 }
+// The number of the rule of field j, 0 where there is no such field. A table for each field: only the one that is read is made.
+#[tactic(auto, using(crate::proofs::TableLaws::rule_here))]
+fn rule_number(kind: Kind, j: usize) -> u8
+    requires { j < most_fields }
+    ensures { result ≡ get_or (rule_column j) (kind_number kind) 0 }
 {
     match j {
-        0 => FIRST_RULES[kind],
-        1 => SECOND_RULES[kind],
-        2 => THIRD_RULES[kind],
-        _ => FOURTH_RULES[kind],
+        0 => FIRST_RULES[kind as usize],
+        1 => SECOND_RULES[kind as usize],
+        2 => THIRD_RULES[kind as usize],
+        _ => FOURTH_RULES[kind as usize],
     }
 }
 
-// Whether the first field is a SPAN or NSPAN. Not by `rule`, which is then called from one place and made part of it.
-pub fn starts_with_span(kind: usize) -> bool
-    requires { kind < no_kind }
-    ensures { result ≡ eqb (get_or (rule_column 0) kind 0) span_rule }
+// The rule of field j, if there is such a field.
+pub fn rule(kind: Kind, j: usize) -> Option<Rule>
+    requires { j < most_fields }
+    ensures { result ≡ rule_of (get_or (rule_column j) (kind_number kind) 0) }
 {
-    FIRST_RULES[kind] == field_rules::SPAN
+    Rule::of(rule_number(kind, j))
+}
+
+// Whether the first field is a SPAN or NSPAN. Not by `rule`, which is then called from one place and made part of it.
+pub fn starts_with_span(kind: Kind) -> bool
+    ensures { result ≡ eqb (get_or (rule_column 0) (kind_number kind) 0) span_rule }
+{
+    FIRST_RULES[kind as usize] == SPAN
 }
 
 // The number of parts that the record always has.
-pub fn always(kind: usize) -> usize
-    requires { kind < no_kind }
-    ensures { result ≡ get_or always_table kind 0 }
+pub fn always(kind: Kind) -> usize
+    ensures { result ≡ get_or always_table (kind_number kind) 0 }
 {
-    usize::from(ALWAYS[kind])
+    usize::from(ALWAYS[kind as usize])
 }
 
 // The sort of the parts of group g.
-pub fn part_sort(kind: usize, g: usize) -> u8
-    requires { (kind < no_kind) × (g < most_groups) }
-    ensures { result ≡ get_or sort_table (most_groups * kind + g) 0 }
+pub fn part_sort(kind: Kind, g: usize) -> Sort
+    requires { g < most_groups }
+    ensures { result ≡ sort_from (get_or sort_table (most_groups * kind_number kind + g) 0) }
 {
-    SORTS[MOST_GROUPS * kind + g]
+    Sort::of(SORTS[MOST_GROUPS * kind as usize + g])
 }
+
+// The number of a SPAN or NSPAN.
+const SPAN: u8 = 1;
 
 // How many groups of parts a record has at most.
 const MOST_GROUPS: usize = 3;

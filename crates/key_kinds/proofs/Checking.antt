@@ -35,7 +35,8 @@ use Rattle.refusals.specs.Refusal.{done_of}
 use Rattle.refusals.specs.declared.refusal.Refusal.{Refusal}
 use Rattle.lookups.proofs.Fields.{items_at}
 use Rattle.lookups.proofs.Items.{entries_of, entries_next, entries_other}
-use Rattle.key_kinds.specs.Uses.{keyed_at, call_at, names_at, uses_at, entry_uses, item_uses, MapNamed, kind_of, Noted, KeyMarks, Passed, Judged, OneEntry, InEntry}
+use Rattle.key_kinds.specs.declared.marks.KeyKind.{KeyKind}
+use Rattle.key_kinds.specs.Uses.{keyed_at, call_at, names_at, uses_at, entry_uses, item_uses, MapNamed, kind_of, is_other, Noted, KeyMarks, Passed, Judged, OneEntry, InEntry}
 use Rattle.key_kinds.proofs.Calls.{calls, calls_next, calls_none, entry_calls}
 use Rattle.key_kinds.proofs.Seen.{use_judged, none_judged, passed_start, passed_next, passed_refused, passed_over, all_judged}
 use Rattle.grammar.specs.Kinds as kinds
@@ -110,7 +111,7 @@ module _ (s S : List ℕ) (e i : ℕ) (h : InEntry s S e i) (b : Bool) (eb : b �
   abbrev d : Loaded s S
   d = h.one.entry.loaded
 
-  pub no_call : (ks : List ℕ) → not b ≡ true → Judged s S ks ks (uses_at s S e i) (Ok tt)
+  pub no_call : (ks : List (Option KeyKind)) → not b ≡ true → Judged s S ks ks (uses_at s S e i) (Ok tt)
   unfolding uses_at uses_of
   no_call ks q = none_judged s S ks _ (rw (call-is d h.within, ← eb, not-true b q) refl)
 
@@ -128,7 +129,7 @@ module _ (s S : List ℕ) (e i : ℕ) (h : InEntry s S e i) (b : Bool) (eb : b �
       the_call : call_at s S i ≡ (x, expr_at s (end_at S (suc i))) ∷ []
       the_call = call-is d h.within ∙ rw (← eb, q, ex, two) refl
 
-      pub no_use : (ks : List ℕ) → r ≡ None → Judged s S ks ks (uses_at s S e i) (Ok tt)
+      pub no_use : (ks : List (Option KeyKind)) → r ≡ None → Judged s S ks ks (uses_at s S e i) (Ok tt)
       unfolding uses_at
       no_use ks z = none_judged s S ks _ (rw the_call (not_used _ _ _ (n.keyed ∙ rw z refl)))
 
@@ -136,14 +137,14 @@ module _ (s S : List ℕ) (e i : ℕ) (h : InEntry s S e i) (b : Bool) (eb : b �
         pub mark-within : f < most_lines
         mark-within = omega (arith, (n.field f er).kind.0, h.one.lines.few)
 
-        pub use_fits : (ks ls : List ℕ) (key : ℕ) (v : Bool) (a : Result Unit Refusal) → key ≡ end_at S (i + 1) → v ≡ is_name_key (names_at s e) (expr_at s key) → Noted ks ls f v (i + 2) key a
+        pub use_fits : (ks ls : List (Option KeyKind)) (key : ℕ) (v : Bool) (k : KeyKind) (a : Result Unit Refusal) → key ≡ end_at S (i + 1) → v ≡ is_name_key (names_at s e) (expr_at s key) → k ≡ kind_of v → Noted ks ls f k (i + 2) key a
             → Judged s S ks ls (uses_at s S e i) a
         unfolding uses_at
-        use_fits ks ls key v a ek ev t =
-            let k : end_at S (suc i) ≡ key = sym (ek ∙ ap (end_at S) (add-one i)) in
+        use_fits ks ls key v k a ek ev em t =
+            let at : end_at S (suc i) ≡ key = sym (ek ∙ ap (end_at S) (add-one i)) in
             let y : named_at s (i + 2) ≡ x = rw two (named d (key_at d h.within (sym eb ∙ q)).1) ∙ sym (ex ∙ ap (name_at s S) two) in
-            rw (the_call, one_use (model_in s) (names_at s e) (x, expr_at s (end_at S (suc i))) (n.keyed ∙ rw er refl), k, ← ev)
-            (use_judged d (record { map = x; is_name = v; at = span (expr_at s key) }) f (n.field f er) ks ls (i + 2) key a t mark-within y refl)
+            rw (the_call, one_use (model_in s) (names_at s e) (x, expr_at s (end_at S (suc i))) (n.keyed ∙ rw er refl), at, ← ev)
+            (use_judged d (record { map = x; is_name = v; at = span (expr_at s key) }) f (n.field f er) ks ls (i + 2) key a (rw em at t) mark-within y refl)
 
 -- ------------------------------------------------------------ the lines of an entry
 
@@ -161,12 +162,12 @@ uses-append m names (k ∷ ks) ls = by_cases (is_keyed m k.0) refl (uses-append 
 unfoldable pub left_uses : (s S : List ℕ) → (e at end : ℕ) → List Use
 left_uses s S e at end = uses_of (model_in s) (names_at s e) (calls s S at end)
 
-pub record Walking (s S ks ls : List ℕ) (e end at : ℕ) : Type 0 where
+pub record Walking (s S : List ℕ) (ks ls : List (Option KeyKind)) (e end at : ℕ) : Type 0 where
   pub one : OneEntry s S e
   pub stop : end ≡ end_at S e
   pub passed : Passed s S ks ls (entry_uses s e) (left_uses s S e at end)
 
-pub walk_start : (s S ks : List ℕ) (e end at : ℕ) → OneEntry s S e → end ≡ end_at S e → at ≡ e + 1 → Walking s S ks ks e end at
+pub walk_start : (s S : List ℕ) (ks : List (Option KeyKind)) (e end at : ℕ) → OneEntry s S e → end ≡ end_at S e → at ≡ e + 1 → Walking s S ks ks e end at
 unfolding entry_uses left_uses
 walk_start s S ks e end at h q a =
     rw a
@@ -176,7 +177,7 @@ walk_start s S ks e end at h q a =
       passed = passed_start s S ks _ _ (ap (uses_of (model_in s) (names_at s e)) (entry_calls h.entry ∙ rw (← q, add-one e) refl));
     })
 
-module _ (s S ks ls : List ℕ) (e end at : ℕ) (w : Walking s S ks ls e end at) where
+module _ (s S : List ℕ) (ks ls : List (Option KeyKind)) (e end at : ℕ) (w : Walking s S ks ls e end at) where
   pub walk_over : end ≤ at → Judged s S ks ls (entry_uses s e) (Ok tt)
   unfolding left_uses uses_of
   walk_over h = passed_over s S ks ls _ _ w.passed (ap (uses_of (model_in s) (names_at s e)) (calls_none s S at end h))
@@ -192,7 +193,7 @@ module _ (s S ks ls : List ℕ) (e end at : ℕ) (w : Walking s S ks ls e end at
     turn =
         ap (uses_of (model_in s) (names_at s e)) (calls_next s S at end h ∙ rw (add-one at) refl) ∙ uses-append (model_in s) (names_at s e) (call_at s S at) (calls s S (at + 1) end)
 
-    module _ (ms : List ℕ) (r : Result Unit Refusal) (j : Judged s S ls ms (uses_at s S e at) r) where
+    module _ (ms : List (Option KeyKind)) (r : Result Unit Refusal) (j : Judged s S ls ms (uses_at s S e at) r) where
       pub walk_next : r ≡ Ok tt → Walking s S ks ms e end (at + 1)
       walk_next q = record { one = w.one; stop = w.stop; passed = passed_next s S ks ls _ _ w.passed ms _ _ r turn j q }
 
@@ -201,18 +202,18 @@ module _ (s S ks ls : List ℕ) (e end at : ℕ) (w : Walking s S ks ls e end at
 
 -- ------------------------------------------------------------ items
 
--- What `check_item` meets: an item of the kind k.
-module _ (s S : List ℕ) (i k : ℕ) (ek : k ≡ kind_at S i) where
-  pub no_entry : (ks : List ℕ) → k ≢ kinds.entry → Judged s S ks ks (item_uses s S i) (Ok tt)
+-- What `check_item` meets.
+module _ (s S : List ℕ) (i : ℕ) where
+  pub no_entry : (ks : List (Option KeyKind)) → kind_at S i ≢ kinds.entry → Judged s S ks ks (item_uses s S i) (Ok tt)
   unfolding item_uses
-  no_entry ks q = none_judged s S ks _ (rw (item_uses, ← ek, ne_eqb k kinds.entry q) refl)
+  no_entry ks q = none_judged s S ks _ (rw (item_uses, ne_eqb (kind_at S i) kinds.entry q) refl)
 
-  pub an_entry : FewLines s S → ItemAt s S i → k ≡ kinds.entry → OneEntry s S i
-  an_entry f h q = record { lines = f; entry = record { loaded = f.loaded; within = h.here.within; kind = sym ek ∙ q } }
+  pub an_entry : FewLines s S → ItemAt s S i → kind_at S i ≡ kinds.entry → OneEntry s S i
+  an_entry f h q = record { lines = f; entry = record { loaded = f.loaded; within = h.here.within; kind = q } }
 
-  pub entry-judged : (ks ls : List ℕ) (r : Result Unit Refusal) → k ≡ kinds.entry → Judged s S ks ls (entry_uses s i) r → Judged s S ks ls (item_uses s S i) r
+  pub entry-judged : (ks ls : List (Option KeyKind)) (r : Result Unit Refusal) → kind_at S i ≡ kinds.entry → Judged s S ks ls (entry_uses s i) r → Judged s S ks ls (item_uses s S i) r
   unfolding item_uses
-  entry-judged ks ls r q j = rw (item_uses, ← ek, eq-eqb k kinds.entry q) j
+  entry-judged ks ls r q j = rw (item_uses, eq-eqb (kind_at S i) kinds.entry q) j
 
 -- the uses of an item and those of the items behind it
 item_next : {s S : List ℕ} (m : Model) → m ≡ model_in s → Loaded s S → {i : ℕ} → Here S grammar.Item i → (ts : List Node) → uses m (entries_of (node_at s i ∷ ts)) ≡ item_uses s S i ++ uses m (entries_of ts)
@@ -224,29 +225,29 @@ item_next {s} {S} m em d {i} h ts = by_cases (eqb (kind_at S i) kinds.entry) ref
     by_cases false q = ap (uses m) (entries_other d h ts (eqb-false (kind_at S i) kinds.entry q)) ∙ rw (item_uses, q) refl
 
 -- no use is seen
-no_marks : {s S : List ℕ} → FewLines s S → KeyMarks s S [] (replicate most_lines 0)
-unfolding any kind_of
+no_marks : {s S : List ℕ} → FewLines s S → KeyMarks s S [] (replicate most_lines None)
+unfolding any kind_of is_other
 no_marks {s} {S} f =
     record {
-      size = length-replicate {A = ℕ} most_lines 0;
-      tells = λ u g n. rw (get_or-replicate {A = ℕ} most_lines g 0 0 (omega (arith, n.kind.0, f.few))) (by_cases u.is_name);
+      size = length-replicate {A = Option KeyKind} most_lines None;
+      tells = λ u g n. rw (get_or-replicate {A = Option KeyKind} most_lines g None None (omega (arith, n.kind.0, f.few))) (by_cases u.is_name);
     }
   where
-    by_cases : (b : Bool) → false ≡ eqb 0 (kind_of (not b))
+    by_cases : (b : Bool) → false ≡ is_other (kind_of b) None
     by_cases true = refl
     by_cases false = refl
 
 -- the items that r gives are left, which the marks ls are for
-pub record Items (s S ls : List ℕ) (r : Records) : Type 0 where
+pub record Items (s S : List ℕ) (ls : List (Option KeyKind)) (r : Records) : Type 0 where
   pub lines : FewLines s S
-  pub walk : IterWalk grammar.Item nodes_at (λ ts. Passed s S (replicate most_lines 0) ls (uses (model_in s) (model_in s).entries) (uses (model_in s) (entries_of ts))) s S r
+  pub walk : IterWalk grammar.Item nodes_at (λ ts. Passed s S (replicate most_lines None) ls (uses (model_in s) (model_in s).entries) (uses (model_in s) (entries_of ts))) s S r
 
 -- all of them are judged
-all_items : {s S : List ℕ} (ls : List ℕ) (r : Result Unit Refusal) → FewLines s S → Judged s S (replicate most_lines 0) ls (uses (model_in s) (model_in s).entries) r → Answers (check_key_kinds (model_in s)) (done_of s r)
+all_items : {s S : List ℕ} (ls : List (Option KeyKind)) (r : Result Unit Refusal) → FewLines s S → Judged s S (replicate most_lines None) ls (uses (model_in s) (model_in s).entries) r → Answers (check_key_kinds (model_in s)) (done_of s r)
 unfolding check_key_kinds
-all_items {s} {S} ls r f j = all_judged s S (replicate most_lines 0) ls _ r (no_marks f) j
+all_items {s} {S} ls r f j = all_judged s S (replicate most_lines None) ls _ r (no_marks f) j
 
-pub items_start : (s S : List ℕ) (r : Records) → FewLines s S → r.lines.now ≡ S → r.left ≡ item_count S 0 → r.at ≡ 1 → Items s S (replicate most_lines 0) r
+pub items_start : (s S : List ℕ) (r : Records) → FewLines s S → r.lines.now ≡ S → r.left ≡ item_count S 0 → r.at ≡ 1 → Items s S (replicate most_lines None) r
 items_start s S r f l e a =
     let q = items_at f.loaded in
     record {
@@ -257,7 +258,7 @@ items_start s S r f l e a =
       };
     }
 
-module _ (s S ls : List ℕ) (r : Records) (w : Items s S ls r) where
+module _ (s S : List ℕ) (ls : List (Option KeyKind)) (r : Records) (w : Items s S ls r) where
   pub items_over : r.left ≡ 0 → Answers (check_key_kinds (model_in s)) (done_of s (Ok tt))
   unfolding uses build
   items_over h = all_items ls (Ok tt) w.lines (passed_over s S _ ls _ _ (iter_over records w.walk h) refl)
@@ -272,7 +273,7 @@ module _ (s S ls : List ℕ) (r : Records) (w : Items s S ls r) where
     item_turn : (ts : List Node) → uses (model_in s) (entries_of (node_at s i ∷ ts)) ≡ item_uses s S i ++ uses (model_in s) (entries_of ts)
     item_turn = item_next (model_in s) refl w.lines.loaded here
 
-    module _ (ms : List ℕ) (d : Result Unit Refusal) (j : Judged s S ls ms (item_uses s S i) d) where
+    module _ (ms : List (Option KeyKind)) (d : Result Unit Refusal) (j : Judged s S ls ms (item_uses s S i) d) where
       pub items_next : d ≡ Ok tt → Items s S ms t
       items_next q =
           record {

@@ -1,5 +1,4 @@
 -- The uses seen and their marks: one use, and some behind others. Assumes nothing.
-use mathlib.Core.Logic.{◌≢◌}
 use mathlib.Core.Path.{◌≡◌, refl, sym, ◌∙◌}
 use mathlib.Core.List.{List, [], ◌∷◌, ◌++◌, append_assoc, append-nil}
 use mathlib.Core.Bool.{Bool, true, false, not, ◌&&◌, ◌||◌, beq}
@@ -8,8 +7,8 @@ use native.Mathlib.Omega.{arith}
 use lib.Dec.{eqb}
 use lib.ListN.{get_or, set, length-set}
 use lib.Seq.{get_or-set_same, get_or-set_other}
-use borrow.Author.Tests.{eq-eqb, ne_eqb, eqb-true, eqb-false}
-use Rattle.std.specs.Prelude.{Some, Result, Ok, Err}
+use borrow.Author.Tests.{eqb-true, eqb-false}
+use Rattle.std.specs.Prelude.{Option, Some, None, Result, Ok, Err}
 use Rattle.text.specs.Text.{same}
 use Rattle.text.proofs.Words.{same_self, same-is}
 use Rattle.rules.specs.Text.{Name}
@@ -25,31 +24,50 @@ use Rattle.refusals.specs.declared.refusal.Refusal.{Refusal}
 use Rattle.refusals.specs.declared.refusal.Refusal.TheVariants.{KeyKinds}
 use Rattle.refusals.proofs.Answers.{gives, passes, refuses}
 use Rattle.lookups.proofs.Fields.{one_line, one_name}
-use Rattle.key_kinds.specs.Uses.{kind_of, Noted, KeyMarks, Passed, Judged}
+use Rattle.key_kinds.specs.Uses.{kind_of, is_other, Noted, KeyMarks, Passed, Judged}
 use Rattle.sheet.specs.Line.{most_lines}
+use Rattle.key_kinds.specs.declared.marks.KeyKind.{KeyKind}
+use Rattle.key_kinds.specs.contracts.marks.KeyKind.{the_type}
+use denote.Enum.Bare.{sameb}
+use Rattle.key_kinds.specs.declared.marks.KeyKind.TheVariants.{Named, Other}
 
 -- ------------------------------------------------------------ one mark
 
--- What `note` meets: c is the other mark.
-module _ (ks : List ℕ) (f : ℕ) (b : Bool) (map key c : ℕ) (e : c ≡ kind_of (not b)) where
-  pub note_other : get_or ks f 0 ≡ c → Noted ks ks f b map key (Err (KeyKinds map key))
-  unfolding expected
-  note_other q =
-      record { answer = rw (← e, eq-eqb (get_or ks f 0) c q) refl; marks = λ z. absurd (let w : ◌≡◌ {A = ℕ} 0 1 = cc in omega arith) }
+kinds_differ : (j k : KeyKind) → is_other k (Some j) ≡ not (sameb the_type j k)
+unfolding is_other
+kinds_differ Named Named = refl
+kinds_differ Named Other = refl
+kinds_differ Other Named = refl
+kinds_differ Other Other = refl
 
-  pub note_fine : (v : ℕ) → get_or ks f 0 ≢ c → v ≡ kind_of b → Noted ks (set ks f v) f b map key (Ok tt)
-  unfolding expected
-  note_fine v q ev = record { answer = rw (← e, ne_eqb (get_or ks f 0) c q) refl; marks = λ z. rw ev refl }
+-- What `note` meets: o is what was seen.
+module _ (ks : List (Option KeyKind)) (f : ℕ) (k : KeyKind) (map key : ℕ) (o : Option KeyKind) (e : o ≡ get_or ks f None) where
+  module _ (j : KeyKind) (ej : o ≡ Some j) (b : Bool) (eb : b ≡ not (sameb the_type j k)) where
+    pub note_other : b ≡ true → Noted ks ks f k map key (Err (KeyKinds map key))
+    unfolding expected
+    note_other q =
+        record {
+          answer = rw (← e, ej, kinds_differ j k, ← eb, q) refl;
+          marks = λ z. absurd (let w : ◌≡◌ {A = ℕ} 0 1 = cc in omega arith);
+        }
+
+    pub note_same : b ≡ false → Noted ks (set ks f (Some k)) f k map key (Ok tt)
+    unfolding expected
+    note_same q = record { answer = rw (← e, ej, kinds_differ j k, ← eb, q) refl; marks = λ z. refl }
+
+  pub note_first : o ≡ None → Noted ks (set ks f (Some k)) f k map key (Ok tt)
+  unfolding expected is_other
+  note_first q = record { answer = rw (← e, q) refl; marks = λ z. refl }
 
 -- ------------------------------------------------------------ one use
 
--- a mark that is not the other one, before and after it is put
-cells : (a b : Bool) (k : ℕ) → eqb k (kind_of (not b)) ≡ false → (not (beq a b) || eqb k (kind_of (not a))) ≡ eqb (kind_of b) (kind_of (not a))
-unfolding kind_of
-cells true true k e = e
-cells true false k e = refl
-cells false true k e = refl
-cells false false k e = e
+-- what was seen, before and after a use of the same kind
+cells : (a b : Bool) (o : Option KeyKind) → is_other (kind_of b) o ≡ false → (not (beq a b) || is_other (kind_of a) o) ≡ is_other (kind_of a) (Some (kind_of b))
+unfolding kind_of is_other
+cells true true o e = e
+cells true false o e = refl
+cells false true o e = refl
+cells false false o e = e
 
 module _ {s S : List ℕ} (d : Loaded s S) (u : Use) (f : ℕ) (n : FieldNamed s S u.map (Some f)) where
   -- two names are the same where their fields are
@@ -65,8 +83,8 @@ module _ {s S : List ℕ} (d : Loaded s S) (u : Use) (f : ℕ) (n : FieldNamed s
           absurd (eqb-false g f p (one_line d a n))
       by_cases false p false q = refl
 
-  put_use : (seen : List Use) (ks : List ℕ) → f < most_lines → KeyMarks s S seen ks → eqb (get_or ks f 0) (kind_of (not u.is_name)) ≡ false
-      → KeyMarks s S (u ∷ seen) (set ks f (kind_of u.is_name))
+  put_use : (seen : List Use) (ks : List (Option KeyKind)) → f < most_lines → KeyMarks s S seen ks → is_other (kind_of u.is_name) (get_or ks f None) ≡ false
+      → KeyMarks s S (u ∷ seen) (set ks f (Some (kind_of u.is_name)))
   unfolding any differs
   put_use seen ks h k e =
       record {
@@ -75,15 +93,15 @@ module _ {s S : List ℕ} (d : Loaded s S) (u : Use) (f : ℕ) (n : FieldNamed s
       }
     where
       by_cases : (v : Use) (g : ℕ) (t : Bool) → eqb g f ≡ t
-          → ((t && not (beq v.is_name u.is_name)) || eqb (get_or ks g 0) (kind_of (not v.is_name))) ≡ eqb (get_or (set ks f (kind_of u.is_name)) g 0) (kind_of (not v.is_name))
+          → ((t && not (beq v.is_name u.is_name)) || is_other (kind_of v.is_name) (get_or ks g None)) ≡ is_other (kind_of v.is_name) (get_or (set ks f (Some (kind_of u.is_name))) g None)
       by_cases v g true q =
-          rw (eqb-true g f q, get_or-set_same ks f (kind_of u.is_name) 0 (omega (arith, h, k.size))) (cells v.is_name u.is_name (get_or ks f 0) e)
-      by_cases v g false q = rw (get_or-set_other ks f g (kind_of u.is_name) 0 (eqb-false g f q)) refl
+          rw (eqb-true g f q, get_or-set_same ks f (Some (kind_of u.is_name)) None (omega (arith, h, k.size))) (cells v.is_name u.is_name (get_or ks f None) e)
+      by_cases v g false q = rw (get_or-set_other ks f g (Some (kind_of u.is_name)) None (eqb-false g f q)) refl
 
   -- What `check_use` meets: the answer of `note` to this use.
-  module _ (ks ls : List ℕ) (map key : ℕ) (r : Result Unit Refusal) (w : Noted ks ls f u.is_name map key r) (h : f < most_lines) (ex : named_at s map ≡ u.map) (ey : span (expr_at s key) ≡ u.at) where
+  module _ (ks ls : List (Option KeyKind)) (map key : ℕ) (r : Result Unit Refusal) (w : Noted ks ls f (kind_of u.is_name) map key r) (h : f < most_lines) (ex : named_at s map ≡ u.map) (ey : span (expr_at s key) ≡ u.at) where
     abbrev other : Bool
-    other = eqb (get_or ks f 0) (kind_of (not u.is_name))
+    other = is_other (kind_of u.is_name) (get_or ks f None)
 
     not_fine : other ≡ true → r ≡ Err (KeyKinds map key)
     unfolding expected
@@ -121,19 +139,19 @@ module _ {s S : List ℕ} (d : Loaded s S) (u : Use) (f : ℕ) (n : FieldNamed s
 -- ------------------------------------------------------------ some uses behind others
 
 module _ (s S : List ℕ) where
-  pub passed_start : (ks : List ℕ) (all left : List Use) → all ≡ left → Passed s S ks ks all left
+  pub passed_start : (ks : List (Option KeyKind)) (all left : List Use) → all ≡ left → Passed s S ks ks all left
   passed_start ks all left e = record { passed = λ seen k. (seen, k, λ us r a. rw e a) }
 
-  pub none_judged : (ks : List ℕ) (all : List Use) → all ≡ [] → Judged s S ks ks all (Ok tt)
+  pub none_judged : (ks : List (Option KeyKind)) (all : List Use) → all ≡ [] → Judged s S ks ks all (Ok tt)
   none_judged ks all e =
       record { fine = λ q. passed_start ks all [] e; stops = λ why q. absurd (let z : ◌≡◌ {A = ℕ} 0 1 = cc in omega arith) }
 
-  module _ (ks ls : List ℕ) (all left : List Use) (p : Passed s S ks ls all left) where
+  module _ (ks ls : List (Option KeyKind)) (all left : List Use) (p : Passed s S ks ls all left) where
     pub passed_over : left ≡ [] → Judged s S ks ls all (Ok tt)
     passed_over e =
         record { fine = λ q. rw e at p; stops = λ why q. absurd (let z : ◌≡◌ {A = ℕ} 0 1 = cc in omega arith) }
 
-    module _ (ms : List ℕ) (here rest : List Use) (r : Result Unit Refusal) (e : left ≡ here ++ rest) (j : Judged s S ls ms here r) where
+    module _ (ms : List (Option KeyKind)) (here rest : List Use) (r : Result Unit Refusal) (e : left ≡ here ++ rest) (j : Judged s S ls ms here r) where
       pub passed_next : r ≡ Ok tt → Passed s S ks ms all rest
       passed_next q =
           record {
@@ -154,7 +172,7 @@ module _ (s S : List ℕ) where
           }
 
   -- all of them
-  pub all_judged : (ks ls : List ℕ) (all : List Use) (r : Result Unit Refusal) → KeyMarks s S [] ks → Judged s S ks ls all r → Answers (check_uses [] all) (done_of s r)
+  pub all_judged : (ks ls : List (Option KeyKind)) (all : List Use) (r : Result Unit Refusal) → KeyMarks s S [] ks → Judged s S ks ls all r → Answers (check_uses [] all) (done_of s r)
   unfolding done_of check_uses
   all_judged ks ls all (Ok tt) k j =
       rw (← append-nil all) (((j.fine refl).passed [] k).2 [] (ok tt) (gives tt))

@@ -1,5 +1,5 @@
 -- The uses of maps line by line, and the marks that the code keeps of them.
-use Rattle.std.specs.Prelude.{ℕ, suc, ◌<◌, Bool, true, false, cond, not, ◌&&◌, List, [], ◌∷◌, ◌++◌, ◌≡◌, eqb, length, get_or, set, Option, Some, Result, Ok, Err, is_some}
+use Rattle.std.specs.Prelude.{ℕ, suc, ◌<◌, Bool, true, false, cond, not, ◌&&◌, List, [], ◌∷◌, ◌++◌, ◌≡◌, eqb, length, get_or, set, Option, Some, None, Result, Ok, Err, is_some}
 use Rattle.sheet.specs.Scratch.{kind_at, end_at, name_at, line_count, call_arg_count}
 use Rattle.rules.specs.Text.{Name, is_one}
 use Rattle.rules.specs.Asking.{Res, refused}
@@ -13,6 +13,8 @@ use Rattle.lookups.specs.Lines.{FewLines, EntryAt}
 use Rattle.refusals.specs.Refusal.{refusal_of}
 use Rattle.refusals.specs.declared.refusal.Refusal.{Refusal}
 use Rattle.refusals.specs.declared.refusal.Refusal.TheVariants.{KeyKinds}
+use Rattle.key_kinds.specs.declared.marks.KeyKind.{KeyKind}
+use Rattle.key_kinds.specs.declared.marks.KeyKind.TheVariants.{Named, Other}
 use Rattle.grammar.specs.Kinds as kinds
 use Rattle.sheet.specs.Line.{most_lines}
 
@@ -49,28 +51,36 @@ pub record MapNamed (s S : List ℕ) (x : Name) (r : Option ℕ) : Type 0 where
 
 -- ------------------------------------------------------------ marks
 
--- the mark of a map that is keyed by a name, or not
-unfoldable pub kind_of : Bool → ℕ
-kind_of true = 1
-kind_of false = 2
+-- a map's keys are names, or not
+unfoldable pub kind_of : Bool → KeyKind
+kind_of true = Named
+kind_of false = Other
 
--- a map of the other mark is refused, else the mark is put
-pub record Noted (ks ls : List ℕ) (f : ℕ) (b : Bool) (map key : ℕ) (r : Result Unit Refusal) : Type 0 where
-  pub answer : r ≡ expected (not (eqb (get_or ks f 0) (kind_of (not b)))) (KeyKinds map key)
-  pub marks : r ≡ Ok tt → ls ≡ set ks f (kind_of b)
+-- what was seen is of the other kind
+unfoldable pub is_other : KeyKind → Option KeyKind → Bool
+is_other k None = false
+is_other Named (Some Named) = false
+is_other Named (Some Other) = true
+is_other Other (Some Named) = true
+is_other Other (Some Other) = false
+
+-- a map of the other kind is refused, else the kind is put
+pub record Noted (ks ls : List (Option KeyKind)) (f : ℕ) (k : KeyKind) (map key : ℕ) (r : Result Unit Refusal) : Type 0 where
+  pub answer : r ≡ expected (not (is_other k (get_or ks f None))) (KeyKinds map key)
+  pub marks : r ≡ Ok tt → ls ≡ set ks f (Some k)
 
 -- the marks tell of each map whether a use of the other kind was seen
-pub record KeyMarks (s S : List ℕ) (seen : List Use) (ks : List ℕ) : Type 0 where
+pub record KeyMarks (s S : List ℕ) (seen : List Use) (ks : List (Option KeyKind)) : Type 0 where
   pub size : length ks ≡ most_lines
-  pub tells : (u : Use) (f : ℕ) → FieldNamed s S u.map (Some f) → any (differs u) seen ≡ eqb (get_or ks f 0) (kind_of (not u.is_name))
+  pub tells : (u : Use) (f : ℕ) → FieldNamed s S u.map (Some f) → any (differs u) seen ≡ is_other (kind_of u.is_name) (get_or ks f None)
 
 -- with the marks from ks to ls, some uses are fine up to those that are left
-pub record Passed (s S ks ls : List ℕ) (all left : List Use) : Type 0 where
+pub record Passed (s S : List ℕ) (ks ls : List (Option KeyKind)) (all left : List Use) : Type 0 where
   pub passed : (seen : List Use) → KeyMarks s S seen ks
       → (seen' : List Use) × KeyMarks s S seen' ls × ((us : List Use) (r : Res Unit) → Answers (check_uses seen' (left ++ us)) r → Answers (check_uses seen (all ++ us)) r)
 
 -- the answer to some uses, whatever comes behind them
-pub record Judged (s S ks ls : List ℕ) (all : List Use) (r : Result Unit Refusal) : Type 0 where
+pub record Judged (s S : List ℕ) (ks ls : List (Option KeyKind)) (all : List Use) (r : Result Unit Refusal) : Type 0 where
   pub fine : r ≡ Ok tt → Passed s S ks ls all []
   pub stops : (why : Refusal) → r ≡ Err why → (seen us : List Use) → KeyMarks s S seen ks → Answers (check_uses seen (all ++ us)) (refused (refusal_of s why))
 

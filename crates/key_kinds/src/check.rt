@@ -8,15 +8,15 @@ ghost use Rattle.refusals.specs.Refusal.{done_of};
 ghost use Rattle.key_kinds.specs.Uses.{InEntry, Judged, OneEntry, entry_uses, item_uses, uses_at};
 
 use crate::keyed::{is_keyed_call, is_name_key, map_named};
-use crate::marks::note;
-use grammar::kinds;
+use crate::marks::{KeyKind, Marks, note};
+use grammar::Kind;
 use refusals::Refusal;
 use sheet::{LoadedSheet, item_count, limits};
 
 // The use at line at of an entry, where there is one.
 fn check_use(
     sheet: &LoadedSheet<'_>,
-    marks: &mut [u8; limits::MOST_LINES],
+    marks: &mut Marks,
     entry: usize,
     at: usize,
 ) -> Result<(), Refusal>
@@ -30,16 +30,12 @@ fn check_use(
         return Ok(());
     };
     let key = sheet.end(at + 1);
-    let named = is_name_key(sheet, entry, key);
-    note(marks, field, named, at + 2, key)
+    let kind = KeyKind::of(is_name_key(sheet, entry, key));
+    note(marks, field, kind, at + 2, key)
 }
 
 // The uses of an entry, in the order of its lines: an expression stands before its parts.
-fn check_entry(
-    sheet: &LoadedSheet<'_>,
-    marks: &mut [u8; limits::MOST_LINES],
-    entry: usize,
-) -> Result<(), Refusal>
+fn check_entry(sheet: &LoadedSheet<'_>, marks: &mut Marks, entry: usize) -> Result<(), Refusal>
     requires { OneEntry sheet.now.bytes.now sheet.now.lines.now entry }
     ensures { Judged sheet.now.bytes.now sheet.now.lines.now marks.old marks.new (entry_uses sheet.now.bytes.now entry) result }
 {
@@ -49,16 +45,12 @@ fn check_entry(
     Ok(())
 }
 
-fn check_item(
-    sheet: &LoadedSheet<'_>,
-    marks: &mut [u8; limits::MOST_LINES],
-    item: usize,
-) -> Result<(), Refusal>
+fn check_item(sheet: &LoadedSheet<'_>, marks: &mut Marks, item: usize) -> Result<(), Refusal>
     requires few_lines { FewLines sheet.now.bytes.now sheet.now.lines.now }
     requires item_at { ItemAt sheet.now.bytes.now sheet.now.lines.now item }
     ensures { Judged sheet.now.bytes.now sheet.now.lines.now marks.old marks.new (item_uses sheet.now.bytes.now sheet.now.lines.now item) result }
 {
-    if sheet.kind(item) != kinds::ENTRY {
+    if !sheet.is(item, Kind::Entry) {
         return Ok(());
     }
     check_entry(sheet, marks, item)
@@ -68,7 +60,7 @@ pub fn check_key_kinds(sheet: &LoadedSheet<'_>) -> Result<(), Refusal>
     requires { FewLines sheet.now.bytes.now sheet.now.lines.now }
     ensures { Answers (check_key_kinds (model_in sheet.now.bytes.now)) (done_of sheet.now.bytes.now result) }
 {
-    let mut marks = [0u8; limits::MOST_LINES];
+    let mut marks: Marks = [None; limits::MOST_LINES];
     for item in sheet.records(1, item_count(sheet.lines, 0)) {
         check_item(sheet, &mut marks, item)?;
     }

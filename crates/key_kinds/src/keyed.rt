@@ -8,25 +8,25 @@ ghost use Rattle.rules.specs.Text.{is};
 ghost use Rattle.lookups.specs.Lines.{EntryAt, ExprAt};
 ghost use Rattle.key_kinds.specs.Uses.{MapNamed, keyed_at, names_at};
 
-use grammar::kinds;
+use grammar::Kind;
 use lookups::field_named;
 use sheet::{LoadedSheet, call_arg_count, param_count};
-use text::{index_in, is_word};
+use text::{is_word, place_in};
 
 // Whether line at is a call of a map's method with a key.
 pub fn is_keyed_call(sheet: &LoadedSheet<'_>, at: usize) -> bool
     requires { at < line_count sheet.now.lines.now }
     ensures { result ≡ keyed_at sheet.now.bytes.now sheet.now.lines.now at }
 {
-    if sheet.kind(at) != kinds::CALL {
+    if !sheet.is(at, Kind::Call) {
         return false;
     }
-    let of_name = (sheet.kind(at + 1) == kinds::DOT) & (sheet.kind(at + 2) == kinds::ID);
+    let of_name = sheet.is(at + 1, Kind::Dot) & sheet.is(at + 2, Kind::Id);
     if (call_arg_count(sheet.lines, at) == 0) | !of_name {
         return false;
     }
     let method = sheet.name(at + 1);
-    index_in(method, b"set get contains insert remove credit debit ") < 7
+    place_in(method, b"set get contains insert remove credit debit ").is_some()
 }
 
 // The line of the Map or Registry of the name x.
@@ -35,7 +35,7 @@ pub fn map_named(sheet: &LoadedSheet<'_>, x: &[u8]) -> Option<usize>
 {
     let field = field_named(sheet, x)?;
     let word = sheet.name(field + 1);
-    (index_in(word, b"Map Registry ") < 2).then_some(field)
+    (is_word(word, b"Map") | is_word(word, b"Registry")).then_some(field)
 }
 
 // Whether the parameter at a line has the name x and is a Q_Name.
@@ -52,7 +52,7 @@ pub fn is_name_key(sheet: &LoadedSheet<'_>, entry: usize, key: usize) -> bool
     requires key_at { ExprAt sheet.now.bytes.now sheet.now.lines.now key }
     ensures { result ≡ is_name_key (names_at sheet.now.bytes.now entry) (expr_at sheet.now.bytes.now key) }
 {
-    if sheet.kind(key) != kinds::ID {
+    if !sheet.is(key, Kind::Id) {
         return false;
     }
     let x = sheet.name(key);

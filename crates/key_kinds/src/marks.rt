@@ -1,4 +1,4 @@
-// What keys each map, marked at its field's line: 0 where no use was seen, 1 a name, 2 anything else. `HashMap` becomes an array.
+// What keys each map, by the line of its field. `HashMap` becomes an array.
 ghost use Rattle.std.specs.Prelude.{◌≡◌, ◌<◌};
 ghost use Rattle.key_kinds.specs.Uses.{Noted, kind_of};
 ghost use Rattle.sheet.specs.Line.{most_lines};
@@ -6,26 +6,45 @@ ghost use Rattle.sheet.specs.Line.{most_lines};
 use refusals::Refusal;
 use sheet::limits;
 
-fn kind_of(named: bool) -> u8
-    ensures { result ≡ kind_of named }
-{
-    if named { 1 } else { 2 }
+// Whether a key is a name, that is, a Q_Name parameter.
+#[derive(Clone, Copy, PartialEq, Eq)]
+pub enum KeyKind {
+    Named,
+    Other,
+}
+
+// The kind of the keys seen, by the line of the map's field; None where no use was seen.
+pub type Marks = [Option<KeyKind>; limits::MOST_LINES];
+
+impl KeyKind {
+    #[tactic(auto, unfolding(crate::specs::Uses::kind_of))]
+    pub fn of(named: bool) -> KeyKind
+        ensures { result ≡ kind_of named }
+    {
+        if named {
+            KeyKind::Named
+        } else {
+            KeyKind::Other
+        }
+    }
 }
 
 // A use of the map that the field declares: refused where a use before it was of the other kind.
 pub fn note(
-    marks: &mut [u8; limits::MOST_LINES],
+    marks: &mut Marks,
     field: usize,
-    named: bool,
+    kind: KeyKind,
     map: usize,
     key: usize,
 ) -> Result<(), Refusal>
     requires { field < most_lines }
-    ensures { Noted marks.old marks.new field named map key result }
+    ensures { Noted marks.old marks.new field kind map key result }
 {
-    if marks[field] == kind_of(!named) {
-        return Err(Refusal::KeyKinds { map, key });
+    if let Some(seen) = marks[field] {
+        if seen != kind {
+            return Err(Refusal::KeyKinds { map, key });
+        }
     }
-    marks[field] = kind_of(named);
+    marks[field] = Some(kind);
     Ok(())
 }

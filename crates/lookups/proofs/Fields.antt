@@ -113,18 +113,18 @@ its_fields : {s S : List ℕ} {i : ℕ} (t : Stands s S i) → t.line.kind ≡ k
 unfolding item_fields
 its_fields t e = rw (t.here, item_fields, e) refl
 
-module _ (s S : List ℕ) (i : ℕ) (h : ItemAt s S i) (k : ℕ) (e : k ≡ kind_at S i) where
+module _ (s S : List ℕ) (i : ℕ) (h : ItemAt s S i) where
   abbrev t : Stands s S i
   t = stands h.loaded i h.here.within
 
-  kind_is : t.line.kind ≡ k
-  kind_is = sym (e ∙ t.says.kind)
+  kind_is : t.line.kind ≡ kind_at S i
+  kind_is = sym t.says.kind
 
-  pub not_state : k ≢ kinds.state → item_fields (node_at s i) ≡ []
+  pub not_state : kind_at S i ≢ kinds.state → item_fields (node_at s i) ≡ []
   unfolding node_kind
   not_state q = no_fields (node_at s i) (rw (t.here, kind_is) q)
 
-  pub of_state : (m j : ℕ) → k ≡ kinds.state → m ≡ field_count S i → j ≡ i + 1 → (item_fields (node_at s i) ≡ nodes_at s m j) × Row S grammar.Field m j
+  pub of_state : (m j : ℕ) → kind_at S i ≡ kinds.state → m ≡ field_count S i → j ≡ i + 1 → (item_fields (node_at s i) ≡ nodes_at s m j) × Row S grammar.Field m j
   of_state m j q c y =
       let p = parts t.line kinds.state t.parted (kind_is ∙ q) in
       let o = group h.loaded h.here.within grammar.Field p.0 p.1 in
@@ -132,14 +132,14 @@ module _ (s S : List ℕ) (i : ℕ) (h : ItemAt s S i) (k : ℕ) (e : k ≡ kind
       let b : m ≡ p.0 = c ∙ o.3 in
       rw (z, b) (its_fields t (kind_is ∙ q) ∙ o.0, o.2)
 
-module _ (s S : List ℕ) (x : Name) (i : ℕ) (f : Option ℕ) (h : ItemAt s S i) (k : ℕ) (e : k ≡ kind_at S i) where
-  pub other : k ≢ kinds.state → Newest s S x i f f
+module _ (s S : List ℕ) (x : Name) (i : ℕ) (f : Option ℕ) (h : ItemAt s S i) where
+  pub other : kind_at S i ≢ kinds.state → Newest s S x i f f
   unfolding last_named or_else
-  other q = record { found = rw (not_state s S i h k e q) refl; kind = λ o. o }
+  other q = record { found = rw (not_state s S i h q) refl; kind = λ o. o }
 
-  module _ (m j : ℕ) (q : k ≡ kinds.state) (c : m ≡ field_count S i) (y : j ≡ i + 1) where
+  module _ (m j : ℕ) (q : kind_at S i ≡ kinds.state) (c : m ≡ field_count S i) (y : j ≡ i + 1) where
     abbrev g : (item_fields (node_at s i) ≡ nodes_at s m j) × Row S grammar.Field m j
-    g = of_state s S i h k e m j q c y
+    g = of_state s S i h m j q c y
 
     pub fields_behind : Stretch s S m j
     fields_behind = record { loaded = h.loaded; sort = grammar.Field; row = g.1 }
@@ -198,8 +198,8 @@ module _ (s S : List ℕ) (x : Name) (m i : ℕ) (r : Records) (f : Option ℕ) 
         }
 
     -- an item that is no state
-    pub fields-skip : (k : ℕ) → k ≡ kind_at S at → k ≢ kinds.state → FieldsGoing s S x m i t f
-    fields-skip k e n = fields_turn f (other s S x at f fields_item k e n)
+    pub fields-skip : kind_at S at ≢ kinds.state → FieldsGoing s S x m i t f
+    fields-skip n = fields_turn f (other s S x at f fields_item n)
 
   pub fields_over : r.left ≡ 0 → FieldsNamed s S x m i f
   unfolding last_named or_else field_named model_at

@@ -1,7 +1,7 @@
 -- Tables of words. Assumes nothing.
-use mathlib.Core.Path.{◌≡◌, refl, sym, ◌∙◌}
+use mathlib.Core.Path.{◌≡◌, refl, sym, ap, ◌∙◌}
 use mathlib.Core.List.{List, [], ◌∷◌, ◌++◌, map}
-use mathlib.Core.Bool.{Bool, true, false, cond}
+use mathlib.Core.Bool.{Bool, true, false, cond, ◌||◌}
 use Prim.Native.Nat.{ℕ, suc, ◌+◌, ◌≤◌}
 use Prim.Native.String.{String}
 use native.Mathlib.Omega.{arith}
@@ -9,7 +9,10 @@ use lib.Dec.{ltb, leb-suc-suc}
 use lib.ListN.{length, get_or}
 use borrow.Author.Tests.{lt-ltb}
 use Rattle.text.specs.Text.{bytes, same}
-use Rattle.text.specs.Word.{index_in}
+use Rattle.std.specs.Bool.{then_some}
+use Rattle.std.specs.Prelude.{Option, is_some}
+use Rattle.text.specs.Word.{index_in, place_in}
+use Rattle.text.proofs.Words.{place_told}
 use Rattle.grammar.specs.Grammar.{words}
 use Rattle.rules.specs.Text.{Name, is, is_one, pick}
 
@@ -66,3 +69,25 @@ one_place x (w ∷ ws) = by_cases (same x (bytes w)) (one_place x ws)
     by_cases false h =
         let p = index_in x (words ws) in
         h ∙ sym (rw (let q : 1 + p ≡ suc p = omega arith in q) (leb-suc-suc (suc p) (length ws)))
+
+words-count : (ws : List String) → length (words ws) ≡ length ws
+words-count [] = refl
+words-count (w ∷ ws) = ap suc (words-count ws)
+
+-- ... and there is such a place
+pub one_found : (x : Name) (ws : List String) (o : Option ℕ) → o ≡ place_in x (words ws) → is_some o ≡ is_one x ws
+one_found x ws o e = rw (e, place_told x (words ws), words-count ws, one_place x ws) (by_cases (ltb (index_in x (words ws)) (length ws)) (index_in x (words ws)))
+  where
+    by_cases : (b : Bool) (p : ℕ) → is_some (then_some b p) ≡ b
+    by_cases true p = refl
+    by_cases false p = refl
+
+-- one of two words
+pub either_word : (x : Name) (v w : String) → is_one x (v ∷ w ∷ []) ≡ (is x v || is x w)
+unfolding is_one
+either_word x v w = by_cases (is x v) (is x w)
+  where
+    by_cases : (a b : Bool) → elim a as (λ _. Bool) [ true ↦ true | false ↦ elim b as (λ _. Bool) [ true ↦ true | false ↦ false ] ] ≡ (a || b)
+    by_cases true b = refl
+    by_cases false true = refl
+    by_cases false false = refl

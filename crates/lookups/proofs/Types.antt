@@ -2,14 +2,19 @@
 use mathlib.Core.Path.{◌≡◌, refl, sym, ap, ◌∙◌}
 use mathlib.Core.Logic.{◌≢◌}
 use mathlib.Core.List.{List, [], ◌∷◌, ◌++◌, map, append-nil}
-use mathlib.Core.Bool.{Bool}
+use mathlib.Core.Bool.{Bool, true, false}
 use mathlib.Core.Option.{none, some}
 use Prim.Native.Nat.{ℕ, zero, suc, ◌-◌, ◌<◌, ◌≤◌}
 use Prim.Native.String.{String}
 use native.Mathlib.Omega.{arith}
-use lib.ListN.{length, get_or, get_elem?}
+use lib.ListN.{length, get_or, get_elem?, get_or-eq_default}
 use Rattle.text.specs.Text.{bytes, same, ended}
-use Rattle.text.specs.Word.{index_in, split}
+use Rattle.text.specs.Word.{index_in, place_in, split}
+use Rattle.text.proofs.Words.{place_told}
+use Rattle.std.specs.Prelude.{Option, Some, None}
+use Rattle.std.specs.Bool.{then_some}
+use borrow.Author.Tests.{ltb-true, ltb-false}
+use lib.Dec.{ltb}
 use Rattle.grammar.specs.Grammar as grammar
 use Rattle.sheet.specs.Load.{sorts}
 use Rattle.sheet.specs.Line.{Line}
@@ -18,7 +23,8 @@ use Rattle.sheet.proofs.Due.{length-copies}
 use Rattle.sheet.specs.Scratch.{name_at, kind_at, skip, type_arg_count}
 use Rattle.rules.specs.Text.{Name, is}
 use Rattle.rules.specs.Ast.{Arg, of_type, of_int, m_of_n, arg_list, type_name, type_of, arg_of, args_of, args, nodes}
-use Rattle.rules.specs.Asking.{Ty, Int, Boolean, Address, Asset, Word64, TName, Time, Collection, Unknown, code}
+use Rattle.rules.specs.declared.ty.Ty.{Ty}
+use Rattle.rules.specs.declared.ty.Ty.TheVariants.{Int, Boolean, Address, Asset, Word64, Name as TName, Time, Collection, Unknown}
 use Rattle.rules.specs.Types.{is_integer_type, ty_of_name, ty_of_decl, ty_of_arg, declared_arg}
 use Rattle.rules.specs.Standing.{type_at, arg_at, nodes_at, Loaded, Here, Row}
 use Rattle.rules.proofs.Parts.{stop, ◌also◌, pick, parts}
@@ -26,11 +32,10 @@ use Rattle.rules.proofs.Places.{there_or_not, no_kind_lem, named_at_lem, type-na
 use Rattle.rules.proofs.Records.{no_nodes}
 use Rattle.rules.proofs.Rows.{Listed}
 use Rattle.rules.proofs.Standing.{stands, beyond as no_record, nodes_next, parts_behind, row_behind, row_nth, node_nth, nodes-length}
-use Rattle.lookups.specs.Named.{named_codes}
+use Rattle.lookups.specs.Named.{named_types}
 use Rattle.lookups.specs.Lines.{TypeAt}
-use Rattle.lookups.proofs.Tables.{words_in, values_in, place_most, pick_place, one_of}
+use Rattle.lookups.proofs.Tables.{values_in, pick_place, one_of}
 use Rattle.grammar.specs.Kinds as kinds
-use Rattle.rules.specs.Codes as codes
 
 -- the names of types with what they mean, in one table
 abbrev pub names : String
@@ -51,21 +56,32 @@ name_place : (x : Name) → ty_of_name x ≡ get_or (values_in table) (index_in 
 unfolding ty_of_name is_integer_type split ended
 name_place x = one_of x integers Int others Unknown ∙ pick_place x table Unknown
 
--- the codes of some types, and Unknown's behind them
-code_at : (ts : List Ty) (p : ℕ) → p ≤ length ts → code (get_or ts p Unknown) ≡ get_or (map code ts ++ (codes.unknown ∷ [])) p 0
-unfolding code
-code_at [] zero h = refl
-code_at [] (suc p) h = absurd (omega arith)
-code_at (t ∷ ts) zero h = refl
-code_at (t ∷ ts) (suc p) h = code_at ts p (omega arith)
+-- the place of a type's name in the table: below 20, or it has none
+module _ (x : Name) (o : Option ℕ) (e : o ≡ place_in x (split (bytes names))) where
+  placed : o ≡ then_some (ltb (index_in x (split (bytes names))) 20) (index_in x (split (bytes names)))
+  unfolding split ended
+  placed = e ∙ place_told x (split (bytes names))
 
-pub name_most : (x : Name) (p : ℕ) → p ≡ index_in x (split (bytes names)) → p < 21
-unfolding split ended
-name_most x p e = omega (arith, place_most x (words_in table))
+  pub name_below : (p : ℕ) → o ≡ Some p → p < 20
+  name_below p h = by_cases (index_in x (split (bytes names))) _ refl (sym placed ∙ h)
+    where
+      by_cases : (i : ℕ) (b : Bool) → ltb i 20 ≡ b → then_some b i ≡ Some p → p < 20
+      by_cases i true q f = let z : i ≡ p = cc in omega (arith, ltb-true i 20 q)
+      by_cases i false q f = absurd (let z : ◌≡◌ {A = ℕ} 0 1 = cc in omega arith)
 
-pub named : (x : Name) (p r : ℕ) → p ≡ index_in x (split (bytes names)) → r ≡ get_or named_codes p 0 → r ≡ code (ty_of_name x)
-unfolding code
-named x p r e f = f ∙ rw (name_place x, ← e) (sym (code_at (values_in table) p (omega (arith, name_most x p e))))
+  pub named : (p : ℕ) (r : Ty) → o ≡ Some p → r ≡ get_or named_types p Unknown → r ≡ ty_of_name x
+  named p r h f = f ∙ ap (λ i. get_or named_types i Unknown) (place (index_in x (split (bytes names))) _ (sym placed ∙ h)) ∙ sym (name_place x)
+    where
+      place : (i : ℕ) (b : Bool) → then_some b i ≡ Some p → p ≡ i
+      place i true q = cc
+      place i false q = absurd (let z : ◌≡◌ {A = ℕ} 0 1 = cc in omega arith)
+
+  pub unnamed : o ≡ None → Unknown ≡ ty_of_name x
+  unnamed h = by_cases (index_in x (split (bytes names))) _ refl (sym placed ∙ h) ∙ sym (name_place x)
+    where
+      by_cases : (i : ℕ) (b : Bool) → ltb i 20 ≡ b → then_some b i ≡ None → Unknown ≡ get_or (values_in table) i Unknown
+      by_cases i true q f = absurd (let z : ◌≡◌ {A = ℕ} 0 1 = cc in omega arith)
+      by_cases i false q f = sym (get_or-eq_default (values_in table) Unknown (ltb-false i 20 q))
 
 pub type_name_lem : (s S : List ℕ) (i : ℕ) → TypeAt s S i → name_at s S i ≡ type_name (type_at s i)
 type_name_lem s S i h = named_at_lem h.loaded i ∙ sym (type-name_at s i)
@@ -75,9 +91,9 @@ pub named_word : (s S : List ℕ) (i : ℕ) (x : Name) (w : String) (r : Bool) �
 unfolding is
 named_word s S i x w r h e f = f ∙ ap (λ y. same y (bytes w)) (e ∙ type_name_lem s S i h)
 
-pub declared : (s S : List ℕ) (i : ℕ) (x : Name) (r : ℕ) → TypeAt s S i → x ≡ name_at s S i → r ≡ code (ty_of_name x) → r ≡ code (ty_of_decl (type_at s i))
+pub declared : (s S : List ℕ) (i : ℕ) (x : Name) (r : Ty) → TypeAt s S i → x ≡ name_at s S i → r ≡ ty_of_name x → r ≡ ty_of_decl (type_at s i)
 unfolding ty_of_decl
-declared s S i x r h e f = f ∙ ap (λ y. code (ty_of_name y)) (e ∙ type_name_lem s S i h)
+declared s S i x r h e f = f ∙ ap ty_of_name (e ∙ type_name_lem s S i h)
 
 -- ------------------------------------------------------------ arguments
 
@@ -167,31 +183,31 @@ module _ (s S : List ℕ) (i k m : ℕ) (h : TypeAt s S i) (c : m ≡ type_arg_c
   pub nth_beyond : m ≤ k → get_elem? (args (type_at s i)) k ≡ none
   nth_beyond e = beyond (args (type_at s i)) k (omega (arith, args_count s S i m h c))
 
-  pub none_there : (r : ℕ) → m ≤ k → r ≡ codes.unknown → r ≡ code (declared_arg (type_at s i) k)
-  unfolding declared_arg code
+  pub none_there : (r : Ty) → m ≤ k → r ≡ Unknown → r ≡ declared_arg (type_at s i) k
+  unfolding declared_arg
   none_there r e q = rw (declared_arg, nth_beyond e) q
 
-  module _ (j n : ℕ) (e : k < m) (f : j ≡ skip S k (suc i)) (g : n ≡ kind_at S j) where
+  module _ (j : ℕ) (e : k < m) (f : j ≡ skip S k (suc i)) where
     pub there : Here S grammar.Arg j
     there = rw f (row_nth k e (args_row s S i m h c))
 
-    pub nth_there : get_elem? (args (type_at s i)) k ≡ some (arg_of_kind s S j n)
+    pub nth_there : get_elem? (args (type_at s i)) k ≡ some (arg_of_kind s S j (kind_at S j))
     unfolding arg_at args_at
     nth_there =
         let q = nth_map arg_of (nodes_at s m (suc i)) k _ (node_nth k h.loaded e (args_row s S i m h c)) in
-        rw (args_here s S i m h c, q, ← f) (ap some (arg_told s S j n h.loaded g))
+        rw (args_here s S i m h c, q, ← f) (ap some (arg_told s S j (kind_at S j) h.loaded refl))
 
-    arg_there : declared_arg (type_at s i) k ≡ ty_of_arg (arg_of_kind s S j n)
+    arg_there : declared_arg (type_at s i) k ≡ ty_of_arg (arg_of_kind s S j (kind_at S j))
     unfolding declared_arg
     arg_there = rw (declared_arg, nth_there) refl
 
-    pub type_there : n ≡ kinds.type → TypeAt s S j
-    type_there = arg_type s S i j n h there g
+    pub type_there : kind_at S j ≡ kinds.type → TypeAt s S j
+    type_there = arg_type s S i j (kind_at S j) h there refl
 
-    pub typed_there : (r : ℕ) → n ≡ kinds.type → r ≡ code (ty_of_decl (type_at s j)) → r ≡ code (declared_arg (type_at s i) k)
+    pub typed_there : (r : Ty) → kind_at S j ≡ kinds.type → r ≡ ty_of_decl (type_at s j) → r ≡ declared_arg (type_at s i) k
     unfolding ty_of_arg
     typed_there r q x = rw (arg_there, q) x
 
-    pub other_there : (r : ℕ) → n ≢ kinds.type → r ≡ codes.unknown → r ≡ code (declared_arg (type_at s i) k)
-    unfolding ty_of_arg code
-    other_there r q x = rw arg_there (by_kind (λ n. n ≢ kinds.type → r ≡ code (ty_of_arg (arg_of_kind s S j n))) n there g (λ y. absurd (y refl)) (λ _. x) (λ _. x) q)
+    pub other_there : (r : Ty) → kind_at S j ≢ kinds.type → r ≡ Unknown → r ≡ declared_arg (type_at s i) k
+    unfolding ty_of_arg
+    other_there r q x = rw arg_there (by_kind (λ n. n ≢ kinds.type → r ≡ ty_of_arg (arg_of_kind s S j n)) (kind_at S j) there refl (λ y. absurd (y refl)) (λ _. x) (λ _. x) q)

@@ -1,7 +1,8 @@
--- The codes of the types that have names.
-use Rattle.std.specs.Prelude.{ℕ, List, [], ◌∷◌}
-use Rattle.rules.specs.Codes as codes
+-- The types that have names.
+use Rattle.std.specs.Prelude.{List, [], ◌∷◌}
+use Rattle.rules.specs.declared.ty.Ty.{Ty}
+use Rattle.rules.specs.declared.ty.Ty.TheVariants.{Int, Boolean, Address, Asset, Word64, Name as TName, Time, Collection}
 
--- the codes of the named types, in the order of the code's table, and one for any other name
-abbrev pub named_codes : List ℕ
-named_codes = codes.int ∷ codes.int ∷ codes.int ∷ codes.int ∷ codes.int ∷ codes.int ∷ codes.int ∷ codes.int ∷ codes.int ∷ codes.int ∷ codes.boolean ∷ codes.address ∷ codes.asset ∷ codes.word64 ∷ codes.name ∷ codes.time ∷ codes.int ∷ codes.collection ∷ codes.collection ∷ codes.collection ∷ codes.unknown ∷ []
+-- the named types, in the order of the code's table
+abbrev pub named_types : List Ty
+named_types = Int ∷ Int ∷ Int ∷ Int ∷ Int ∷ Int ∷ Int ∷ Int ∷ Int ∷ Int ∷ Boolean ∷ Address ∷ Asset ∷ Word64 ∷ TName ∷ Time ∷ Int ∷ Collection ∷ Collection ∷ Collection ∷ []

@@ -2,7 +2,7 @@
 ghost use Rattle.lookups.specs.Event.{EventNamed};
 
 use crate::model::is_named;
-use grammar::kinds;
+use grammar::Kind;
 use sheet::{LoadedSheet, item_count};
 
 // The first event of the name x.
@@ -10,7 +10,7 @@ pub fn event_named(sheet: &LoadedSheet<'_>, x: &[u8]) -> Option<usize>
     ensures { EventNamed sheet.now.bytes.now sheet.now.lines.now x.now result }
 {
     for at in sheet.records(1, item_count(sheet.lines, 0)) {
-        if is_named(sheet, kinds::EVENT, x, at) {
+        if is_named(sheet, Kind::Event, x, at) {
             return Some(at);
         }
     }

@@ -10,5 +10,5 @@ pub use event::event_named;
 pub use lines::{body_line, clauses_line};
 pub use model::{field_named, fields_named, last_named};
 pub use ty::{
-    compatible, declared_arg, is_zero_literal, numeric, one_word, ty_of_decl, type_code, zero_digit,
+    compatible, declared_arg, is_zero_literal, numeric, one_word, ty_of_decl, zero_digit,
 };

@@ -2,19 +2,20 @@
 ghost use Rattle.std.specs.Prelude.{◌&&◌, ◌≡◌, eqb};
 ghost use Rattle.text.specs.Text.{same};
 ghost use Rattle.grammar.specs.Grammar.{Item};
+ghost use Rattle.grammar.specs.Coded.{kind_number};
 ghost use Rattle.sheet.specs.Scratch.{kind_at, name_at};
 ghost use Rattle.lookups.specs.Found.{FieldNamed, FieldsNamed, ItemAt, Last, Newest, Stretch};
 ghost use Rattle.lookups.specs.Lines.{RecordsAt};
 
-use grammar::kinds;
+use grammar::Kind;
 use sheet::{LoadedSheet, field_count, item_count};
 use text::is_word;
 
 // Whether line i is a record of kind k with the name x.
-pub fn is_named(sheet: &LoadedSheet<'_>, k: usize, x: &[u8], i: usize) -> bool
-    ensures { result ≡ (eqb (kind_at sheet.now.lines.now i) k && same x.now (name_at sheet.now.bytes.now sheet.now.lines.now i)) }
+pub fn is_named(sheet: &LoadedSheet<'_>, k: Kind, x: &[u8], i: usize) -> bool
+    ensures { result ≡ (eqb (kind_at sheet.now.lines.now i) (kind_number k) && same x.now (name_at sheet.now.bytes.now sheet.now.lines.now i)) }
 {
-    if sheet.kind(i) != k {
+    if !sheet.is(i, k) {
         return false;
     }
     is_word(x, sheet.name(i))
@@ -24,13 +25,13 @@ pub fn is_named(sheet: &LoadedSheet<'_>, k: usize, x: &[u8], i: usize) -> bool
 // a number, and no enum, which would be copied at every turn.
 pub fn last_named(
     sheet: &LoadedSheet<'_>,
-    k: usize,
+    k: Kind,
     x: &[u8],
     from: usize,
     count: usize,
 ) -> Option<usize>
     requires { Stretch sheet.now.bytes.now sheet.now.lines.now count from }
-    ensures { Last sheet.now.bytes.now sheet.now.lines.now k x.now count from result }
+    ensures { Last sheet.now.bytes.now sheet.now.lines.now (kind_number k) x.now count from result }
 {
     let mut hit = false;
     let mut line = 0;
@@ -53,12 +54,12 @@ fn newest_field(
     requires { ItemAt sheet.now.bytes.now sheet.now.lines.now item }
     ensures { Newest sheet.now.bytes.now sheet.now.lines.now x.now item found result }
 {
-    if sheet.kind(item) != kinds::STATE {
+    if !sheet.is(item, Kind::State) {
         return found;
     }
     last_named(
         sheet,
-        kinds::FIELD,
+        Kind::Field,
         x,
         item + 1,
         field_count(sheet.lines, item),
@@ -73,7 +74,7 @@ pub fn fields_named(sheet: &LoadedSheet<'_>, x: &[u8], from: usize, count: usize
 {
     let mut found = None;
     for at in sheet.records(from, count) {
-        if sheet.kind(at) == kinds::STATE {
+        if sheet.is(at, Kind::State) {
             found = newest_field(sheet, x, at, found);
         }
     }

@@ -1,148 +1,139 @@
-// Declared types. A type is its code (rules' codes).
+// Declared types.
 ghost use Rattle.std.specs.Prelude.{◌≡◌, suc, ◌<◌, get_or, length};
-ghost use Rattle.rules.specs.Asking.{code};
-ghost use Rattle.rules.specs.Types.{compatible as compatible_of, numeric as numeric_of, one_word};
+ghost use Rattle.rules.specs.declared.ty.Ty.TheVariants.{Unknown};
+ghost use Rattle.rules.specs.Types.{compatible, numeric, one_word};
 ghost use Rattle.rules.specs.Types.{declared_arg, is_zero_literal, ty_of_decl, ty_of_name, zero_digit};
 ghost use Rattle.text.specs.Text.{all};
 ghost use Rattle.rules.specs.Standing.{expr_at, type_at};
 ghost use Rattle.sheet.specs.Scratch.{skip, line_count};
-ghost use Rattle.lookups.specs.Named.{named_codes};
+ghost use Rattle.lookups.specs.Named.{named_types};
 ghost use Rattle.lookups.specs.Lines.{ExprAt, TypeAt};
-ghost use Rattle.rules.specs.Kept.{ty_from};
 
-use grammar::kinds;
-use rules::{codes, is_type};
+use grammar::Kind;
+use rules::Ty;
 use sheet::{LoadedSheet, end, type_arg_count};
-use text::{index_in, is_word};
+use text::{is_word, place_in};
 
-// The type that the name at a place of the table in ty_in_table means, Unknown behind its end.
-fn named(place: usize) -> u8
-    requires { place < 21 }
-    ensures { result ≡ get_or named_codes place 0 }
+// The type that the name at a place of the table in ty_in_table means.
+fn named(place: usize) -> Ty
+    requires { place < 20 }
+    ensures { result ≡ get_or named_types place Unknown }
 {
     NAMED[place]
 }
 
-const NAMED: [u8; 21] = [
-    codes::INT,
-    codes::INT,
-    codes::INT,
-    codes::INT,
-    codes::INT,
-    codes::INT,
-    codes::INT,
-    codes::INT,
-    codes::INT,
-    codes::INT,
-    codes::BOOLEAN,
-    codes::ADDRESS,
-    codes::ASSET,
-    codes::WORD64,
-    codes::NAME,
-    codes::TIME,
-    codes::INT,
-    codes::COLLECTION,
-    codes::COLLECTION,
-    codes::COLLECTION,
-    codes::UNKNOWN,
+const NAMED: [Ty; 20] = [
+    Ty::Int,
+    Ty::Int,
+    Ty::Int,
+    Ty::Int,
+    Ty::Int,
+    Ty::Int,
+    Ty::Int,
+    Ty::Int,
+    Ty::Int,
+    Ty::Int,
+    Ty::Boolean,
+    Ty::Address,
+    Ty::Asset,
+    Ty::Word64,
+    Ty::Name,
+    Ty::Time,
+    Ty::Int,
+    Ty::Collection,
+    Ty::Collection,
+    Ty::Collection,
 ];
 
-fn ty_in_table(name: &[u8]) -> u8
-    ensures { result ≡ code (ty_of_name name.now) }
+fn ty_in_table(name: &[u8]) -> Ty
+    ensures { result ≡ ty_of_name name.now }
 {
-    named(index_in(
+    let place = place_in(
         name,
         b"u8 u16 u32 u64 u128 i8 i16 i32 i64 i128 bool Q_Address Q_Asset Q_Word64 Q_Name Time Q_Id Map Registry GuardianSet ",
-    ))
+    );
+    match place {
+        Some(place) => named(place),
+        None => Ty::Unknown,
+    }
 }
 
-// The same, where the name may be a word whose type is c.
-fn ty_by(name: &[u8], word: &[u8], c: u8) -> u8
-    requires { c ≡ code (ty_of_name word.now) }
-    ensures { result ≡ code (ty_of_name name.now) }
+// The same, where the name may be a word whose type is ty.
+fn ty_by(name: &[u8], word: &[u8], ty: Ty) -> Ty
+    requires { ty ≡ ty_of_name word.now }
+    ensures { result ≡ ty_of_name name.now }
 {
     if is_word(name, word) {
-        return c;
+        return ty;
     }
     ty_in_table(name)
 }
 
 // Names of three bytes.
-fn ty_of_three(name: &[u8]) -> u8
+#[tactic(auto, unfolding(rules::specs::Types::ty_of_name, rules::specs::Types::is_integer_type, rules::specs::Text::is_one, rules::specs::Text::is, rules::specs::Text::pick, text::specs::Text::same))]
+fn ty_of_three(name: &[u8]) -> Ty
     requires { length name.now ≡ 3 }
-    ensures { result ≡ code (ty_of_name name.now) }
+    ensures { result ≡ ty_of_name name.now }
 {
     let b = name[1];
     match b {
-        b'6' => ty_by(name, b"u64", codes::INT),
-        b'3' => ty_by(name, b"u32", codes::INT),
-        b'a' => ty_by(name, b"Map", codes::COLLECTION),
+        b'6' => ty_by(name, b"u64", Ty::Int),
+        b'3' => ty_by(name, b"u32", Ty::Int),
+        b'a' => ty_by(name, b"Map", Ty::Collection),
         _ => ty_in_table(name),
     }
 }
 
 // The frequent names are told by their length first, and all others by the table.
-fn ty_of_name(name: &[u8]) -> u8
-    ensures { result ≡ code (ty_of_name name.now) }
+#[tactic(auto, unfolding(rules::specs::Types::ty_of_name, rules::specs::Types::is_integer_type, rules::specs::Text::is_one, rules::specs::Text::is, rules::specs::Text::pick, text::specs::Text::same))]
+fn ty_of_name(name: &[u8]) -> Ty
+    ensures { result ≡ ty_of_name name.now }
 {
     let n = name.len();
     match n {
-        2 => ty_by(name, b"u8", codes::INT),
+        2 => ty_by(name, b"u8", Ty::Int),
         3 => ty_of_three(name),
-        4 => ty_by(name, b"bool", codes::BOOLEAN),
-        6 => ty_by(name, b"Q_Name", codes::NAME),
-        7 => ty_by(name, b"Q_Asset", codes::ASSET),
-        8 => ty_by(name, b"Registry", codes::COLLECTION),
-        9 => ty_by(name, b"Q_Address", codes::ADDRESS),
-        11 => ty_by(name, b"GuardianSet", codes::COLLECTION),
+        4 => ty_by(name, b"bool", Ty::Boolean),
+        6 => ty_by(name, b"Q_Name", Ty::Name),
+        7 => ty_by(name, b"Q_Asset", Ty::Asset),
+        8 => ty_by(name, b"Registry", Ty::Collection),
+        9 => ty_by(name, b"Q_Address", Ty::Address),
+        11 => ty_by(name, b"GuardianSet", Ty::Collection),
         _ => ty_in_table(name),
     }
 }
 
 // The type that the `type` record at line i declares.
-pub fn ty_of_decl(sheet: &LoadedSheet<'_>, i: usize) -> u8
+pub fn ty_of_decl(sheet: &LoadedSheet<'_>, i: usize) -> Ty
     requires { TypeAt sheet.now.bytes.now sheet.now.lines.now i }
-    ensures { result ≡ code (ty_of_decl (type_at sheet.now.bytes.now i)) }
+    ensures { result ≡ ty_of_decl (type_at sheet.now.bytes.now i) }
 {
     ty_of_name(sheet.name(i))
 }
 
-// The code of the type that a byte tells: Unknown's where the byte is no code.
-pub fn type_code(c: u8) -> u8
-    ensures { result ≡ code (ty_from c) }
+#[tactic(auto, unfolding(rules::specs::Types::numeric, rules::specs::Types::is_ty, rules::specs::Types::eq_ty, rules::specs::Asking::code))]
+pub fn numeric(ty: Ty) -> bool
+    ensures { result ≡ numeric ty }
 {
-    if is_type(c) { c } else { codes::UNKNOWN }
+    matches!(ty, Ty::Int | Ty::Time | Ty::Unknown)
 }
 
-pub fn numeric(ty: u8) -> bool
-    ensures { result ≡ numeric_of (ty_from ty) }
+#[tactic(auto, unfolding(rules::specs::Types::one_word, rules::specs::Types::is_ty, rules::specs::Types::eq_ty, rules::specs::Asking::code))]
+pub fn one_word(ty: Ty) -> bool
+    ensures { result ≡ one_word ty }
 {
-    let t = type_code(ty);
-    (t == codes::INT) | ((t == codes::TIME) | (t == codes::UNKNOWN))
-}
-
-pub fn one_word(ty: u8) -> bool
-    ensures { result ≡ one_word (ty_from ty) }
-{
-    let t = type_code(ty);
-    (t == codes::INT) | ((t == codes::TIME) | (t == codes::BOOLEAN))
+    matches!(ty, Ty::Int | Ty::Time | Ty::Boolean)
 }
 
 // Whether a value of one type may stand where the other is wanted.
-pub fn compatible(want: u8, got: u8) -> bool
-    ensures { result ≡ compatible_of (ty_from want) (ty_from got) }
+pub fn compatible(want: Ty, got: Ty) -> bool
+    ensures { result ≡ compatible want got }
 {
-    let w = type_code(want);
-    let g = type_code(got);
-    let same = w == g;
-    if (w == codes::NAME)
-        | (g == codes::NAME)
-        | (w == codes::COLLECTION)
-        | (g == codes::COLLECTION)
-    {
+    let same = want == got;
+    if (want == Ty::Name) | (got == Ty::Name) | (want == Ty::Collection) | (got == Ty::Collection) {
         same
     } else {
-        same | (w == codes::UNKNOWN) | (g == codes::UNKNOWN) | (one_word(want) & one_word(got))
+        same | (want == Ty::Unknown) | (got == Ty::Unknown) | (one_word(want) & one_word(got))
     }
 }
 
@@ -159,17 +150,17 @@ fn arg_line(lines: &[u16], ty: usize, index: usize) -> usize
 }
 
 // The type of a declared type's argument, Unknown where it has no such type.
-pub fn declared_arg(sheet: &LoadedSheet<'_>, ty: usize, index: usize) -> u8
+pub fn declared_arg(sheet: &LoadedSheet<'_>, ty: usize, index: usize) -> Ty
     requires ty_at { TypeAt sheet.now.bytes.now sheet.now.lines.now ty }
     requires index_bound { index < 2 }
-    ensures { result ≡ code (declared_arg (type_at sheet.now.bytes.now ty) index) }
+    ensures { result ≡ declared_arg (type_at sheet.now.bytes.now ty) index }
 {
     if type_arg_count(sheet.lines, ty) <= index {
-        return codes::UNKNOWN;
+        return Ty::Unknown;
     }
     let at = arg_line(sheet.lines, ty, index);
-    if sheet.kind(at) != kinds::TYPE {
-        return codes::UNKNOWN;
+    if !sheet.is(at, Kind::Type) {
+        return Ty::Unknown;
     }
     ty_of_decl(sheet, at)
 }
@@ -192,7 +183,7 @@ pub fn is_zero_literal(sheet: &LoadedSheet<'_>, i: usize) -> bool
     requires { ExprAt sheet.now.bytes.now sheet.now.lines.now i }
     ensures { result ≡ is_zero_literal (expr_at sheet.now.bytes.now i) }
 {
-    if sheet.kind(i) != kinds::INT {
+    if !sheet.is(i, Kind::Int) {
         return false;
     }
     all_zero(sheet.name(i))

@@ -18,7 +18,8 @@ use Rattle.sheet.proofs.Loaded.{every_line}
 use Rattle.rules.specs.Text.{Piece, lit, raw, dec, digits, render}
 use Rattle.rules.specs.Ast.{Type', type_name, arg_of, args_of, type_of, field_of, param_of, nodes, blank_node, Arg, Args, anil, amore}
 use Rattle.rules.specs.Declarations.{type_text, arg_text, args_text}
-use Rattle.rules.specs.Asking.{Ty, Int, Boolean, Address, Asset, Word64, TName, Time, Str, Collection, Unknown}
+use Rattle.rules.specs.declared.ty.Ty.{Ty}
+use Rattle.rules.specs.declared.ty.Ty.TheVariants.{Int, Boolean, Address, Asset, Word64, Name as TName, Time, Str, Collection, Unknown}
 use Rattle.rules.specs.Types.{describe}
 use Rattle.rules.specs.Verdict.{longest}
 use Rattle.rules.specs.Standing.{node_name, node_at, type_at, param_at, field_at, named_at, Loaded}
@@ -30,7 +31,6 @@ use Rattle.refusals.specs.declared.refusal.Refusal.{Refusal}
 use Rattle.refusals.specs.declared.refusal.Refusal.TheVariants.{NameStored, Arity, OnlyTypes, InnerType, UnknownType, NoArguments, Digest, Default, Guardian, Predicate, ReachesField, ReachesValues, ReachesEvent, CollectionLocal, AssetSlot, NameIntoAddress, WrappingIntoNarrow, LiteralIntoNarrow, SlotMismatch, Recipient, Receiver, KeyedOp, Amount, NameNotParam, NameWanted, Holds, Not, Neg, Logical, Arithmetic, Ordering, NamesCompared, Compared, EmitField, Dropped, Overflow, KeyKinds}
 use Rattle.writing.proofs.Texts.{Named, lines_named, every_at}
 use Rattle.grammar.specs.Kinds as kinds
-use Rattle.rules.specs.Kept.{ty_from}
 use Rattle.writing.specs.Types.{before}
 
 -- ------------------------------------------------------------ pieces
@@ -213,22 +213,22 @@ module _ (s S : List ℕ) (d : Loaded s S) (small : length s ≤ most_bytes) (fe
   bounded (NameIntoAddress target value) = omega (arith, brief_at target)
   bounded (WrappingIntoNarrow target value) = omega (arith, brief_at target)
   bounded (LiteralIntoNarrow target value max) = omega (arith, brief_at target)
-  bounded (SlotMismatch value slot given) = omega (arith, described (ty_from slot), described (ty_from given))
+  bounded (SlotMismatch value slot given) = omega (arith, described slot, described given)
   bounded (Recipient arg) = omega arith
   bounded (Receiver callee) = omega (arith, dot_brief callee)
   bounded (KeyedOp callee field) = omega (arith, dot_brief callee, brief_at field)
   bounded (Amount callee arg) = omega (arith, dot_brief callee)
   bounded (NameNotParam field arg) = omega (arith, brief_at field)
   bounded (NameWanted field arg) = omega (arith, brief_at field)
-  bounded (Holds field arg want got) = omega (arith, brief_at field, described (ty_from want), described (ty_from got))
+  bounded (Holds field arg want got) = omega (arith, brief_at field, described want, described got)
   bounded (Not inner) = omega arith
   bounded (Neg inner) = omega arith
   bounded (Logical operand) = omega arith
   bounded (Arithmetic operand) = omega arith
   bounded (Ordering operand) = omega arith
   bounded (NamesCompared left) = omega arith
-  bounded (Compared right l r) = omega (arith, described (ty_from l), described (ty_from r))
-  bounded (EmitField arg param got) = rw weights_append (omega (arith, brief_at param, described (ty_from got)))
+  bounded (Compared right l r) = omega (arith, described l, described r)
+  bounded (EmitField arg param got) = rw weights_append (omega (arith, brief_at param, described got))
   bounded (Dropped made) = omega arith
   bounded (Overflow assign) = omega (arith, brief_at (suc assign))
   bounded (KeyKinds map key) = omega (arith, brief_at map)

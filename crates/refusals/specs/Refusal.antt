@@ -17,7 +17,6 @@ use Rattle.rules.specs.Check.{local_text, default_text}
 use Rattle.refusals.specs.declared.refusal.Refusal.{Refusal}
 use Rattle.refusals.specs.declared.refusal.Refusal.TheVariants.{NameStored, Arity, OnlyTypes, InnerType, UnknownType, NoArguments, Digest, Default, Guardian, Predicate, ReachesField, ReachesValues, ReachesEvent, CollectionLocal, AssetSlot, NameIntoAddress, WrappingIntoNarrow, LiteralIntoNarrow, SlotMismatch, Recipient, Receiver, KeyedOp, Amount, NameNotParam, NameWanted, Holds, Not, Neg, Logical, Arithmetic, Ordering, NamesCompared, Compared, EmitField, Dropped, Overflow, KeyKinds}
 use Rattle.grammar.specs.Kinds as kinds
-use Rattle.rules.specs.Kept.{ty_from}
 
 -- the dot at a line
 unfoldable pub dot_at : List ℕ → ℕ → Dot
@@ -67,7 +66,7 @@ refusal_of s (WrappingIntoNarrow target value) =
 refusal_of s (LiteralIntoNarrow target value max) =
     record { number = 27; place = span (expr_at s value); text = literal_text (named_at s target) (literal_at s value) max }
 refusal_of s (SlotMismatch value slot given) =
-    record { number = 28; place = span (expr_at s value); text = slot_text (ty_from slot) (ty_from given) }
+    record { number = 28; place = span (expr_at s value); text = slot_text slot given }
 refusal_of s (Recipient arg) = record { number = 29; place = span (expr_at s arg); text = recipient_text }
 refusal_of s (Receiver callee) = record { number = 30; place = span (dot_at s callee).base; text = receiver_text (dot_at s callee).name }
 refusal_of s (KeyedOp callee field) =
@@ -76,7 +75,7 @@ refusal_of s (Amount callee arg) = record { number = 32; place = span (expr_at s
 refusal_of s (NameNotParam field arg) = record { number = 33; place = span (expr_at s arg); text = name_not_param_text (field_at s field).name }
 refusal_of s (NameWanted field arg) = record { number = 34; place = span (expr_at s arg); text = name_wanted_text (field_at s field).name }
 refusal_of s (Holds field arg want got) =
-    record { number = 35; place = span (expr_at s arg); text = holds_text (field_at s field).name (ty_from want) (ty_from got) }
+    record { number = 35; place = span (expr_at s arg); text = holds_text (field_at s field).name want got }
 refusal_of s (Not inner) = record { number = 36; place = span (expr_at s inner); text = lit not_text ∷ [] }
 refusal_of s (Neg inner) = record { number = 37; place = span (expr_at s inner); text = lit neg_text ∷ [] }
 refusal_of s (Logical operand) = record { number = 38; place = span (expr_at s operand); text = lit logical_text ∷ [] }
@@ -84,9 +83,9 @@ refusal_of s (Arithmetic operand) = record { number = 39; place = span (expr_at 
 refusal_of s (Ordering operand) = record { number = 40; place = span (expr_at s operand); text = lit ordering_text ∷ [] }
 refusal_of s (NamesCompared left) = record { number = 41; place = span (expr_at s left); text = names_compared_text }
 refusal_of s (Compared right l r) =
-    record { number = 42; place = span (expr_at s right); text = compared_text (ty_from l) (ty_from r) }
+    record { number = 42; place = span (expr_at s right); text = compared_text l r }
 refusal_of s (EmitField arg param got) =
-    record { number = 43; place = span (expr_at s arg); text = emit_text (param_at s param) (ty_from got) }
+    record { number = 43; place = span (expr_at s arg); text = emit_text (param_at s param) got }
 refusal_of s (Dropped made) = record { number = 44; place = place_at s made; text = dropped_text }
 refusal_of s (Overflow assign) = record { number = 45; place = place_at s assign; text = overflow_text (named_at s (suc assign)) }
 refusal_of s (KeyKinds map key) = record { number = 46; place = span (expr_at s key); text = key_kinds_text (named_at s map) }

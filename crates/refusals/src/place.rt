@@ -7,7 +7,7 @@ ghost use Rattle.refusals.specs.Numbers.{From};
 ghost use Rattle.refusals.specs.Places.{line_of};
 
 use crate::refusal::Refusal;
-use grammar::kinds;
+use grammar::Kind;
 use sheet::{LoadedSheet, line_count, nspan, span};
 
 // The place of the record at line i, 0 where it has none.
@@ -32,7 +32,7 @@ fn place_behind(sheet: &LoadedSheet<'_>, i: usize) -> u32
 fn place_of_base(sheet: &LoadedSheet<'_>, i: usize) -> u32
     ensures { result ≡ span_of (dot_at sheet.now.bytes.now i).base }
 {
-    if sheet.kind(i) == kinds::DOT {
+    if sheet.is(i, Kind::Dot) {
         place_behind(sheet, i)
     } else {
         place_at(sheet, i)
@@ -43,7 +43,7 @@ fn place_of_base(sheet: &LoadedSheet<'_>, i: usize) -> u32
 fn place_of_name(sheet: &LoadedSheet<'_>, i: usize) -> u32
     ensures { result ≡ (dot_at sheet.now.bytes.now i).nspan }
 {
-    if sheet.kind(i) == kinds::DOT {
+    if sheet.is(i, Kind::Dot) {
         nspan(sheet.bytes, sheet.lines, i)
     } else {
         0

@@ -1,5 +1,7 @@
-// Refusals, each with what its message needs: lines and type codes. `refusal_of` of specs/Refusal.antt gives its
+// Refusals, each with what its message needs: lines and types. `refusal_of` of specs/Refusal.antt gives its
 // number, place and text.
+
+use rules::Ty;
 
 #[derive(Clone, Copy)]
 pub enum Refusal {
@@ -59,8 +61,8 @@ pub enum Refusal {
     },
     SlotMismatch {
         value: usize,
-        slot: u8,
-        given: u8,
+        slot: Ty,
+        given: Ty,
     },
     // 29: the argument
     Recipient(usize),
@@ -89,8 +91,8 @@ pub enum Refusal {
     Holds {
         field: usize,
         arg: usize,
-        want: u8,
-        got: u8,
+        want: Ty,
+        got: Ty,
     },
     // 36 to 40: the operand
     Not(usize),
@@ -103,14 +105,14 @@ pub enum Refusal {
     // 42: the right side, and the types of both
     Compared {
         right: usize,
-        l: u8,
-        r: u8,
+        l: Ty,
+        r: Ty,
     },
     // 43
     EmitField {
         arg: usize,
         param: usize,
-        got: u8,
+        got: Ty,
     },
     // 44: the call
     Dropped(usize),

@@ -8,7 +8,8 @@ use mathlib.Core.Bool.{Bool, true, false}
 use mathlib.Core.Option.{Option, none, some}
 use Prim.Native.Nat.{ℕ}
 use Rattle.sheet.proofs.Paired.{Opt, o_none, o_some, append₂}
-use Rattle.rules.specs.Asking.{Ty, Refusal, Rule, ret, refuse, ask, ◌>>=◌, ◌>>◌, provided, if_some, if_some_else, for_each, Res, ok, refused, Asking, Out, concluded, fresh}
+use Rattle.rules.specs.Asking.{Refusal, Rule, ret, refuse, ask, ◌>>=◌, ◌>>◌, provided, if_some, if_some_else, for_each, Res, ok, refused, Asking, Out, concluded, fresh}
+use Rattle.rules.specs.declared.ty.Ty.{Ty}
 use Rattle.rules.specs.Model.{Model}
 use Rattle.rules.proofs.Pure.{FromTwelve, Pure, p_ret, p_refuse}
 

@@ -12,7 +12,7 @@ use Rattle.text.specs.Text.{same}
 use Rattle.sheet.proofs.Paired.{Opt, o_none, o_some, opt_either}
 use Rattle.rules.specs.Text.{Name, last_named}
 use Rattle.rules.specs.Ast.{UnaryOp, BinOp, Leaf, int, id, Wrap, Expr, leaf, unary, binary, field, call, wrap, Exprs, nil, more, Field, span, line, leaf_of, list}
-use Rattle.rules.specs.Asking.{Ty}
+use Rattle.rules.specs.declared.ty.Ty.{Ty}
 use Rattle.rules.specs.Model.{field_named}
 use Rattle.rules.specs.Typing.{Env, new, in_genesis, bound, ident_leaf, ident_of, Dot, dot_of, Call, call_of, ident_is, leaf_has}
 use Rattle.related.proofs.Alike.{Setting}

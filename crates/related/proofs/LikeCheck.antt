@@ -7,7 +7,8 @@ use mathlib.Core.Option.{Option, none, some}
 use Rattle.sheet.proofs.Paired.{Opt, o_none, o_some}
 use Rattle.rules.specs.Text.{last_named}
 use Rattle.rules.specs.Ast.{Set, Expr, Field, Clause, Entry, Stmt}
-use Rattle.rules.specs.Asking.{Ty, ret, ◌>>=◌, ◌>>◌, if_some}
+use Rattle.rules.specs.Asking.{ret, ◌>>=◌, ◌>>◌, if_some}
+use Rattle.rules.specs.declared.ty.Ty.{Ty}
 use Rattle.rules.specs.Model.{Model, values}
 use Rattle.rules.specs.Typing.{Env}
 use Rattle.rules.specs.Assets.{narrow_wrapping}

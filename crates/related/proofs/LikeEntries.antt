@@ -10,7 +10,8 @@ use Rattle.text.specs.Text.{same}
 use Rattle.sheet.proofs.Paired.{Opt, o_none, o_some, opt_either, append₂}
 use Rattle.rules.specs.Text.{Name, is, is_one, among}
 use Rattle.rules.specs.Ast.{Add, AssignOp, Set, AddTo, SubFrom, Leaf, Expr, Exprs, Param, Clause, limits, denies, mints, after, Entry, Stmt, span, type_name}
-use Rattle.rules.specs.Asking.{Ty, Rule, ret, ◌>>=◌, for_each}
+use Rattle.rules.specs.Asking.{Rule, ret, ◌>>=◌, for_each}
+use Rattle.rules.specs.declared.ty.Ty.{Ty}
 use Rattle.rules.specs.Types.{literal, int_of}
 use Rattle.rules.specs.Typing.{Dot, ident_of, is_some}
 use Rattle.rules.specs.Arithmetic.{any, is_op, acknowledged, amount_of, is_minted_amount, bounded_addend, sum_terms, mentions, mentions_any, subtracts, upper_bounds, caps_from_above, limits_cap, limits_bound, same_target, without, is_sum, addends, is_mints, asset_params, bounded, check_sum, check_arithmetic}

@@ -11,7 +11,9 @@ use lib.ListN.{get_elem?}
 use Rattle.sheet.proofs.Paired.{Opt, o_none, o_some, at₂}
 use Rattle.rules.specs.Text.{Name, Piece, is}
 use Rattle.rules.specs.Ast.{AssignOp, Set, AddTo, SubFrom, Checked, Wrapping, Expr, Exprs, Param, Stmt, guard, bind, emit, assign, do', type_name, args}
-use Rattle.rules.specs.Asking.{Ty, TName, Collection, Address, Rule, if_some}
+use Rattle.rules.specs.Asking.{Rule, if_some}
+use Rattle.rules.specs.declared.ty.Ty.{Ty}
+use Rattle.rules.specs.declared.ty.Ty.TheVariants.{Name as TName, Collection, Address}
 use Rattle.rules.specs.Types.{int_of, narrow_max, eq_ty, is_ty, one_word}
 use Rattle.rules.specs.Model.{Model, field_named, event_named}
 use Rattle.rules.specs.Typing.{Env, Dot, Asked, ident_of, ident_is}

@@ -10,7 +10,9 @@ use Prim.Native.Nat.{ℕ}
 use Rattle.sheet.proofs.Paired.{Opt, o_none, o_some}
 use Rattle.rules.specs.Text.{Name, Piece, is, is_one, pick, get}
 use Rattle.rules.specs.Ast.{Type', UnaryOp, Not, Neg, BinOp, Or, And, Eq, Ne, Lt, Gt, Le, Ge, Add, Sub, Mul, Div, Rem, Shr, Leaf, int, id, date, str, caller, native, inasset, now, Expr, Exprs, Field, type_name}
-use Rattle.rules.specs.Asking.{Ty, TName, Asset, Unknown, Address, Boolean, Refusal, Rule, ret, refuse, expect}
+use Rattle.rules.specs.Asking.{Refusal, Rule, ret, refuse, expect}
+use Rattle.rules.specs.declared.ty.Ty.{Ty}
+use Rattle.rules.specs.declared.ty.Ty.TheVariants.{Name as TName, Asset, Unknown, Address, Boolean}
 use Rattle.rules.specs.Types.{literal, int_of, is_zero_literal, ty_of_decl, eq_ty}
 use Rattle.rules.specs.Model.{field_named}
 use Rattle.rules.specs.Typing.{Env, ident_leaf, Dot, ident_is, Asked, is_name_param, state_field_of, keyed_field, is_pool, judge_key, check_keys, check_amount, check_keyed_call, expect_keyed_op, expect_asset_receiver, ty_of_ident, ty_of_leaf, ty_of_get, ty_of_call, ask_each, type_call, expect_numeric_or, expect_number, judge_unary, logical, arithmetic, ordering, equality, judge_binary, ty_of_unary, ty_of_binary, asked, typing, typings, ask_of, ty_of}

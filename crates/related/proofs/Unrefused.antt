@@ -3,7 +3,8 @@ use mathlib.Core.Path.{◌≡◌, refl, sym, ◌∙◌}
 use mathlib.Core.List.{List, [], ◌∷◌, ◌++◌}
 use Prim.Native.Nat.{ℕ}
 use native.Mathlib.Omega.{arith}
-use Rattle.rules.specs.Asking.{Ty, Res, ok, refused, Rule, ret, refuse, ask, ◌>>=◌, ◌>>◌, for_each, Asking, concluded, fresh}
+use Rattle.rules.specs.Asking.{Res, ok, refused, Rule, ret, refuse, ask, ◌>>=◌, ◌>>◌, for_each, Asking, concluded, fresh}
+use Rattle.rules.specs.declared.ty.Ty.{Ty}
 use Rattle.rules.specs.Model.{Model}
 use Rattle.related.proofs.Alike.{Alike, outcomes}
 use Rattle.related.proofs.Compared.{renumbered, renumbered_result}

@@ -7,7 +7,9 @@ use Prim.Native.Nat.{ℕ, ◌≤◌}
 use native.Mathlib.Omega.{arith}
 use lib.ListN.{get_or, set}
 use Rattle.rules.specs.Ast.{Expr, line}
-use Rattle.rules.specs.Asking.{Ty, Int, Boolean, Address, Asset, Word64, TName, Time, Str, Collection, Unknown, code, code_r, Res, ok, refused, ret}
+use Rattle.rules.specs.Asking.{code, code_r, Res, ok, refused, ret}
+use Rattle.rules.specs.declared.ty.Ty.{Ty}
+use Rattle.rules.specs.declared.ty.Ty.TheVariants.{Int, Boolean, Address, Asset, Word64, Name as TName, Time, Str, Collection, Unknown}
 use Rattle.rules.specs.Kept.{Table, ty_of_mark, stored, retyped, kept}
 use Rattle.rules.specs.Typing.{Env, stale, asked, typing, ask_of, ty_of}
 use Rattle.rules.proofs.Parts.{stop, ◌also◌, pick}

@@ -8,7 +8,8 @@ use Prim.Native.Nat.{ℕ}
 use native.Mathlib.Omega.{arith}
 use lib.ListN.{length, get_or, set, length-set}
 use lib.Seq.{get_or-set_other}
-use Rattle.rules.specs.Asking.{Ty, Res, ok, refused, Refusal, code_r, Rule, ret, refuse, ask, ◌>>=◌, for_each}
+use Rattle.rules.specs.Asking.{Res, ok, refused, Refusal, code_r, Rule, ret, refuse, ask, ◌>>=◌, for_each}
+use Rattle.rules.specs.declared.ty.Ty.{Ty}
 use Rattle.rules.specs.Kept.{Table, ty_of_mark, Kept, stored, retyped, kept}
 use Rattle.rules.proofs.Keeps.{Throughout, OfLine, Any}
 use Rattle.rules.specs.Codes as codes
@@ -103,11 +104,6 @@ kept_behind {A} {B} p f g T h = kept_bind p f T ∙ by_cases (kept p T).res (kep
     by_cases : (r : Res A) (U : Table) → and_then (record { res = r; table = U }) (λ a W. kept (f a) W) ≡ and_then (record { res = r; table = U }) (λ a W. kept (g a) W)
     by_cases (ok a) U = h a U
     by_cases (refused x) U = refl
-
--- ... and so may both
-pub kept_both : (p p' q q' : Rule Unit) (T : Table) → kept p T ≡ kept p' T → ((U : Table) → kept q U ≡ kept q' U) → kept (p >>= λ _. q) T ≡ kept (p' >>= λ _. q') T
-kept_both p p' q q' T e h =
-    kept_bind p (λ _. q) T ∙ ap (λ o. and_then o (λ _ U. kept q U)) e ∙ sym (kept_bind p' (λ _. q) T) ∙ kept_behind p' (λ _. q) (λ _. q') T (λ _ U. h U)
 
 -- nothing behind a rule
 pub kept_unit : (p : Rule Unit) (T : Table) → kept (p >>= λ _. ret tt) T ≡ kept p T

@@ -14,7 +14,9 @@ use Rattle.sheet.specs.Load.{LoadResult, lines, refused as unread, load}
 use Rattle.sheet.specs.Tree.{trees}
 use Rattle.rules.specs.Text.{Name}
 use Rattle.rules.specs.Ast.{Expr, Field, Entry, Stmt, guard, bind, emit, assign, do', Item, state, event, invariant, genesis, entry, line, line_after, contract_of}
-use Rattle.rules.specs.Asking.{Ty, Int, Rule, ret, Out, fresh, Res, ok, refused, if_some}
+use Rattle.rules.specs.Asking.{Rule, ret, Out, fresh, Res, ok, refused, if_some}
+use Rattle.rules.specs.declared.ty.Ty.{Ty}
+use Rattle.rules.specs.declared.ty.Ty.TheVariants.{Int}
 use Rattle.rules.specs.Kept.{kept, marks}
 use Rattle.rules.specs.Model.{Model, item_model, joined, build}
 use Rattle.rules.specs.Typing.{Env, new, in_genesis, bound, ty_of}

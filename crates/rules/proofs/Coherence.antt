@@ -7,7 +7,8 @@ use Prim.Native.Nat.{ℕ}
 use Prim.Native.String.{String}
 use Rattle.rules.specs.Text.{Name, Piece}
 use Rattle.rules.specs.Ast.{UnaryOp, Not, Neg, BinOp, Or, And, Eq, Ne, Lt, Gt, Le, Ge, Add, Sub, Mul, Div, Rem, Shr, Expr, leaf, unary, binary, field, call, wrap, Exprs, nil, more, line}
-use Rattle.rules.specs.Asking.{Ty, Rule, ret, refuse, ask, ◌>>=◌, ◌>>◌, provided, if_some, expect, for_each, Out, fresh, ok}
+use Rattle.rules.specs.Asking.{Rule, ret, refuse, ask, ◌>>=◌, ◌>>◌, provided, if_some, expect, for_each, Out, fresh, ok}
+use Rattle.rules.specs.declared.ty.Ty.{Ty}
 use Rattle.rules.specs.Typing.{Env, Asked, asked, expect_asset_receiver, expect_keyed_op, judge_key, check_keys, check_amount, check_keyed_call, ask_each, type_call, expect_numeric_or, expect_number, judge_unary, logical, arithmetic, ordering, equality, judge_binary, ty_of_unary, ty_of_binary, stale, typing, typings, ask_of, ty_of}
 use Rattle.rules.proofs.All.{All}
 use Rattle.rules.proofs.Pure.{Pure, p_ret, p_refuse}

@@ -10,7 +10,9 @@ use lib.Dec.{eqb}
 use lib.ListN.{length, get_or, set, replicate, length-set}
 use lib.Seq.{get_or-set_same, get_or-set_other, set-get_or}
 use borrow.Author.Tests.{eqb-true, eqb-false, eq-eqb}
-use Rattle.rules.specs.Asking.{Ty, Int, Boolean, Address, Asset, Word64, TName, Time, Str, Collection, Unknown, code, Res, ok, refused, Rule, ret, refuse, ask, Asking, code_r, Out, concluded, fresh, Refusal}
+use Rattle.rules.specs.Asking.{code, Res, ok, refused, Rule, ret, refuse, ask, Asking, code_r, Out, concluded, fresh, Refusal}
+use Rattle.rules.specs.declared.ty.Ty.{Ty}
+use Rattle.rules.specs.declared.ty.Ty.TheVariants.{Int, Boolean, Address, Asset, Word64, Name as TName, Time, Str, Collection, Unknown}
 use Rattle.rules.specs.Kept.{Table, ty_of_mark, Kept, stored, retyped, kept, put_if, mark, marks}
 use Rattle.rules.proofs.All.{All, all_append, all_map}
 use Rattle.rules.specs.Codes as codes

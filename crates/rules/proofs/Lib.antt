@@ -22,3 +22,5 @@ pub mod Rows
 pub mod Places
 pub mod Lookups
 mod Counting
+pub mod Same
+pub mod Operators

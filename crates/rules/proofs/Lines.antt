@@ -7,7 +7,9 @@ use native.Mathlib.Omega.{arith}
 use lib.Dec.{eqb, ltb}
 use borrow.Author.Tests.{eq-eqb, ne_eqb, lt-ltb, le-ltb}
 use Rattle.rules.specs.Ast.{Expr, leaf, unary, binary, field, call, wrap, Exprs, nil, more, line, line_after, lines_after}
-use Rattle.rules.specs.Asking.{Ty, Int, Rule, ret, Out, fresh}
+use Rattle.rules.specs.Asking.{Rule, ret, Out, fresh}
+use Rattle.rules.specs.declared.ty.Ty.{Ty}
+use Rattle.rules.specs.declared.ty.Ty.TheVariants.{Int}
 use Rattle.rules.specs.Typing.{Env, stale, typing}
 use Rattle.rules.proofs.Keeps.{OfLine, Mapped, Afresh}
 use Rattle.rules.proofs.Coherence.{Fits, FitsAll}

@@ -9,7 +9,8 @@ use lib.Dec.{eqb}
 use lib.ListN.{length, get_or, replicate, length-replicate}
 use lib.Seq.{get_or-set_same, get_or-set_other}
 use borrow.Author.Tests.{eqb-true, eqb-false, ne_eqb}
-use Rattle.rules.specs.Asking.{Ty, Res, ok, refused, Rule, ret, refuse, ask, Asking, Out, concluded, fresh, reached, reached_from, refused_in, first_code, code_of}
+use Rattle.rules.specs.Asking.{Res, ok, refused, Rule, ret, refuse, ask, Asking, Out, concluded, fresh, reached, reached_from, refused_in, first_code, code_of}
+use Rattle.rules.specs.declared.ty.Ty.{Ty}
 use Rattle.rules.specs.Kept.{Table, put_if, mark, marks, count}
 use Rattle.rules.proofs.All.{All, all_append}
 use Rattle.rules.proofs.Keeps.{code-marks, length-marks, zeros}

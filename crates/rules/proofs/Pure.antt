@@ -7,7 +7,8 @@ use Prim.Native.Nat.{ℕ}
 use lib.Dec.{leb}
 use Rattle.rules.specs.Text.{Name, Piece}
 use Rattle.rules.specs.Ast.{Type', Arg, of_type, of_int, m_of_n, AssignOp, Expr, leaf, unary, binary, field, call, wrap, Exprs, nil, more, Param, Clause, limits, denies, mints, after, Entry, Stmt, guard, bind, emit, assign, do'}
-use Rattle.rules.specs.Asking.{Ty, Refusal, Rule, ret, refuse, ◌>>=◌, ◌>>◌, expect, provided, if_some, if_some_else, for_each}
+use Rattle.rules.specs.Asking.{Refusal, Rule, ret, refuse, ◌>>=◌, ◌>>◌, expect, provided, if_some, if_some_else, for_each}
+use Rattle.rules.specs.declared.ty.Ty.{Ty}
 use Rattle.rules.specs.Declarations.{guardian_bound, storable_arg, storable_args, storable_keyed, known, storable_as, storable, event_field_type, refuse_word64_as_digest}
 use Rattle.rules.specs.Model.{Model}
 use Rattle.rules.specs.Typing.{Env}

@@ -8,7 +8,8 @@ use native.Mathlib.Omega.{arith}
 use lib.ListN.{get_elem?}
 use Rattle.rules.specs.Text.{Name}
 use Rattle.rules.specs.Ast.{AssignOp, Expr, leaf, unary, binary, field, call, wrap, Exprs, nil, more, Param, Field, Clause, limits, denies, mints, after, Entry, Stmt, guard, bind, emit, assign, do', list, line_after}
-use Rattle.rules.specs.Asking.{Ty, Rule, ret, ◌>>◌, fresh, ok, for_each, if_some}
+use Rattle.rules.specs.Asking.{Rule, ret, ◌>>◌, fresh, ok, for_each, if_some}
+use Rattle.rules.specs.declared.ty.Ty.{Ty}
 use Rattle.rules.specs.Model.{Model}
 use Rattle.rules.specs.Typing.{Env, new, bound, Asked, Call, call_of, typings, ask_of, ty_of}
 use Rattle.rules.specs.Statements.{check_emit_field, check_emit_fields, check_assign, check_keyed_use, check_stmt_types, expect_predicate, refuse_name_recipient}

@@ -5,7 +5,8 @@ use Rattle.std.proofs.Math.Option.{Option, none, some}
 use Rattle.text.specs.Text.{same}
 use Rattle.rules.specs.Text.{Name, is, among, get, Piece, lit, raw}
 use Rattle.rules.specs.Ast.{BinOp, Or, And, Eq, Ne, Lt, Gt, Le, Ge, Add, Sub, Mul, Div, Rem, Shr, AssignOp, Set, AddTo, SubFrom, Expr, leaf, unary, binary, field, call, wrap, Exprs, nil, more, Param, Clause, limits, denies, mints, after, Entry, Stmt, guard, bind, emit, assign, do'}
-use Rattle.rules.specs.Asking.{Ty, Rule, ret, expect, if_some, for_each}
+use Rattle.rules.specs.Asking.{Rule, ret, expect, if_some, for_each}
+use Rattle.rules.specs.declared.ty.Ty.{Ty}
 use Rattle.rules.specs.Types.{int_of}
 use Rattle.rules.specs.Model.{is_asset_param}
 use Rattle.rules.specs.Typing.{ident_of, dot_of, is_some, leaf_has}

@@ -4,9 +4,8 @@ use Rattle.std.specs.Prelude.{ℕ, zero, suc, List, [], ◌∷◌, ◌++◌, Boo
 use Rattle.std.proofs.Math.Option.{Option, none, some}
 use Rattle.rules.specs.Text.{Piece}
 use Rattle.rules.specs.Codes as codes
-
-pub data Ty : Type 0 where
-  Int Boolean Address Asset Word64 TName Time Str Collection Unknown : Ty
+use Rattle.rules.specs.declared.ty.Ty.{Ty}
+use Rattle.rules.specs.declared.ty.Ty.TheVariants.{Int, Boolean, Address, Asset, Word64, Name as TName, Time, Str, Collection, Unknown}
 
 unfoldable pub code : Ty → ℕ
 code Int = codes.int

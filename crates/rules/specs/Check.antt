@@ -2,7 +2,9 @@
 use Rattle.std.specs.Prelude.{ℕ, List, [], ◌∷◌, map, true, false, not}
 use Rattle.rules.specs.Text.{Name, is_one, Piece, lit, raw}
 use Rattle.rules.specs.Ast.{Type', Set, id, Expr, leaf, Field, Param, Clause, limits, denies, mints, after, Entry, Stmt, guard, bind, emit, assign, do', span, line_after, type_name, type_span}
-use Rattle.rules.specs.Asking.{Ty, Collection, Rule, ret, ◌>>=◌, ◌>>◌, expect, if_some, for_each}
+use Rattle.rules.specs.Asking.{Rule, ret, ◌>>=◌, ◌>>◌, expect, if_some, for_each}
+use Rattle.rules.specs.declared.ty.Ty.{Ty}
+use Rattle.rules.specs.declared.ty.Ty.TheVariants.{Collection}
 use Rattle.rules.specs.Types.{ty_of_decl, eq_ty}
 use Rattle.rules.specs.Declarations.{guardian_fits, guardian_bound, storable, event_field_type, refuse_word64_as_digest}
 use Rattle.rules.specs.Model.{Model, values}

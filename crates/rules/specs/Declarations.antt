@@ -5,7 +5,8 @@ use Rattle.std.proofs.Math.Option.{Option, none, some}
 use Rattle.text.specs.Text.{bytes}
 use Rattle.rules.specs.Text.{Name, is, pick, Piece, lit, raw, dec}
 use Rattle.rules.specs.Ast.{Type', type, Arg, of_type, of_int, m_of_n, Args, anil, amore, type_name, type_span, args}
-use Rattle.rules.specs.Asking.{Int, Boolean, Address, Asset, Word64, TName, Time, Str, Collection, Unknown, Rule, ret, ◌>>◌, expect}
+use Rattle.rules.specs.Asking.{Rule, ret, ◌>>◌, expect}
+use Rattle.rules.specs.declared.ty.Ty.TheVariants.{Int, Boolean, Address, Asset, Word64, Name as TName, Time, Str, Collection, Unknown}
 use Rattle.rules.specs.Types.{parse_u64, ty_of_decl, eq_ty, is_ty}
 
 -- ------------------------------------------------------------ guardian_bound

@@ -15,3 +15,4 @@ pub mod Check
 pub mod Verdict
 pub mod Standing
 pub mod Computed
+pub mod Operators

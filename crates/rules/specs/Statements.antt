@@ -5,7 +5,9 @@ use Rattle.std.proofs.Math.Option.{Option, none, some}
 use Rattle.std.proofs.Math.ListN.{get_elem?}
 use Rattle.rules.specs.Text.{Name, is, pick, Piece, lit, raw, dec}
 use Rattle.rules.specs.Ast.{AssignOp, Set, AddTo, SubFrom, Wrap, Checked, Wrapping, Expr, leaf, unary, binary, field, call, wrap, Param, Stmt, guard, bind, emit, assign, do', span, list, type_name}
-use Rattle.rules.specs.Asking.{Ty, Boolean, Address, Asset, TName, Collection, Unknown, Rule, ret, ◌>>=◌, ◌>>◌, expect, if_some, for_each}
+use Rattle.rules.specs.Asking.{Rule, ret, ◌>>=◌, ◌>>◌, expect, if_some, for_each}
+use Rattle.rules.specs.declared.ty.Ty.{Ty}
+use Rattle.rules.specs.declared.ty.Ty.TheVariants.{Boolean, Address, Asset, Name as TName, Collection, Unknown}
 use Rattle.rules.specs.Types.{parse_u128, int_of, narrow_max, ty_of_decl, eq_ty, is_ty, describe, numeric, one_word, compatible}
 use Rattle.rules.specs.Declarations.{type_text}
 use Rattle.rules.specs.Model.{Model, field_named, event_named}

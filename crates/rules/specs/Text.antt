@@ -2,10 +2,16 @@
 use Rattle.std.specs.Prelude.{ℕ, zero, suc, ◌+◌, ◌/◌, ◌%◌, List, [], ◌∷◌, ◌++◌, Bool, true, false, eqb}
 use Prim.Native.String.{String}
 use Rattle.std.proofs.Math.Option.{Option, none, some}
+use Rattle.std.specs.Prelude as code
 use Rattle.text.specs.Text.{bytes, same}
 
 abbrev pub Name : Type 0
 Name = List ℕ
+
+-- an Option of the definitions as the code has it
+unfoldable pub option_of : {A : Type 0} → Option A → code.Option A
+option_of none = code.None
+option_of (some a) = code.Some a
 
 -- the name is this word
 unfoldable pub is : Name → String → Bool

@@ -7,7 +7,9 @@ use Rattle.text.specs.Text.{all}
 use Rattle.text.specs.Field.{value_from}
 use Rattle.rules.specs.Text.{Name, is_one, pick}
 use Rattle.rules.specs.Ast.{Type', Arg, of_type, of_int, m_of_n, Leaf, int, id, date, str, caller, native, inasset, now, Expr, leaf_of, type_name, args}
-use Rattle.rules.specs.Asking.{Ty, Int, Boolean, Address, Asset, Word64, TName, Time, Str, Collection, Unknown, code}
+use Rattle.rules.specs.Asking.{code}
+use Rattle.rules.specs.declared.ty.Ty.{Ty}
+use Rattle.rules.specs.declared.ty.Ty.TheVariants.{Int, Boolean, Address, Asset, Word64, Name as TName, Time, Str, Collection, Unknown}
 
 -- ------------------------------------------------------------ numbers
 

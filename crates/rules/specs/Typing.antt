@@ -4,7 +4,9 @@ use Prim.Native.String.{String}
 use Rattle.std.proofs.Math.Option.{Option, none, some}
 use Rattle.rules.specs.Text.{Name, is, is_one, pick, among, get, Piece, lit, raw}
 use Rattle.rules.specs.Ast.{UnaryOp, Not, Neg, BinOp, Or, And, Eq, Ne, Lt, Gt, Le, Ge, Add, Sub, Mul, Div, Rem, Shr, Type', Leaf, int, id, date, str, caller, native, inasset, now, Expr, leaf, unary, binary, field, call, wrap, Exprs, nil, more, Field, span, line, leaf_of, type_name}
-use Rattle.rules.specs.Asking.{Ty, Int, Boolean, Address, Asset, Word64, TName, Time, Str, Unknown, Rule, ret, ask, ◌>>=◌, ◌>>◌, expect, provided, if_some}
+use Rattle.rules.specs.Asking.{Rule, ret, ask, ◌>>=◌, ◌>>◌, expect, provided, if_some}
+use Rattle.rules.specs.declared.ty.Ty.{Ty}
+use Rattle.rules.specs.declared.ty.Ty.TheVariants.{Int, Boolean, Address, Asset, Word64, Name as TName, Time, Str, Unknown}
 use Rattle.rules.specs.Types.{is_zero_literal, ty_of_decl, declared_arg, eq_ty, is_ty, describe, numeric, compatible}
 use Rattle.rules.specs.Declarations.{type_text}
 use Rattle.rules.specs.Model.{Model, field_named}

@@ -20,3 +20,4 @@ pub mod Rereading
 pub mod FromOne
 pub mod Joining
 pub mod Bytes
+pub mod Tested

@@ -25,7 +25,7 @@ use Rattle.sheet.specs.Scratch.{Small}
 use Rattle.sheet.specs.Step.{code_line}
 use Rattle.grammar.specs.Table.{told_sorts, sorts_in, group_sorts, numbers_in}
 use Rattle.sheet.specs.Tree.{total}
-use Rattle.grammar.proofs.KindLaws.{kind_known}
+use Rattle.grammar.proofs.KindLaws.{kind_most}
 use Rattle.grammar.proofs.TableLaws.{at_most, few_parts}
 
 -- what comes behind a piece's end does not change it
@@ -271,7 +271,7 @@ module _ (s : Sort) (a : ℕ) (y : List ℕ) (l : Line) where
   pieces_sound (w ∷ fs) e h =
       let k = kind_for s w in
       let r = read_as_lem k a (length w) fs l h in
-      let known = kind_known s w k refl r.0 in
+      let known : kind_for s w < no_kind = omega (arith, kind_most s w, r.0) in
       let w_at : w ≡ piece_at y 0 = (piece_first (either 44 10) y 0 w fs e).1 in
       let t : Stand a y a (w ∷ fs) = rw add-zero at (pieces_stand a y (w ∷ fs) 0 e) in
       let i =

@@ -13,8 +13,13 @@ use Rattle.std.specs.Option.{unwrap_or}
 use Rattle.text.specs.Text.{either}
 use Rattle.text.specs.Field.{Number, number_of}
 use Rattle.text.proofs.Pieces.{upto_between}
-use Rattle.grammar.specs.Grammar.{records, no_kind}
+use Rattle.grammar.specs.Grammar.{records}
 use Rattle.grammar.specs.Table.{rule_column, span_rule}
+use Rattle.std.specs.Prelude.{Option, Some, None}
+use Rattle.grammar.specs.Coded.{kind_number, kind_of}
+use Rattle.grammar.specs.declared.kinds.Kind.{Kind}
+use Rattle.grammar.proofs.Numbers as numbers
+use Rattle.grammar.proofs.Numbers.{kind_numbered, number_below}
 use Rattle.grammar.proofs.TableLaws.{rule_at}
 use Rattle.sheet.specs.Scratch.{cell, kind_at, line_count, start_cell, name_cell, length_cell}
 use Rattle.sheet.specs.Field.{piece_at}
@@ -50,11 +55,11 @@ unfolding word_at
 word_none s S i h = rw (le-ltb i (line_count S) h)
 
 -- whether a record has a span: no record has the kind `no_kind` or a greater one
-pub kind_none : (k : ℕ) → no_kind ≤ k → false ≡ span_first k
-kind_none k h = rw (get_or-eq_default records _ h)
+pub kind_none : (k : ℕ) (o : Option Kind) → o ≡ kind_of k → o ≡ None → false ≡ span_first k
+kind_none k o q h = rw (get_or-eq_default records _ (numbers.kind_none k (sym q ∙ h)))
 
-pub kind_first : (k : ℕ) (b : Bool) → k < no_kind → b ≡ eqb (get_or (rule_column 0) k 0) span_rule → b ≡ span_first k
-kind_first k b h e = e ∙ ap (λ m. eqb m span_rule) (rule_at k 0 h)
+pub kind_first : (k : ℕ) (o : Option Kind) (K : Kind) (b : Bool) → o ≡ kind_of k → o ≡ Some K → b ≡ eqb (get_or (rule_column 0) (kind_number K) 0) span_rule → b ≡ span_first k
+kind_first k o K b q h e = e ∙ rw (kind_numbered k K (sym q ∙ h)) (ap (λ m. eqb m span_rule) (rule_at (kind_number K) 0 (number_below K)))
 
 pub span_none : (s S : List ℕ) (i k : ℕ) (b : Bool) → k ≡ kind_at S i → b ≡ span_first k → not b ≡ true → 0 ≡ span_at s S i
 unfolding span_at

@@ -13,7 +13,8 @@ use Rattle.std.specs.Prelude.{Result, Ok, Err}
 use Rattle.text.specs.Text.{either, upto, ended}
 use Rattle.sheet.specs.Line.{good, read_pieces, read_line}
 use Rattle.sheet.specs.Line as spec
-use Rattle.grammar.specs.Table.{sort_of}
+use Rattle.grammar.specs.Coded.{sort_from, sort_meant}
+use Rattle.grammar.specs.declared.sorts.Sort as code
 use Rattle.sheet.specs.Scratch.{Small, line_count, put_line}
 use Rattle.sheet.specs.Step.{code_line, code_read}
 use Rattle.sheet.specs.Open.{Top, sort_due, sort_or, taken}
@@ -29,8 +30,8 @@ abbrev pub Found : List ℕ → ℕ → ℕ → Type 0
 Found s at f = f ≡ at + length (upto (either 10 10) (drop at s))
 
 -- what the code reads of it
-abbrev pub Got : List ℕ → ℕ → ℕ → ℕ → ℕ → Result Line Refused → Type 0
-Got s at i σ f r = r ≡ code_read (i + 1) (read_pieces (sort_of σ) at (ended (either 44 10) [] (take (f + 1 - at) (drop at s))))
+abbrev pub Got : List ℕ → ℕ → ℕ → code.Sort → ℕ → Result Line Refused → Type 0
+Got s at i σ f r = r ≡ code_read (i + 1) (read_pieces (sort_meant σ) at (ended (either 44 10) [] (take (f + 1 - at) (drop at s))))
 
 module _ {s S T : List ℕ} {d : Depths} {at i : ℕ} (g : Going s S T d.due d.count at i) (w : Whole s S) where
   -- n lines are there: all are read
@@ -51,7 +52,7 @@ module _ {s S T : List ℕ} {d : Depths} {at i : ℕ} (g : Going s S T d.due d.c
         rw (e, k) (scans_refused s S T _ (end_missing s S T d.due d.count at i g over z) g.size)
 
   -- ... or a line is left
-  module _ {n : ℕ} (t : n ≡ line_count S) (j : i < n) {o : Result ℕ Refused} (p : o ≡ sort_or (i + 1) T d.due d.count) where
+  module _ {n : ℕ} (t : n ≡ line_count S) (j : i < n) {o : Result code.Sort Refused} (p : o ≡ sort_or (i + 1) T d.due d.count) where
     h : at < length s
     h = by_cases (ltb at (length s)) refl
       where
@@ -75,8 +76,8 @@ module _ {s S T : List ℕ} {d : Depths} {at i : ℕ} (g : Going s S T d.due d.c
       pub line-within : at + length (take (f + 1 - at) (drop at s)) ≤ 65535
       line-within = let b = before_end in simp (length-take, length-drop) (omega (arith, w.small))
 
-      module _ {σ : ℕ} (q : o ≡ Ok σ) {r : Result Line Refused} (u : Got s at i σ f r) where
-        sort : (d.count ≡ 0 → ⊥) × (d.count ≤ 65) × (σ ≡ sort_due T d.due d.count)
+      module _ {σ : code.Sort} (q : o ≡ Ok σ) {r : Result Line Refused} (u : Got s at i σ f r) where
+        sort : (d.count ≡ 0 → ⊥) × (d.count ≤ 65) × (σ ≡ sort_from (sort_due T d.due d.count))
         sort = turn_sort s S T d.due d.count at i w g h o σ p q
 
         pub returns-bad : {a : Refused} → r ≡ Err a → Scans s S T (Err a)
@@ -86,7 +87,7 @@ module _ {s S T : List ℕ} {d : Depths} {at i : ℕ} (g : Going s S T d.due d.c
 
         -- the line is read
         module _ {l : Line} (b : r ≡ Ok l) where
-          is : (x : spec.Line) × (read_line (sort_of σ) at (upto (either 10 10) (drop at s)) ≡ good x) × (l ≡ code_line x)
+          is : (x : spec.Line) × (read_line (sort_meant σ) at (upto (either 10 10) (drop at s)) ≡ good x) × (l ≡ code_line x)
           is = told_good (i + 1) _ l (sym (turn_read s S T d.due d.count at i w g h σ f r e u) ∙ b)
 
           pub puts : (i < line_count T) × Small l

@@ -12,7 +12,7 @@ use lib.Seq.{take-suc, get_or-drop}
 use borrow.Author.Tests.{eqb-true, eqb-false, ne_eqb, le-ltb, lt-ltb, ltb-true, ltb-false, leb-true, leb-false}
 use Rattle.text.specs.Text.{either, upto, ended}
 use Rattle.text.proofs.Pieces.{upto_front, upto_most, upto_stop, piece_next}
-use Rattle.grammar.specs.Grammar.{Sort, Contract, Item, Field, Param, Ty, Arg, Clause, Stmt, Expr, record_of, no_kind}
+use Rattle.grammar.specs.Grammar.{Sort, Contract, Expr, record_of, no_kind}
 use Rattle.sheet.specs.Line.{Line, Read, good, bad, read_pieces, read_line, fields_of}
 use Rattle.sheet.specs.Load.{LoadResult, lines, refused, after, lines_of, copies, sorts, due, judged, scan, unended}
 use Rattle.grammar.specs.Table.{sort_of, sort_number, sort_numbers, sorts_in, group_sorts, numbers_in, three}
@@ -27,7 +27,11 @@ use Rattle.sheet.specs.declared.line.Line.{Line as CodeLine}
 use Rattle.sheet.specs.declared.refusal.Refused.{Refused}
 use Rattle.std.specs.Prelude.{Result, Ok, Err}
 use Rattle.sheet.proofs.ReadAs.{ReadAs, read_sound, sound_small}
+use Rattle.grammar.specs.Coded.{sort_from, sort_meant}
+use Rattle.grammar.specs.declared.sorts.Sort as code
+use Rattle.grammar.proofs.Numbers.{meant_from}
 use Rattle.grammar.proofs.TableLaws.{sort_at}
+use Rattle.sheet.specs.Once.{sort-number}
 use Rattle.sheet.proofs.Holds.{line_says, line_below, length-line}
 use Rattle.sheet.proofs.Opening.{sorts-length, settled_most, opened_head, after_none, after_some, open_none, open_some}
 
@@ -110,17 +114,6 @@ module _ (s : List ℕ) (at : ℕ) (u : unended s ≡ false) (h : at < length s)
       let n : end - at ≡ suc (length line) = omega arith in
       rw (n, take-suc (drop at s) (length line) 0 g, upto_front (either 10 10) (drop at s), ten (get_or (drop at s) (length line) 0) (upto_stop (either 10 10) (drop at s) g))
 
-sort_back : (s : Sort) → sort_of (sort_number s) ≡ s
-sort_back Contract = refl
-sort_back Item = refl
-sort_back Field = refl
-sort_back Param = refl
-sort_back Ty = refl
-sort_back Arg = refl
-sort_back Clause = refl
-sort_back Stmt = refl
-sort_back Expr = refl
-
 -- the parts of at most three groups, one by one
 three-sorts : (gs : List (ℕ × Sort)) → length gs ≤ 3
     → copies (get_or (numbers_in gs) 0 0) (sort_of (get_or (three (sort_number Expr) (sort_numbers (sorts_in gs))) 0 0))
@@ -129,9 +122,9 @@ three-sorts : (gs : List (ℕ × Sort)) → length gs ≤ 3
     ≡ sorts gs
 unfolding sorts copies
 three-sorts [] h = refl
-three-sorts (a ∷ []) h = rw (sort_back a.1)
-three-sorts (a ∷ b ∷ []) h = rw (sort_back a.1, sort_back b.1)
-three-sorts (a ∷ b ∷ c ∷ []) h = rw (sort_back a.1, sort_back b.1, sort_back c.1, append-nil)
+three-sorts (a ∷ []) h = rw (sort-number a.1)
+three-sorts (a ∷ b ∷ []) h = rw (sort-number a.1, sort-number b.1)
+three-sorts (a ∷ b ∷ c ∷ []) h = rw (sort-number a.1, sort-number b.1, sort-number c.1, append-nil)
 three-sorts (a ∷ b ∷ c ∷ d ∷ gs) h = absurd (omega arith)
 
 -- the cells of a line tell the sorts of its parts
@@ -169,30 +162,30 @@ module _ (s S T : List ℕ) (ds : List Due) (n at i : ℕ) (w : Whole s S) (g : 
   fewer = let e = ap length there in omega (arith, g.lines)
 
   -- what the code reads of the line
-  pub turn_read : (σ f : ℕ) (r : Result CodeLine Refused) → f ≡ at + length here → r ≡ code_read (i + 1) (read_pieces (sort_of σ) at (ended (either 44 10) [] (take (f + 1 - at) (drop at s))))
-      → r ≡ code_read (i + 1) (read_line (sort_of σ) at here)
+  pub turn_read : (σ : code.Sort) (f : ℕ) (r : Result CodeLine Refused) → f ≡ at + length here → r ≡ code_read (i + 1) (read_pieces (sort_meant σ) at (ended (either 44 10) [] (take (f + 1 - at) (drop at s))))
+      → r ≡ code_read (i + 1) (read_line (sort_meant σ) at here)
   unfolding read_line fields_of
   turn_read σ f r e q = q ∙ rw (line_part s at w.terminated h (f + 1) (ap (λ k. k + 1) e))
 
   -- the sort of record that is due, unless it is refused
-  pub turn_sort : (r : Result ℕ Refused) (σ : ℕ) → r ≡ sort_or (i + 1) T ds n → r ≡ Ok σ → (n ≡ 0 → ⊥) × (n ≤ 65) × (σ ≡ sort_due T ds n)
+  pub turn_sort : (r : Result code.Sort Refused) (σ : code.Sort) → r ≡ sort_or (i + 1) T ds n → r ≡ Ok σ → (n ≡ 0 → ⊥) × (n ≤ 65) × (σ ≡ sort_from (sort_due T ds n))
   unfolding sort_or
   turn_sort r σ e q = by_cases (eqb n 0) (ltb 65 n) refl refl (sym e ∙ q)
     where
       by_cases : (a b : Bool) → eqb n 0 ≡ a → ltb 65 n ≡ b
-          → cond {A = Result ℕ Refused} a (Err (record { number = 6; line = i + 1 })) (cond b (Err (record { number = 7; line = i + 1 })) (Ok (sort_due T ds n))) ≡ Ok σ
-          → (n ≡ 0 → ⊥) × (n ≤ 65) × (σ ≡ sort_due T ds n)
+          → cond {A = Result code.Sort Refused} a (Err (record { number = 6; line = i + 1 })) (cond b (Err (record { number = 7; line = i + 1 })) (Ok (sort_from (sort_due T ds n)))) ≡ Ok σ
+          → (n ≡ 0 → ⊥) × (n ≤ 65) × (σ ≡ sort_from (sort_due T ds n))
       by_cases true b a d e = absurd (let z : ◌≡◌ {A = ℕ} 0 1 = cc in omega arith)
       by_cases false true a d e = absurd (let z : ◌≡◌ {A = ℕ} 0 1 = cc in omega arith)
       by_cases false false a d e = (eqb-false n 0 a, ltb-false 65 n d, cc)
 
   -- nothing is due, or a record too deep
-  pub turn_sortless : (r : Result ℕ Refused) (f : Refused) → r ≡ sort_or (i + 1) T ds n → r ≡ Err f → scan_all s ≡ refused f.number f.line
+  pub turn_sortless : (r : Result code.Sort Refused) (f : Refused) → r ≡ sort_or (i + 1) T ds n → r ≡ Err f → scan_all s ≡ refused f.number f.line
   unfolding sort_or opened scan judged
   turn_sortless r f e q = by_cases (eqb n 0) (ltb 65 n) refl refl (sym e ∙ q)
     where
       by_cases : (a b : Bool) → eqb n 0 ≡ a → ltb 65 n ≡ b
-          → cond {A = Result ℕ Refused} a (Err (record { number = 6; line = i + 1 })) (cond b (Err (record { number = 7; line = i + 1 })) (Ok (sort_due T ds n))) ≡ Err f
+          → cond {A = Result code.Sort Refused} a (Err (record { number = 6; line = i + 1 })) (cond b (Err (record { number = 7; line = i + 1 })) (Ok (sort_from (sort_due T ds n)))) ≡ Err f
           → scan_all s ≡ refused f.number f.line
       by_cases true b a d e =
           let k : record { number = 6; line = i + 1 } ≡ f = cc in
@@ -203,30 +196,30 @@ module _ (s S T : List ℕ) (ds : List Due) (n at i : ℕ) (w : Whole s S) (g : 
           rw (← k) (g.whole ∙ rw (there, q.2, add-one i) (after-refused g.read 7 (suc i)))
       by_cases false false a d e = absurd (let z : ◌≡◌ {A = ℕ} 0 1 = cc in omega arith)
 
-  module _ (some : n ≡ 0 → ⊥) (few : n ≤ 65) (σ : ℕ) (p : σ ≡ sort_due T ds n) where
+  module _ (some : n ≡ 0 → ⊥) (few : n ≤ 65) (σ : code.Sort) (p : σ ≡ sort_from (sort_due T ds n)) where
     counted : Open T ds i n
     counted = (g.counts few).0
 
     whole : scan_all s
-        ≡ after_all g.read (scan (suc i) at ((n - 1, sort_of σ) ∷ opened T (spent ds n) n) (here ∷ lines_from s (at + length here + 1)))
-    whole = g.whole ∙ rw ((g.counts few).1, there, opened_head T ds i n counted (omega (arith, some)), ← p)
+        ≡ after_all g.read (scan (suc i) at ((n - 1, sort_meant σ) ∷ opened T (spent ds n) n) (here ∷ lines_from s (at + length here + 1)))
+    whole = g.whole ∙ rw ((g.counts few).1, there, opened_head T ds i n counted (omega (arith, some)), ← meant_from (sort_due T ds n), ← p)
 
-    pub turn_bad : (m : ℕ) → read_line (sort_of σ) at here ≡ bad m → scan_all s ≡ refused m (i + 1)
+    pub turn_bad : (m : ℕ) → read_line (sort_meant σ) at here ≡ bad m → scan_all s ≡ refused m (i + 1)
     turn_bad m b =
         whole
-        ∙ rw (scan_bad (suc i) at (n - 1) m (sort_of σ) _ here _ (omega arith) b, add-one i)
+        ∙ rw (scan_bad (suc i) at (n - 1) m (sort_meant σ) _ here _ (omega arith) b, add-one i)
         (after-refused g.read m (suc i))
 
     -- the line is read: x is what it says, and l what the code makes of it
-    module _ (l : CodeLine) (x : Line) (c : read_line (sort_of σ) at here ≡ good x) (t : l ≡ code_line x) where
-      sound : ReadAs (sort_of σ) at (here ++ (10 ∷ [])) x
+    module _ (l : CodeLine) (x : Line) (c : read_line (sort_meant σ) at here ≡ good x) (t : l ≡ code_line x) where
+      sound : ReadAs (sort_meant σ) at (here ++ (10 ∷ [])) x
       unfolding read_line fields_of
-      sound = read_sound (sort_of σ) at (here ++ (10 ∷ [])) x c
+      sound = read_sound (sort_meant σ) at (here ++ (10 ∷ [])) x c
 
       pub turn_small : Small l
       turn_small =
           rw t
-          (sound_small (sort_of σ) at (here ++ (10 ∷ [])) x (rw (length-append here (10 ∷ [])) (omega (arith, line_ends s at w.terminated h, w.small))) sound)
+          (sound_small (sort_meant σ) at (here ++ (10 ∷ [])) x (rw (length-append here (10 ∷ [])) (omega (arith, line_ends s at w.terminated h, w.small))) sound)
 
       pub turn_room : i < line_count T
       turn_room = omega (arith, fewer, g.size, w.cells)
@@ -258,7 +251,7 @@ module _ (s S T : List ℕ) (ds : List Due) (n at i : ℕ) (w : Whole s S) (g : 
         later : scan_all s ≡ after_all g.read (after x rest)
         later =
             whole
-            ∙ rw (scan_good (suc i) at (n - 1) (sort_of σ) _ here _ x (omega arith) c, let m : suc (n - 1) ≡ n = omega (arith, some) in m, ← sorts_told U i x says sound.known sound.parted.sorts sound.groups)
+            ∙ rw (scan_good (suc i) at (n - 1) (sort_meant σ) _ here _ x (omega arith) c, let m : suc (n - 1) ≡ n = omega (arith, some) in m, ← sorts_told U i x says sound.known sound.parted.sorts sound.groups)
 
         abbrev due_next : List (ℕ × Sort)
         due_next = due n (sorts_at U i) ++ opened T (spent ds n) n

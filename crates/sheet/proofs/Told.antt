@@ -1,17 +1,20 @@
 -- The steps by number are the rules: what the code reads of a line is told of what the line says. Assumes nothing.
 use mathlib.Core.Logic.{◌≢◌}
-use mathlib.Core.Path.{◌≡◌, refl, ap, ◌∙◌}
+use mathlib.Core.Path.{◌≡◌, refl, sym, ap, ◌∙◌}
 use mathlib.Core.Bool.{Bool, true, false}
 use mathlib.Core.List.{List, [], ◌∷◌}
 use mathlib.Core.Option as read
 use mathlib.Core.Option.{none as nothing, some}
-use Prim.Native.Nat.{ℕ, suc, ◌+◌, ◌-◌, ◌≤◌, ◌<◌}
+use Prim.Native.Nat.{ℕ, zero, suc, ◌+◌, ◌-◌, ◌≤◌, ◌<◌}
 use native.Mathlib.Numerals.{add-one}
 use native.Mathlib.Omega.{arith}
-use borrow.Author.Tests.{lt-ltb, le-ltb, eq-eqb, ne_eqb}
-use lib.ListN.{length, get_or, take, drop, length-append}
+use borrow.Author.Tests.{eq-eqb, ne_eqb}
+use lib.Dec.{ltb}
+use lib.ListN.{length, get_or, take, drop, length-append, get_or-eq_default}
 use lib.Seq.{length-take-le}
 use Rattle.text.specs.Text.{either, ended}
+use Rattle.text.specs.Word.{index_in}
+use Rattle.text.proofs.Words.{place_told}
 use Rattle.text.proofs.Pieces.{upto_front, ended_none, piece_next}
 use Rattle.std.specs.Prelude.{Option, Some, None, Result, Err, ok_or, option_map, option_and_then}
 use Rattle.std.specs.Bool.{then_some}
@@ -21,11 +24,14 @@ use Rattle.sheet.specs.Line as line
 use Rattle.sheet.specs.Line.{begun, with_parts, when, on_number, and_then, read_field, read_fields, read_as, read_pieces, most_count}
 use Rattle.grammar.specs.Table.{rule_numbers, told_sorts, length_table, numbers_in, always_table, numbers_of, count_rule, flag_rule}
 use Rattle.sheet.specs.Step as step
-use Rattle.sheet.specs.Step.{code_line, code_read, parts_step, step_of, step_all}
+use Rattle.sheet.specs.Step.{code_line, code_read, op_step, parts_step, step_of, step_all}
 use Rattle.sheet.specs.Field.{piece_at, piece_end}
 use Rattle.sheet.specs.declared.line.Line.{Line}
 use Rattle.sheet.specs.declared.refusal.Refused.{Refused}
-use Rattle.grammar.proofs.KindLaws.{kind_known}
+use Rattle.grammar.specs.Coded.{kind_number, kind_of}
+use Rattle.grammar.specs.declared.kinds.Kind.{Kind}
+use Rattle.grammar.proofs.KindLaws.{kind_most}
+use Rattle.grammar.proofs.Numbers.{kind_none, kind_numbered, number_below}
 use Rattle.grammar.proofs.TableLaws.{number_at_lem, fields_at, few_always, few_parts}
 
 unfoldable pub map_told : read.Option line.Line → Option Line
@@ -39,6 +45,15 @@ module _ (F : line.Line → read.Option line.Line) (G : Line → Option Line) wh
   unfolding map_told and_then on_number
   then_number (Some v) f g e h = rw (e v) (h v)
   then_number None f g e h = refl
+
+  then_op : (ws : List (List ℕ)) (f : List ℕ) (l : line.Line) → ((p : ℕ) → G (step.with_op (code_line l) p) ≡ map_told (F (line.with_op l p)))
+      → option_and_then G (op_step ws f (code_line l)) ≡ map_told (and_then (line.chosen (index_in f ws) (length ws) l) F)
+  unfolding map_told and_then when
+  then_op ws f l h = rw (place_told f ws) (by_cases (ltb (index_in f ws) (length ws)) (index_in f ws))
+    where
+      by_cases : (b : Bool) (p : ℕ) → option_and_then G (option_map (step.with_op (code_line l)) (then_some b p)) ≡ map_told (and_then (when b (line.with_op l p)) F)
+      by_cases true p = h p
+      by_cases false p = refl
 
   then_when : (b : Bool) (l : line.Line) → G (code_line l) ≡ map_told (F l) → option_and_then G (then_some b (code_line l)) ≡ map_told (and_then (when b l) F)
   unfolding map_told and_then when
@@ -63,17 +78,20 @@ one_more : (l : line.Line) (n : ℕ) (s : Sort) (g : ℕ) → length l.parts ≡
 one_more l n s g e = rw (length-append, e) (add-one g)
 
 count_step : (g a : ℕ) (f : List ℕ) (l : Line) → g < 3 → step_of (count_rule + g) a f l ≡ parts_step most_count g f l
-unfolding step_of
-count_step g a f l h = rw (le-ltb (count_rule + g) count_rule (omega arith), lt-ltb (count_rule + g) flag_rule (omega arith), let q : count_rule + g - count_rule ≡ g = omega arith in q)
+unfolding step_of step.step
+count_step zero a f l h = refl
+count_step (suc zero) a f l h = refl
+count_step (suc (suc zero)) a f l h = refl
+count_step (suc (suc (suc g))) a f l h = absurd (omega arith)
 
 flag_step : (g a : ℕ) (f : List ℕ) (l : Line) → step_of (flag_rule + g) a f l ≡ parts_step 1 g f l
-unfolding step_of
-flag_step g a f l = rw (le-ltb (flag_rule + g) count_rule (omega arith), le-ltb (flag_rule + g) flag_rule (omega arith), let q : flag_rule + g - flag_rule ≡ g = omega arith in q)
+unfolding step_of step.step
+flag_step g a f l = rw (get_or-eq_default _ _ (let h : 10 ≤ flag_rule + g = omega arith in h), let q : flag_rule + g - flag_rule ≡ g = omega arith in q) refl
 
 -- the rules rs, where the line l has g groups of parts before them, of which there is room for three
 pub all_told : (rs : List Rule) (g a : ℕ) (fs : List (List ℕ)) (l : line.Line) → length l.parts ≡ g → g + length (told_sorts rs) ≤ 3
     → step_all (rule_numbers g rs) a fs (code_line l) ≡ map_told (read_fields rs a fs l)
-unfolding step_all read_fields read_field step_of map_told
+unfolding step_all read_fields read_field step_of step.step map_told
 all_told [] g a fs l e h = refl
 all_told (span ∷ rs) g a [] l e h = refl
 all_told (name ∷ rs) g a [] l e h = refl
@@ -86,9 +104,9 @@ all_told (flag s ∷ rs) g a [] l e h = refl
 all_told (span ∷ rs) g a (f ∷ fs) l e h = then_number _ _ _ _ _ (λ v. refl) (λ v. all_told rs g _ fs _ e h)
 all_told (name ∷ rs) g a (f ∷ fs) l e h = then_when _ _ _ _ (all_told rs g _ fs _ e h)
 all_told (text ∷ rs) g a (f ∷ fs) l e h = then_when _ _ _ _ (all_told rs g _ fs _ e h)
-all_told (assign_op ∷ rs) g a (f ∷ fs) l e h = then_when _ _ _ _ (all_told rs g _ fs _ e h)
-all_told (un_op ∷ rs) g a (f ∷ fs) l e h = then_when _ _ _ _ (all_told rs g _ fs _ e h)
-all_told (bin_op ∷ rs) g a (f ∷ fs) l e h = then_when _ _ _ _ (all_told rs g _ fs _ e h)
+all_told (assign_op ∷ rs) g a (f ∷ fs) l e h = then_op _ _ _ _ l (λ p. all_told rs g _ fs _ e h)
+all_told (un_op ∷ rs) g a (f ∷ fs) l e h = then_op _ _ _ _ l (λ p. all_told rs g _ fs _ e h)
+all_told (bin_op ∷ rs) g a (f ∷ fs) l e h = then_op _ _ _ _ l (λ p. all_told rs g _ fs _ e h)
 all_told (count s ∷ rs) g a (f ∷ fs) l e h =
     then_parts _ _ _ most_count g f l s (count_step g a f (code_line l) (omega arith)) e (omega arith) (λ v. all_told rs (suc g) _ fs _ (one_more l v s g e) (omega arith))
 all_told (flag s ∷ rs) g a (f ∷ fs) l e h =
@@ -115,7 +133,7 @@ module _ (s : Sort) (i : ℕ) (y : List ℕ) (end : ℕ) (e : end ≡ piece_end 
   unfolding read_pieces code_read
   line_empty at g h = rw (g, ended_none (either 44 10) [] y (omega arith))
 
-  module _ (ends : end < length y) (k : ℕ) (is : k ≡ kind_for s (take end y)) where
+  module _ (ends : end < length y) (o : Option Kind) (found : o ≡ kind_of (kind_for s (take end y))) where
     abbrev left : List (List ℕ)
     left = ended (either 44 10) [] (drop (end + 1) y)
 
@@ -125,13 +143,24 @@ module _ (s : Sort) (i : ℕ) (y : List ℕ) (end : ℕ) (e : end ≡ piece_end 
     opened : ended (either 44 10) [] y ≡ take end y ∷ left
     opened = rw (word, e) (piece_next (either 44 10) y 0 (omega arith))
 
-    pub line-unknown : (at : ℕ) {f : Refused} → f ≡ record { number = 8; line = i } → k ≡ no_kind → Err f ≡ answer at
+    pub line-unknown : (at : ℕ) {f : Refused} → f ≡ record { number = 8; line = i } → o ≡ None → Err f ≡ answer at
     unfolding read_pieces read_as code_read
-    line-unknown at g h = rw (g, opened, ← is, h)
+    line-unknown at g h =
+        let none : kind_for s (take end y) ≡ no_kind = omega (arith, kind_none (kind_for s (take end y)) (sym found ∙ h), kind_most s (take end y)) in
+        rw (g, opened, none)
 
-    module _ (known : k ≢ no_kind) (n m : ℕ) (pieces : n ≡ length (ended (either 44 10) [] y)) (fields : m ≡ get_or length_table k 0) where
+    module _ (K : Kind) (is_some : o ≡ Some K) (n m : ℕ) (pieces : n ≡ length (ended (either 44 10) [] y)) (fields : m ≡ get_or length_table (kind_number K) 0) where
+      abbrev k : ℕ
+      k = kind_number K
+
+      is : k ≡ kind_for s (take end y)
+      is = sym (kind_numbered (kind_for s (take end y)) K (sym found ∙ is_some))
+
       below : k < no_kind
-      below = kind_known s (take end y) k is known
+      below = number_below K
+
+      known : k ≢ no_kind
+      known h = omega (arith, below)
 
       rules : m ≡ length (record_of k).rules
       rules = fields_at k m below fields

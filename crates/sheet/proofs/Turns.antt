@@ -10,7 +10,9 @@ use Rattle.std.specs.Prelude.{Option, Some, None, option_and_then}
 use Rattle.text.specs.Text.{either, ended}
 use Rattle.text.proofs.Pieces.{upto_between, piece_ends, piece_next}
 use Rattle.sheet.specs.Field.{piece_at, piece_end}
-use Rattle.sheet.specs.Step.{step_of, step_all}
+use Rattle.sheet.specs.Step.{step, step_of, step_all}
+use Rattle.grammar.specs.Coded.{rule_of}
+use Rattle.grammar.specs.declared.field_rules.Rule.{Rule}
 use Rattle.sheet.specs.declared.line.Line.{Line}
 
 abbrev pieces : List ℕ → ℕ → List (List ℕ)
@@ -33,18 +35,23 @@ module _ (ns y : List ℕ) (r : Option Line) (at : ℕ) (l : Line) (c j : ℕ) (
     opened : pieces y c ≡ piece_at y c ∷ pieces y (piece_end y c + 1)
     opened = piece_next (either 44 10) y c turn_ends
 
-    -- A reading s of the field by the rule n, which ends at f.
-    module _ (n f : ℕ) (s : Option Line) (is : n ≡ get_or ns j 0) (g : f ≡ piece_end y c) (e : s ≡ step_of n (at + c) (take (f - c) (drop c y)) l) where
-      answered : r ≡ option_and_then (step_all (drop (suc j) ns) (at + c + length (piece_at y c) + 1) (pieces y (f + 1))) s
-      unfolding step_all
-      answered = t.answer ∙ rw (drop-cons ns j 0 h, opened, ← is, e, upto_between (either 44 10) y c f g, g)
+    -- The rule of the field, where the field ends at f.
+    module _ (o : Option Rule) (f : ℕ) (is : o ≡ rule_of (get_or ns j 0)) (g : f ≡ piece_end y c) where
+      answered : r ≡ option_and_then (step_all (drop (suc j) ns) (at + c + length (piece_at y c) + 1) (pieces y (f + 1))) (option_and_then (λ u. step u (at + c) (take (f - c) (drop c y)) l) o)
+      unfolding step_all step_of
+      answered = t.answer ∙ rw (drop-cons ns j 0 h, opened, is, upto_between (either 44 10) y c f g, g)
 
-      pub turn_wrong : s ≡ None → None ≡ r
-      turn_wrong w = sym (answered ∙ rw w)
+      pub turn_none : o ≡ None → None ≡ r
+      turn_none w = sym (answered ∙ rw w)
 
-      pub turn_taken : (m : Line) → s ≡ Some m → Turn ns y r at m (f + 1) (j + 1)
-      turn_taken m w =
-          record {
-            answer = answered ∙ rw (w, add-one j, let p : at + c + length (piece_at y c) + 1 ≡ at + (f + 1) = omega arith in p);
-            left = omega (arith, t.left, rw (← g) at (ap length opened), length-drop j ns, length-drop (j + 1) ns);
-          }
+      -- A reading s of the field by the rule u.
+      module _ (u : Rule) (some : o ≡ Some u) (s : Option Line) (e : s ≡ step u (at + c) (take (f - c) (drop c y)) l) where
+        pub turn_wrong : s ≡ None → None ≡ r
+        turn_wrong w = sym (answered ∙ rw (some, ← e, w))
+
+        pub turn_taken : (m : Line) → s ≡ Some m → Turn ns y r at m (f + 1) (j + 1)
+        turn_taken m w =
+            record {
+              answer = answered ∙ rw (some, ← e, w, add-one j, let p : at + c + length (piece_at y c) + 1 ≡ at + (f + 1) = omega arith in p);
+              left = omega (arith, t.left, rw (← g) at (ap length opened), length-drop j ns, length-drop (j + 1) ns);
+            }

@@ -15,7 +15,7 @@ use Rattle.sheet.specs.Loaded.{lines_in, LineHeld, TreeHeld, TreesHeld, IsLoaded
 number_once : {a b : ℕ} → IsProp (a ≡ b)
 number_once {a} {b} = Coded-set coded_ℕ a b
 
-sort-number : (σ : Sort) → sort_of (sort_number σ) ≡ σ
+pub sort-number : (σ : Sort) → sort_of (sort_number σ) ≡ σ
 sort-number Contract = refl
 sort-number Item = refl
 sort-number Field = refl

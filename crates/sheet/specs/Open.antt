@@ -3,6 +3,8 @@
 use Rattle.std.specs.Prelude.{ℕ, zero, suc, ◌+◌, ◌*◌, ◌-◌, ◌≤◌, ◌<◌, ◌≡◌, cond, List, [], ◌++◌, eqb, ltb, leb, length, get_or, set, drop, Result, Ok, Err}
 use Rattle.grammar.specs.Grammar.{Sort, Contract, no_kind}
 use Rattle.sheet.specs.Load.{copies, due}
+use Rattle.grammar.specs.Coded.{sort_from}
+use Rattle.grammar.specs.declared.sorts.Sort as code
 use Rattle.grammar.specs.Table.{most_groups, sort_number, sort_of, sort_table}
 use Rattle.sheet.specs.Scratch.{kind_at, parts_at, first_count, second_count, third_count}
 use Rattle.sheet.specs.declared.open.Due.{Due}
@@ -48,10 +50,10 @@ unfoldable pub sort_due : List ℕ → List Due → ℕ → ℕ
 sort_due S ds n = cond (leb n 1) (sort_number Contract) (let e = due_at ds (n - 1) in next_sort S e.owner e.left)
 
 -- ... or line i's refusal, where none is due, or one too deep
-unfoldable pub sort_or : ℕ → List ℕ → List Due → ℕ → Result ℕ Refused
+unfoldable pub sort_or : ℕ → List ℕ → List Due → ℕ → Result code.Sort Refused
 sort_or i S ds n =
     cond (eqb n 0) (Err (record { number = 6; line = i }))
-    (cond (ltb 65 n) (Err (record { number = 7; line = i })) (Ok (sort_due S ds n)))
+    (cond (ltb 65 n) (Err (record { number = 7; line = i })) (Ok (sort_from (sort_due S ds n))))
 
 -- the depths that are left where nothing is due at the deepest ones
 unfoldable pub settled : List Due → ℕ → ℕ

@@ -1,13 +1,16 @@
 -- A line as the code reads it: without spans and names, with how many parts of each of its record's sorts it has.
-use Rattle.std.specs.Prelude.{ℕ, ◌+◌, ◌-◌, ◌<◌, ◌≤◌, Bool, cond, List, [], ◌∷◌, eqb, ltb, length, get_or, drop, ◌≡◌, Option, Some, None, Result, Ok, Err, option_map, option_and_then}
+use Rattle.std.specs.Prelude.{ℕ, ◌+◌, ◌<◌, ◌≤◌, Bool, cond, List, [], ◌∷◌, eqb, length, get_or, drop, ◌≡◌, Option, Some, None, Result, Ok, Err, option_map, option_and_then}
 use Rattle.std.specs.Bool.{then_some}
 use Rattle.text.specs.Text.{either, ended}
-use Rattle.text.specs.Word.{index_in}
+use Rattle.text.specs.Word.{place_in}
 use Rattle.text.specs.Field.{is_name, is_text, number_of}
 use Rattle.grammar.specs.Grammar.{assign_ops, un_ops, bin_ops, record_of, no_kind}
 use Rattle.sheet.specs.Line.{Read, good, bad, most_count, most_span, most_flag}
 use Rattle.sheet.specs.Line as line
-use Rattle.grammar.specs.Table.{numbers_in, count_rule, flag_rule}
+use Rattle.grammar.specs.Table.{numbers_in}
+use Rattle.grammar.specs.Coded.{rule_of}
+use Rattle.grammar.specs.declared.field_rules.Rule.{Rule}
+use Rattle.grammar.specs.declared.field_rules.Rule.TheVariants.{Span, Name, Text, AssignOp, UnaryOp, BinOp, Count, Flag}
 use Rattle.sheet.specs.declared.line.Line.{Line}
 use Rattle.sheet.specs.declared.refusal.Refused.{Refused}
 
@@ -47,28 +50,26 @@ span_step f l = option_map (λ v. l) (number_of most_span f)
 abbrev pub name_step : Bool → ℕ → List ℕ → Line → Option Line
 name_step ok a f l = then_some ok (with_name l a (length f))
 
-abbrev pub op_step : List (List ℕ) → ℕ → List ℕ → Line → Option Line
-op_step ws n f l = then_some (ltb (index_in f ws) n) (with_op l (index_in f ws))
+abbrev pub op_step : List (List ℕ) → List ℕ → Line → Option Line
+op_step ws f l = option_map (with_op l) (place_in f ws)
 
 abbrev pub parts_step : ℕ → ℕ → List ℕ → Line → Option Line
 parts_step most g f l = option_map (with_parts l g) (number_of most f)
 
--- the field f, which starts at a, read by the rule of number n: one that tells no parts, or a COUNT or FLAG
-abbrev pub plain_step : ℕ → ℕ → List ℕ → Line → Option Line
-plain_step n a f l =
-    get_or
-    (None
-    ∷ span_step f l
-    ∷ name_step (is_name f) a f l
-    ∷ name_step (is_text f) a f l
-    ∷ op_step assign_ops (length assign_ops) f l
-    ∷ op_step un_ops (length un_ops) f l
-    ∷ op_step bin_ops (length bin_ops) f l
-    ∷ [])
-    n None
+-- the field f, which starts at a, read by its rule
+unfoldable pub step : Rule → ℕ → List ℕ → Line → Option Line
+step Span a f l = span_step f l
+step Name a f l = name_step (is_name f) a f l
+step Text a f l = name_step (is_text f) a f l
+step AssignOp a f l = op_step assign_ops f l
+step UnaryOp a f l = op_step un_ops f l
+step BinOp a f l = op_step bin_ops f l
+step (Count g) a f l = parts_step most_count g f l
+step (Flag g) a f l = parts_step most_flag g f l
 
+-- ... and by the rule of number n
 unfoldable pub step_of : ℕ → ℕ → List ℕ → Line → Option Line
-step_of n a f l = cond (ltb n count_rule) (plain_step n a f l) (cond (ltb n flag_rule) (parts_step most_count (n - count_rule) f l) (parts_step most_flag (n - flag_rule) f l))
+step_of n a f l = option_and_then (λ r. step r a f l) (rule_of n)
 
 unfoldable pub step_all : List ℕ → ℕ → List (List ℕ) → Line → Option Line
 step_all [] a fs l = Some l

@@ -14,8 +14,8 @@ mod scratch;
 
 pub use lines::{
     body_count, call_arg_count, clause_count, default_count, emit_arg_count, end, field_count,
-    from_count, genesis_count, item_count, kind, name, nspan, op, param_count, span, target_count,
-    type_arg_count, word,
+    from_count, genesis_count, is_kind, item_count, kind, name, nspan, op, param_count, span,
+    target_count, type_arg_count, word,
 };
 pub use loaded_sheet::LoadedSheet;
 pub use loader::load;

@@ -1,23 +1,31 @@
 // What a loaded line says. Lines are counted from 0. Of a line that isn't there all numbers but `nspan` are 0, and name and word are empty.
 // The functions ask nothing of what they are given, so they take the bytes and the lines apart; `LoadedSheet` asks that the lines are loaded.
-ghost use Rattle.std.specs.Prelude.{◌≡◌};
+ghost use Rattle.std.specs.Prelude.{◌≡◌, eqb};
+ghost use Rattle.grammar.specs.Coded.{kind_number};
 ghost use Rattle.sheet.specs.Scratch.{end_at, kind_at, name_at, op_at, item_count, field_count, param_count, genesis_count, clause_count, body_count, default_count, type_arg_count, emit_arg_count, call_arg_count, target_count, from_count};
 ghost use Rattle.sheet.specs.Say.{cut as cut_of};
 ghost use Rattle.sheet.specs.Say.{number_at, nspan_at, span_at, span_first, word_at};
 
 use crate::scratch::cell;
 use crate::{limits, scratch};
-use grammar::{kinds, starts_with_span};
+use grammar::{Kind, starts_with_span};
 use text::{find, number_of};
 
-// Its record's kind.
+// The number of its record's kind.
 pub fn kind(lines: &[u16], i: usize) -> usize
     ensures { result ≡ kind_at lines.now i }
 {
     cell(lines, i, scratch::KIND) % scratch::KIND_RANGE
 }
 
-// The place of its operator among those of its record (grammar's ops).
+// Whether its record is of a kind.
+pub fn is_kind(lines: &[u16], i: usize, k: Kind) -> bool
+    ensures { result ≡ eqb (kind_at lines.now i) (kind_number k) }
+{
+    kind(lines, i) == k.number()
+}
+
+// The place of its operator among those of its record.
 pub fn op(lines: &[u16], i: usize) -> usize
     ensures { result ≡ op_at lines.now i }
 {
@@ -158,17 +166,18 @@ fn number_at(sheet: &[u8], at: usize) -> u32
     number_of(cut(sheet, at, end - at), limits::MOST_SPAN).unwrap_or(0)
 }
 
-// Whether the first field of a record of kind k is a SPAN or NSPAN.
+// Whether the first field of a record, whose kind has the number k, is a SPAN or NSPAN.
 fn has_span(k: usize) -> bool
     ensures { result ≡ span_first k }
 {
-    if kinds::NONE <= k {
-        return false;
+    match Kind::of(k) {
+        Some(kind) => starts_with_span(kind),
+        None => false,
     }
-    starts_with_span(k)
 }
 
-// Its SPAN, or a field's NSPAN: the first field after the word. 0 where its record has none.
+// Its SPAN, or a field's NSPAN: the first field after the word. 0 where its record has none; no Option, since 0 is what an answer then says
+// of the place.
 pub fn span(sheet: &[u8], lines: &[u16], i: usize) -> u32
     ensures { result ≡ span_at sheet.now lines.now i }
 {

@@ -1,11 +1,13 @@
 // A sheet that is read, with its lines.
-ghost use Rattle.std.specs.Prelude.{◌≡◌};
+ghost use Rattle.std.specs.Prelude.{◌≡◌, eqb};
+ghost use Rattle.grammar.specs.Coded.{assign_of, bin_of, kind_number, kind_of, unary_of};
 ghost use Rattle.sheet.specs.Loaded.{IsLoaded};
 ghost use Rattle.sheet.specs.Once.{IsLoaded-prop};
 ghost use Rattle.sheet.specs.Scratch.{end_at, kind_at, name_at, op_at};
 
 use crate::lines;
 use crate::records::Records;
+use grammar::{AssignOp, BinOp, Kind, UnaryOp};
 
 // What `load` read, and the cells that it laid.
 #[derive(Clone, Copy)]
@@ -17,17 +19,36 @@ pub struct LoadedSheet<'a> {
 
 impl<'a> LoadedSheet<'a> {
     // The kind of the record at line i.
-    pub fn kind(&self, i: usize) -> usize
-        ensures { result ≡ kind_at self.now.lines.now i }
+    pub fn kind(&self, i: usize) -> Option<Kind>
+        ensures { result ≡ kind_of (kind_at self.now.lines.now i) }
     {
-        lines::kind(self.lines, i)
+        Kind::of(lines::kind(self.lines, i))
     }
 
-    // Its operator.
-    pub fn op(&self, i: usize) -> usize
-        ensures { result ≡ op_at self.now.lines.now i }
+    // Whether the record at line i is of a kind.
+    pub fn is(&self, i: usize, kind: Kind) -> bool
+        ensures { result ≡ eqb (kind_at self.now.lines.now i) (kind_number kind) }
     {
-        lines::op(self.lines, i)
+        lines::is_kind(self.lines, i, kind)
+    }
+
+    // The operator of a `un`, of a `bin`, and of an `assign`.
+    pub fn unary_op(&self, i: usize) -> UnaryOp
+        ensures { result ≡ unary_of (op_at self.now.lines.now i) }
+    {
+        UnaryOp::of(lines::op(self.lines, i))
+    }
+
+    pub fn bin_op(&self, i: usize) -> BinOp
+        ensures { result ≡ bin_of (op_at self.now.lines.now i) }
+    {
+        BinOp::of(lines::op(self.lines, i))
+    }
+
+    pub fn assign_op(&self, i: usize) -> AssignOp
+        ensures { result ≡ assign_of (op_at self.now.lines.now i) }
+    {
+        AssignOp::of(lines::op(self.lines, i))
     }
 
     // The line after its parts.

@@ -1,11 +1,13 @@
 // The records still due while lines are read.
-ghost use Rattle.std.specs.Prelude.{◌≡◌, ◌≤◌};
+ghost use Rattle.std.specs.Prelude.{◌≡◌, ◌*◌, ◌+◌, ◌<◌, ◌≤◌, get_or};
+ghost use Rattle.grammar.specs.Coded.{sort_from};
+ghost use Rattle.grammar.specs.Table.{most_groups, sort_table};
 ghost use Rattle.sheet.specs.Open.{Begun, Deepest, Next, next_sort, settled, sort_or, taken, Top};
 
 use crate::refusal::{Refused, refuse};
 use crate::scratch;
 use crate::scratch::cell;
-use grammar::{part_sort, sorts};
+use grammar::{Kind, Sort, part_sort};
 
 // The records due at a depth: how many are left, and the line whose parts they are.
 #[derive(Clone, Copy)]
@@ -21,22 +23,33 @@ pub struct Depths {
     pub count: usize,
 }
 
-// The number of the sort of the next part of line i, where n parts are still due.
-pub fn next_sort(lines: &[u16], i: usize, n: usize) -> u8
+// The sort of the parts in group g of a record whose kind has a number; that of a contract where no kind has it.
+fn sort_of_group(kind: usize, g: usize) -> Sort
+    requires { g < most_groups }
+    ensures { result ≡ sort_from (get_or sort_table (most_groups * kind + g) 0) }
+{
+    match Kind::of(kind) {
+        Some(kind) => part_sort(kind, g),
+        None => Sort::Contract,
+    }
+}
+
+// The sort of the next part of line i, where n parts are still due.
+pub fn next_sort(lines: &[u16], i: usize, n: usize) -> Sort
     requires { Next lines.now i n }
-    ensures { result ≡ next_sort lines.now i n }
+    ensures { result ≡ sort_from (next_sort lines.now i n) }
 {
     let kind = cell(lines, i, scratch::KIND) % scratch::KIND_RANGE;
     let first = cell(lines, i, scratch::FIRST);
     let second = cell(lines, i, scratch::SECOND);
     let k = first + second + cell(lines, i, scratch::THIRD) - n;
     if k < first {
-        return part_sort(kind, 0);
+        return sort_of_group(kind, 0);
     }
     if k < first + second {
-        return part_sort(kind, 1);
+        return sort_of_group(kind, 1);
     }
-    part_sort(kind, 2)
+    sort_of_group(kind, 2)
 }
 
 impl Depths {
@@ -50,8 +63,8 @@ impl Depths {
         }
     }
 
-    // The number of the sort of the record that is due at the deepest depth, or refusal 6 or 7.
-    pub fn sort_due(&self, lines: &[u16], place: usize) -> Result<u8, Refused>
+    // The sort of the record that is due at the deepest depth, or refusal 6 or 7.
+    pub fn sort_due(&self, lines: &[u16], place: usize) -> Result<Sort, Refused>
         requires { Deepest lines.now self.now.due self.now.count }
         ensures { result ≡ sort_or place lines.now self.now.due self.now.count }
     {
@@ -62,7 +75,7 @@ impl Depths {
             return Err(refuse(7, place));
         }
         if self.count == 1 {
-            return Ok(sorts::CONTRACT);
+            return Ok(Sort::Contract);
         }
         let top = self.due[self.count - 1];
         Ok(next_sort(lines, usize::from(top.owner), usize::from(top.left)))

@@ -7,17 +7,18 @@ use mathlib.Core.Option.{none}
 use Prim.Native.Nat.{ℕ, suc, ◌+◌}
 use native.Mathlib.Numerals.{add-one}
 use native.Mathlib.Omega.{arith}
-use lib.Dec.{eqb, ltb}
-use Rattle.std.specs.Prelude.{Option, Result, Ok, Err}
+use lib.ListN.{get_or}
+use Rattle.std.specs.Prelude.{Option, is_some, Result, Ok, Err}
 use Rattle.text.specs.Text.{bytes, ended}
-use Rattle.text.specs.Word.{index_in, split}
+use Rattle.text.specs.Word.{place_in, split}
 use Rattle.grammar.specs.Grammar as grammar
 use Rattle.sheet.specs.Scratch.{kind_at, op_at, end_at, name_at}
 use Rattle.rules.specs.Text.{Name, is_one}
-use Rattle.rules.specs.Ast.{Set, id, leaf, Field, span, leaf_of, assign, do', type_name}
-use Rattle.rules.specs.Asking.{Boolean, Unknown, code, ◌>>=◌, ◌>>◌, if_some}
-use Rattle.rules.specs.Kept.{Table, Kept, kept, ty_from}
-use Rattle.rules.specs.Types.{eq_ty, is_ty}
+use Rattle.rules.specs.Ast.{Set, assign_ops, id, leaf, Field, span, leaf_of, assign, do', type_name}
+use Rattle.rules.specs.Asking.{◌>>=◌, ◌>>◌, if_some}
+use Rattle.rules.specs.declared.ty.Ty.TheVariants.{Boolean, Unknown}
+use Rattle.rules.specs.Kept.{Table, Kept, kept}
+use Rattle.rules.specs.Types.{is_ty}
 use Rattle.rules.specs.Typing as typing
 use Rattle.rules.specs.Typing.{ident_leaf, ident_of, call_of, typings, check_keyed_call, asked, ask_of, ty_of, ty_of_ident}
 use Rattle.rules.specs.Statements.{check_assign, check_keyed_use, check_stmt_types, expect_predicate}
@@ -37,65 +38,73 @@ use Rattle.lookups.proofs.Types.{type_name_lem}
 use Rattle.env.specs.Calls.{KeyedOf}
 use Rattle.env.specs.Force.{env_of, ExprIn}
 use Rattle.env.specs.declared.env.Env.{Env}
-use Rattle.lookups.proofs.Tables.{one_place}
+use Rattle.lookups.proofs.Tables.{one_found}
+use denote.Enum.Bare.{sameb}
+use Rattle.rules.specs.contracts.ty.Ty.{the_type}
+use Rattle.rules.specs.declared.ty.Ty.{Ty}
+use Rattle.rules.proofs.Same.{told_ty}
+use Rattle.rules.specs.Operators.{assign_meant}
+use Rattle.rules.proofs.Operators.{assign_told}
+use Rattle.grammar.specs.Coded.{assign_of}
+use Rattle.grammar.specs.declared.ops.AssignOp as code
+use Rattle.grammar.specs.declared.ops.AssignOp.TheVariants as assign_op
 use Rattle.typing.specs.Asks.{callee_at, args_at, Asks, AsksAt, AsksCall, Types, Does}
 use Rattle.typing.proofs.Calls.{parts, call_callee, call-args}
 use Rattle.typing.proofs.Doing.{typed_then, not_typed}
 use Rattle.typing.proofs.Onward.{Onward, onward, no_value_below, off_type}
-use Rattle.typing.proofs.Operators.{gave, gave_code}
-use Rattle.statements.specs.Assigned.{op_of, bare_at, TargetAt, JudgesAssign}
+use Rattle.typing.proofs.Operators.{gave}
+use Rattle.statements.specs.Assigned.{bare_at, TargetAt, JudgesAssign}
 use Rattle.statements.specs.Checked.{no_defaults, StmtIn, StmtOf, DefaultIn, ValueIn, given_to, Gives}
 use Rattle.statements.proofs.Judged.{target_at}
 use borrow.Author.Tests.{ne_eqb}
 use Rattle.grammar.specs.Kinds as kinds
-use Rattle.rules.specs.Codes as codes
 
 -- ------------------------------------------------------------ expect_predicate
 
-module _ (s : List ℕ) (env : Env) (T : Table) (i : ℕ) (a : Result ℕ Refusal) (U : Table) (k : Types s (ty_of (env_of s T env) (expr_at s i)) T a U) where
+module _ (s : List ℕ) (env : Env) (T : Table) (i : ℕ) (a : Result Ty Refusal) (U : Table) (k : Types s (ty_of (env_of s T env) (expr_at s i)) T a U) where
   pub no_condition : (r : Refusal) → a ≡ Err r → Does s (expect_predicate (env_of s T env) (expr_at s i)) T (Err r) U
   unfolding expect_predicate
   no_condition r e = not_typed s _ _ T a U k r e
 
-  module _ (c : ℕ) (e : a ≡ Ok c) where
-    boolean : is_ty (ty_from c) (Boolean ∷ Unknown ∷ []) ≡ (eqb c codes.boolean || eqb c codes.unknown)
-    unfolding is_ty eq_ty code
-    boolean = rw (← gave_code s _ T a U k c e, or-false) refl
+  module _ (c : Ty) (e : a ≡ Ok c) (x y : Bool) (g : x ≡ sameb the_type c Boolean) (h : y ≡ sameb the_type c Unknown) where
+    boolean : is_ty c (Boolean ∷ Unknown ∷ []) ≡ (x || y)
+    unfolding is_ty
+    boolean = rw (← told_ty c Boolean x g, ← told_ty c Unknown y h, or-false) refl
 
-    pub condition : (eqb c codes.boolean || eqb c codes.unknown) ≡ true → Does s (expect_predicate (env_of s T env) (expr_at s i)) T (Ok tt) U
+    pub condition : (x || y) ≡ true → Does s (expect_predicate (env_of s T env) (expr_at s i)) T (Ok tt) U
     unfolding expect_predicate done_of
     condition q = typed_then s _ _ T a U k c (Ok tt) e (fits _ 21 _ _ (boolean ∙ q))
 
-    pub not_condition : (eqb c codes.boolean || eqb c codes.unknown) ≡ false → Does s (expect_predicate (env_of s T env) (expr_at s i)) T (Err (Predicate i)) U
+    pub not_condition : (x || y) ≡ false → Does s (expect_predicate (env_of s T env) (expr_at s i)) T (Err (Predicate i)) U
     unfolding expect_predicate done_of refusal_of
     not_condition q = typed_then s _ _ T a U k c (Err (Predicate i)) e (misfits _ 21 _ _ (boolean ∙ q))
 
 -- ------------------------------------------------------------ check_value
 
-module _ (s S : List ℕ) (env : Env) (T : Table) (op target value c : ℕ) (a : Result ℕ Refusal) (U : Table) (k : Types s (ty_of (env_of s T env) (expr_at s value)) T a U) where
+module _ (s S : List ℕ) (env : Env) (T : Table) (op : code.AssignOp) (target value : ℕ) (c : Ty) (a : Result Ty Refusal) (U : Table) (k : Types s (ty_of (env_of s T env) (expr_at s value)) T a U) where
   pub value_no : (r : Refusal) → a ≡ Err r → Gives s S env op target value c T (Err r) U
   unfolding given_to
-  value_no r e = record { does = λ x p t q. not_typed s _ _ T a U k r e }
+  value_no r e = record { does = λ x p. not_typed s _ _ T a U k r e }
 
-  pub value_ok : (d : ℕ) (r : Result Unit Refusal) → a ≡ Ok d → JudgesAssign s S env op target value c d r → Gives s S env op target value c T r U
+  pub value_ok : (d : Ty) (r : Result Unit Refusal) → a ≡ Ok d → JudgesAssign s S env op target value c d r → Gives s S env op target value c T r U
   unfolding given_to
-  value_ok d r e j = record { does = λ x p t q. typed_then s _ _ T a U k d r e (j.judged T x p t (ty_from d) q (gave_code s _ T a U k d e)) }
+  value_ok d r e j = record { does = λ x p. typed_then s _ _ T a U k d r e (j.judged T x p) }
 
 -- ------------------------------------------------------------ check_assign
 
 module _ (s S : List ℕ) (env : Env) (T : Table) (i : ℕ) (h : StmtOf kinds.assign s S env T i) where
-  its_parts : (stmt_at s i ≡ assign (place_at s i) (op_of (op_at S i)) (expr_at s (suc i)) (expr_at s (end_at S (suc i)))) × Row S grammar.Expr 2 (suc i)
+  its_parts : (stmt_at s i ≡ assign (place_at s i) (get_or assign_ops (op_at S i) Set) (expr_at s (suc i)) (expr_at s (end_at S (suc i)))) × Row S grammar.Expr 2 (suc i)
   its_parts = let t = assign_at h.stmt.ready.force.loaded h.stmt.here h.kind in (t.0, t.1)
 
   pub assign_target : Asks s S env T (i + 1)
   assign_target = record { ready = h.stmt.ready; here = rw (add-one i) (row_first its_parts.1) }
 
-  module _ (a : Result ℕ Refusal) (U : Table) (k : Types s (ty_of (env_of s T env) (expr_at s (i + 1))) T a U) where
+  module _ (a : Result Ty Refusal) (U : Table) (k : Types s (ty_of (env_of s T env) (expr_at s (i + 1))) T a U) where
     pub assign_no : (r : Refusal) → a ≡ Err r → Does s (check_stmt_types (env_of s T env) (stmt_at s i)) T (Err r) U
     unfolding check_stmt_types check_assign ask_of asked ty_of
     assign_no r e = rw (its_parts.0, ← add-one i) (not_typed s (ty_of (env_of s T env) (expr_at s (i + 1))) _ T a U k r e)
 
-    module _ (c m : ℕ) (e : a ≡ Ok c) (q : m ≡ end_at S (i + 1)) where
+    module _ (c : Ty) (m : ℕ) (e : a ≡ Ok c) (q : m ≡ end_at S (i + 1)) where
       on : Onward s S env T U
       on = onward s S env T U _ _ h.stmt.ready (off_type h.stmt.ready.force.loaded (env_of s T env) assign_target.here (rw (add-one i) (no_value_below S i (omega (arith, h.kind))))) (gave s _ T a U k c e)
 
@@ -103,29 +112,29 @@ module _ (s S : List ℕ) (env : Env) (T : Table) (i : ℕ) (h : StmtOf kinds.as
       assign_value =
           record { ready = on.ready; within = assign_target.here.within; here = rw (q ∙ ap (end_at S) (add-one i)) (row_first (row_rest its_parts.1)) }
 
-      pub assign_ok : (o : ℕ) (r : Result Unit Refusal) (W : Table) → o ≡ op_at S i → Gives s S env o (i + 1) m c U r W → Does s (check_stmt_types (env_of s T env) (stmt_at s i)) T r W
+      pub assign_ok : (o : code.AssignOp) (r : Result Unit Refusal) (W : Table) → o ≡ assign_of (op_at S i) → Gives s S env o (i + 1) m c U r W → Does s (check_stmt_types (env_of s T env) (stmt_at s i)) T r W
       unfolding check_stmt_types check_assign ask_of asked ty_of given_to
       assign_ok o r W y g =
-          let j = g.does (expr_at s (i + 1)) (target_at h.stmt.ready.force.loaded assign_target.here) (ty_from c) (gave_code s _ T a U k c e) in
+          let j = g.does (expr_at s (i + 1)) (target_at h.stmt.ready.force.loaded assign_target.here) in
           record {
             gives =
-                rw (its_parts.0, ← y, ← add-one i, ← q)
-                (then_ok (ty_of (env_of s T env) (expr_at s (i + 1))) _ T U (ty_from c) _ (gave s _ T a U k c e) (rw (← on.same) j.gives));
+                rw (its_parts.0, ← assign_told (op_at S i), ← y, ← add-one i, ← q)
+                (then_ok (ty_of (env_of s T env) (expr_at s (i + 1))) _ T U c _ (gave s _ T a U k c e) (rw (← on.same) j.gives));
           }
 
 -- ------------------------------------------------------------ check_keyed_use
 
-module _ (s S : List ℕ) (env : Env) (T : Table) (i : ℕ) (h : Asks s S env T i) (n : ℕ) (e : n ≡ kind_at S i) where
-  no_call : n ≢ kinds.call → call_of (expr_at s i) ≡ none
-  no_call q = is-call_at h.ready.force.loaded h.here ∙ rw (← e, ne_eqb n kinds.call q) refl
+module _ (s S : List ℕ) (env : Env) (T : Table) (i : ℕ) (h : Asks s S env T i) where
+  no_call : kind_at S i ≢ kinds.call → call_of (expr_at s i) ≡ none
+  no_call q = is-call_at h.ready.force.loaded h.here ∙ rw (ne_eqb (kind_at S i) kinds.call q) refl
 
-  pub use_none : n ≢ kinds.call → Does s (check_keyed_use (env_of s T env) (expr_at s i)) T (Ok tt) T
+  pub use_none : kind_at S i ≢ kinds.call → Does s (check_keyed_use (env_of s T env) (expr_at s i)) T (Ok tt) T
   unfolding check_keyed_use if_some done_of kept
   use_none q = record { gives = rw (no_call q) refl }
 
-  module _ (q : n ≡ kinds.call) where
+  module _ (q : kind_at S i ≡ kinds.call) where
     use_call : AsksAt kinds.call s S env T i
-    use_call = record { asks = h; kind = sym e ∙ q }
+    use_call = record { asks = h; kind = q }
 
     pub use_callee : ExprIn s S env (i + 1)
     use_callee = call_callee s S env T i use_call
@@ -148,12 +157,12 @@ module _ (s S : List ℕ) (env : Env) (T : Table) (i : ℕ) (h : StmtOf kinds.do
   pub do_expr : Asks s S env T (i + 1)
   do_expr = record { ready = h.stmt.ready; here = rw (add-one i) (row_first its_part.1) }
 
-  module _ (a : Result ℕ Refusal) (U : Table) (k : Types s (ty_of (env_of s T env) (expr_at s (i + 1))) T a U) where
+  module _ (a : Result Ty Refusal) (U : Table) (k : Types s (ty_of (env_of s T env) (expr_at s (i + 1))) T a U) where
     pub do_no : (r : Refusal) → a ≡ Err r → Does s (check_stmt_types (env_of s T env) (stmt_at s i)) T (Err r) U
     unfolding check_stmt_types
     do_no r e = rw (its_part.0, ← add-one i) (not_typed s (ty_of (env_of s T env) (expr_at s (i + 1))) _ T a U k r e)
 
-    module _ (c : ℕ) (e : a ≡ Ok c) where
+    module _ (c : Ty) (e : a ≡ Ok c) where
       on_do : Onward s S env T U
       on_do = onward s S env T U _ _ h.stmt.ready (off_type h.stmt.ready.force.loaded (env_of s T env) do_expr.here (rw (add-one i) (no_value_below S i (omega (arith, h.kind))))) (gave s _ T a U k c e)
 
@@ -166,31 +175,31 @@ module _ (s S : List ℕ) (env : Env) (T : Table) (i : ℕ) (h : StmtOf kinds.do
           record {
             gives =
                 rw (its_part.0, ← add-one i)
-                (then_ok (ty_of (env_of s T env) (expr_at s (i + 1))) _ T U (ty_from c) _ (gave s _ T a U k c e) (rw (← on_do.same) g.gives));
+                (then_ok (ty_of (env_of s T env) (expr_at s (i + 1))) _ T U c _ (gave s _ T a U k c e) (rw (← on_do.same) g.gives));
           }
 
 -- ------------------------------------------------------------ check_stmt_types
 
-module _ (s S : List ℕ) (env : Env) (T : Table) (i : ℕ) (h : StmtIn s S env T i) (n : ℕ) (e : n ≡ kind_at S i) where
+module _ (s S : List ℕ) (env : Env) (T : Table) (i : ℕ) (h : StmtIn s S env T i) where
   -- other statements ask nothing here
-  pub stmt_other : n ≢ kinds.assign → n ≢ kinds.do' → Does s (check_stmt_types (env_of s T env) (stmt_at s i)) T (Ok tt) T
+  pub stmt_other : kind_at S i ≢ kinds.assign → kind_at S i ≢ kinds.do' → Does s (check_stmt_types (env_of s T env) (stmt_at s i)) T (Ok tt) T
   unfolding check_stmt_types done_of kept
   stmt_other a b =
       let d = h.ready.force.loaded in
-      let q = pick {P = λ k. kind_at S i ≡ k → k ≢ kinds.assign → k ≢ kinds.do' → Does s (check_stmt_types (env_of s T env) (stmt_at s i)) T (Ok tt) T} {i = kinds.guard} {n = 5} n
+      let q = pick {P = λ k. kind_at S i ≡ k → k ≢ kinds.assign → k ≢ kinds.do' → Does s (check_stmt_types (env_of s T env) (stmt_at s i)) T (Ok tt) T} {i = kinds.guard} {n = 5} (kind_at S i)
       ((λ f x y. record { gives = rw (guard_at d h.here f).0 refl })
       also (λ f x y. record { gives = rw (let_at d h.here f).0 refl })
       also (λ f x y. record { gives = rw (emit_at d h.here f).0 refl })
       also (λ f x y. absurd (x refl))
       also (λ f x y. absurd (y refl))
       also stop) in
-      q (omega (arith, e, h.here.kind.0)) (omega (arith, e, h.here.kind.1)) (sym e) a b
+      q (omega (arith, h.here.kind.0)) (omega (arith, h.here.kind.1)) refl a b
 
 -- ------------------------------------------------------------ check_default
 
-pub takes_none_lem : (x : Name) (p : ℕ) → p ≡ index_in x (split (bytes "Map Registry GuardianSet Q_Asset ")) → ltb p 4 ≡ is_one x no_defaults
+pub takes_none_lem : (x : Name) (o : Option ℕ) (r : Bool) → o ≡ place_in x (split (bytes "Map Registry GuardianSet Q_Asset ")) → r ≡ is_some o → r ≡ is_one x no_defaults
 unfolding split ended
-takes_none_lem x p e = sym (one_place x no_defaults ∙ rw e refl)
+takes_none_lem x o r e f = f ∙ one_found x no_defaults o e
 
 module _ (s S : List ℕ) (env : Env) (T : Table) (field : ℕ) (h : DefaultIn s S env T field) where
   abbrev Γ : typing.Env
@@ -217,7 +226,7 @@ module _ (s S : List ℕ) (env : Env) (T : Table) (field : ℕ) (h : DefaultIn s
     default_value = record { ready = h.ready; within = h.within; here = rw value_at (row_first field_is.4) }
 
     -- nothing is asked of the target
-    from_value : (r : Kept Unit) → kept (given_to Γ (op_of 0) (leaf 0 f.nspan (id f.name)) (expr_at s v) (ty_of_ident Γ f.name)) T ≡ r
+    from_value : (r : Kept Unit) → kept (given_to Γ (assign_meant assign_op.Set) (leaf 0 f.nspan (id f.name)) (expr_at s v) (ty_of_ident Γ f.name)) T ≡ r
         → kept (check_assign Γ Set (made_up Γ f) (ask_of Γ (expr_at s v))) T ≡ r
     unfolding check_assign made_up given_to ty_of ask_of asked ◌>>=◌
     from_value r k = k
@@ -235,12 +244,13 @@ module _ (s S : List ℕ) (env : Env) (T : Table) (field : ℕ) (h : DefaultIn s
           let q : not (is_one (type_name f.ty) no_defaults) ≡ false = rw (test, e) refl in
           record { gives = rw (← value_at) ((refuses _ 19 (span (expr_at s v)) (default_text f.ty) _ q).answers T) }
 
-      pub default_ok : (x : Name) (c : ℕ) (r : Result Unit Refusal) (U : Table) → b ≡ false → x ≡ name_at s S field → c ≡ code (ty_of_ident Γ x) → Gives s S env 0 field v c T r U
+      pub default_ok : (x : Name) (c : Ty) (r : Result Unit Refusal) (U : Table) → b ≡ false → x ≡ name_at s S field → c ≡ ty_of_ident Γ x → Gives s S env assign_op.Set field v c T r U
           → Does s (check_default Γ f (expr_at s (end_at S (suc field)))) T r U
       unfolding check_default ◌>>◌
       default_ok x c r U e m q g =
           let n : not (is_one (type_name f.ty) no_defaults) ≡ true = rw (test, e) refl in
-          let j = g.does _ default_target (ty_of_ident Γ f.name) (q ∙ rw (m, field_is.0) refl) in
+          let y : c ≡ ty_of_ident Γ f.name = q ∙ rw (m, field_is.0) refl in
+          let j = rw y at (g.does _ default_target) in
           record {
             gives =
                 rw (← value_at) (then_ok _ _ T T tt _ ((fits _ 19 (span (expr_at s v)) (default_text f.ty) n).answers T) (from_value _ j.gives));

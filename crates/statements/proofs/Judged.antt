@@ -1,5 +1,5 @@
 -- `judge_assign`: what each return needs. Assumes nothing.
-use mathlib.Core.Logic.{◌≢◌}
+use mathlib.Core.Logic.{◌≢◌, ◌⊎◌, inl, inr}
 use mathlib.Core.Path.{◌≡◌, refl, sym, ◌∙◌}
 use mathlib.Core.List.{List}
 use mathlib.Core.Bool.{Bool, true, false, true≢false, cond, not, ◌&&◌, and-eq-true_iff, or-false}
@@ -7,14 +7,16 @@ use mathlib.Core.Option.{Option, none, some}
 use Prim.Native.Nat.{ℕ}
 use native.Mathlib.Omega.{arith}
 use lib.Dec.{eqb, leb}
-use borrow.Author.Tests.{eqb-true, eqb-false, ne_eqb, not-true, not-false}
-use Rattle.std.specs.Prelude.{Ok, Err}
+use borrow.Author.Tests.{ne_eqb, not-true, not-false}
+use Rattle.std.specs.Prelude.{Result, Ok, Err}
 use Rattle.grammar.specs.Grammar as grammar
 use Rattle.sheet.specs.Scratch.{kind_at, name_at}
 use Rattle.rules.specs.Text.{Name}
 use Rattle.sheet.specs.Tree.{node}
 use Rattle.rules.specs.Ast.{Expr, span, span_of, expr_of}
-use Rattle.rules.specs.Asking.{Ty, Address, Asset, TName, code, Res, ok, refused, Rule, ◌>>◌, expect, if_some}
+use Rattle.rules.specs.Asking.{code, Res, ok, refused, Rule, ◌>>◌, expect, if_some}
+use Rattle.rules.specs.declared.ty.Ty.{Ty}
+use Rattle.rules.specs.declared.ty.Ty.TheVariants.{Address, Asset, Name as TName}
 use Rattle.rules.specs.Kept.{Table}
 use Rattle.rules.specs.Types.{parse_u128, int_of, eq_ty}
 use Rattle.rules.specs.Typing as typing
@@ -25,20 +27,22 @@ use Rattle.rules.proofs.Exprs.{int_at, ident_at}
 use Rattle.rules.proofs.Parts.{stop, ◌also◌, pick}
 use Rattle.rules.proofs.Records.{named}
 use Rattle.rules.proofs.Standing.{stands}
-use Rattle.refusals.specs.Answers.{Answers}
+use Rattle.refusals.specs.Answers.{Answers, expected}
 use Rattle.refusals.specs.Refusal.{number_in, refusal_of, done_of}
+use Rattle.refusals.specs.declared.refusal.Refusal.{Refusal}
 use Rattle.refusals.specs.declared.refusal.Refusal.TheVariants.{AssetSlot, NameIntoAddress, WrappingIntoNarrow, LiteralIntoNarrow, SlotMismatch}
 use Rattle.refusals.proofs.Answers.{gives, then_fine, then_refused, fits, misfits, passes, refuses}
-use Rattle.lookups.proofs.Codes.{from_code}
+use denote.Enum.Bare.{sameb}
+use Rattle.rules.specs.contracts.ty.Ty.{the_type}
+use Rattle.rules.proofs.Same.{told_ty}
+use Rattle.rules.specs.Operators.{assign_meant}
+use Rattle.grammar.specs.declared.ops.AssignOp as code
 use Rattle.lookups.proofs.Literals.{literal_at_lem}
 use Rattle.env.specs.Force.{env_of}
 use Rattle.env.specs.declared.env.Env.{Env}
-use Rattle.narrow.specs.Narrow.{exceeds_of, most_of}
-use Rattle.narrow.proofs.Narrow as narrow
-use Rattle.narrow.proofs.Narrow.{field_some, field_slot_lem, told_some, told_none}
-use Rattle.statements.specs.Assigned.{op_of, bare_at, TargetAt, AssignAt, becomes_address, narrow_at, wraps_narrow, above_narrow, FitsSlot, JudgesAssign}
+use Rattle.narrow.specs.Narrow.{exceeds_of}
+use Rattle.statements.specs.Assigned.{bare_at, TargetAt, AssignAt, becomes_address, narrow_at, is_above, judge_narrow, FitsSlot, JudgesAssign}
 use Rattle.grammar.specs.Kinds as kinds
-use Rattle.rules.specs.Codes as codes
 
 -- ------------------------------------------------------------ an expression's line
 
@@ -113,29 +117,72 @@ module _ (y : Name) (m at : ℕ) (x : Name) where
       by_cases (some n) e = misfits (leb n m) 27 at _ (not-true (leb n m) e)
 
 -- ... for a slot that may be narrow
-module _ (o : Option ℕ) (g : narrow.Slot o) (m : ℕ) (q : m ≡ most_of o) (y : Name) (at : ℕ) (x : Name) where
+module _ (o : Option ℕ) (y : Name) (at : ℕ) (x : Name) where
   abbrev of_slot : Rule Unit
   of_slot = if_some o λ max. of_literal y max at x
 
-  slot_below : (not (eqb m 0) && exceeds_of y m) ≡ false → Answers of_slot (ok tt)
+  slot_below : ((m : ℕ) → o ≡ some m → exceeds_of y m ≡ false) → Answers of_slot (ok tt)
   unfolding if_some
-  slot_below f = by_cases (eqb m 0) refl
+  slot_below f = by_cases o refl
     where
-      by_cases : (b : Bool) → eqb m 0 ≡ b → Answers of_slot (ok tt)
-      by_cases true z = rw (told_none g m q (eqb-true m 0 z)) (gives tt)
-      by_cases false z = rw (told_some g m q (eqb-false m 0 z)) (below y m at x (rw z at f))
+      by_cases : (p : Option ℕ) → o ≡ p → Answers of_slot (ok tt)
+      by_cases none z = rw z (gives tt)
+      by_cases (some m) z = rw z (below y m at x (f m z))
 
-  slot_above : (not (eqb m 0) && exceeds_of y m) ≡ true
+  slot_above : (m : ℕ) → o ≡ some m → exceeds_of y m ≡ true
       → Answers of_slot (refused (record { number = 27; place = at; text = literal_text x (elim (parse_u128 y) [ some n ↦ n | none ↦ 0 ]) m }))
   unfolding if_some
-  slot_above f =
-      let z = (and-eq-true_iff (not (eqb m 0)) (exceeds_of y m)).0 f in
-      rw (told_some g m q (eqb-false m 0 (not-true (eqb m 0) z.0))) (above y m at x z.1)
+  slot_above m z f = rw z (above y m at x f)
+
+-- what `judge_narrow` tells by whether the target is a bare name, its largest number, whether the value wraps, and what it is above
+module _ (target value : ℕ) (above : ℕ → Bool) where
+  abbrev answer : (b : Bool) (o : Option ℕ) (w : Bool) → Result Unit Refusal
+  answer b o w =
+      elim (cond b o none) [
+        | none ↦ Ok tt
+        | some max ↦ cond w (Err (WrappingIntoNarrow target value)) (expected (not (above max)) (LiteralIntoNarrow target value max))
+      ]
+
+  no_wrapping : (b : Bool) (o : Option ℕ) (w : Bool) → answer b o w ≡ Ok tt → b ≡ true → (is_some o && w) ≡ false
+  unfolding is_some
+  no_wrapping true none w e q = refl
+  no_wrapping true (some m) true e q = absurd (let z : ◌≡◌ {A = ℕ} 0 1 = cc in omega arith)
+  no_wrapping true (some m) false e q = refl
+  no_wrapping false o w e q = absurd (true≢false (sym q))
+
+  none_above : (b : Bool) (o : Option ℕ) (w : Bool) → answer b o w ≡ Ok tt → b ≡ true → (m : ℕ) → o ≡ some m → above m ≡ false
+  unfolding expected
+  none_above b o true e q m z = absurd (let y : Err (WrappingIntoNarrow target value) ≡ Ok tt = sym (rw (q, z) refl) ∙ e in let x : ◌≡◌ {A = ℕ} 0 1 = cc in omega arith)
+  none_above b o false e q m z = by_cases (above m) refl
+    where
+      by_cases : (t : Bool) → above m ≡ t → t ≡ false
+      by_cases true f = absurd (let y : Err (LiteralIntoNarrow target value m) ≡ Ok tt = sym (rw (q, z, f) refl) ∙ e in let x : ◌≡◌ {A = ℕ} 0 1 = cc in omega arith)
+      by_cases false f = refl
+
+  -- why it refuses
+  pub record Refuses (b : Bool) (o : Option ℕ) (w : Bool) (why : Refusal) : Type 0 where
+    pub is-bare : b ≡ true
+    pub max : ℕ
+    pub is-max : o ≡ some max
+    pub by : ((w ≡ true) × (why ≡ WrappingIntoNarrow target value)) ⊎ ((w ≡ false) × (above max ≡ true) × (why ≡ LiteralIntoNarrow target value max))
+
+  why_refused : (b : Bool) (o : Option ℕ) (w : Bool) (why : Refusal) → answer b o w ≡ Err why → Refuses b o w why
+  unfolding expected
+  why_refused false o w why e = absurd (let z : ◌≡◌ {A = ℕ} 0 1 = cc in omega arith)
+  why_refused true none w why e = absurd (let z : ◌≡◌ {A = ℕ} 0 1 = cc in omega arith)
+  why_refused true (some m) true why e = record { is-bare = refl; max = m; is-max = refl; by = inl (refl, cc) }
+  why_refused true (some m) false why e = by_cases (above m) refl
+    where
+      by_cases : (t : Bool) → above m ≡ t → Refuses true (some m) false why
+      by_cases true f =
+          let y : Err (LiteralIntoNarrow target value m) ≡ Err why = sym (rw f refl) ∙ e in
+          record { is-bare = refl; max = m; is-max = refl; by = inr (refl, f, cc) }
+      by_cases false f = absurd (let y : ◌≡◌ {A = Result Unit Refusal} (Ok tt) (Err why) = sym (rw f refl) ∙ e in let x : ◌≡◌ {A = ℕ} 0 1 = cc in omega arith)
 
 -- ------------------------------------------------------------ rule by rule
 
--- The target e is that of its line, t and u are the types whose codes are c and d.
-module _ (s S : List ℕ) (env : Env) (op target value c d : ℕ) (h : AssignAt s S target value) (T : Table) (e : Expr) (p : TargetAt s S target e) (t u : Ty) (k : c ≡ code t) (l : d ≡ code u) where
+-- The target e is that of its line, t and u are its type and the value's.
+module _ (s S : List ℕ) (env : Env) (op : code.AssignOp) (target value : ℕ) (t u : Ty) (h : AssignAt s S target value) (T : Table) (e : Expr) (p : TargetAt s S target e) where
   abbrev Γ : typing.Env
   Γ = env_of s T env
 
@@ -146,145 +193,147 @@ module _ (s S : List ℕ) (env : Env) (op target value c d : ℕ) (h : AssignAt 
   name-is = named h.loaded h.within
 
   -- 24
-  past_asset : (q : Rule Unit) (r : Res Unit) → c ≢ codes.asset → Answers q r → Answers (expect (not (eq_ty t Asset)) 24 (span e) asset_slot_text >> q) r
-  unfolding eq_ty code
-  past_asset q r n a = passes (not (eq_ty t Asset)) 24 (span e) asset_slot_text q r (rw (← k, ne_eqb c codes.asset n) refl) a
+  past_asset : (q : Rule Unit) (r : Res Unit) → eq_ty t Asset ≡ false → Answers q r → Answers (expect (not (eq_ty t Asset)) 24 (span e) asset_slot_text >> q) r
+  past_asset q r n a = passes (not (eq_ty t Asset)) 24 (span e) asset_slot_text q r (rw n refl) a
 
   -- 25
   abbrev name_rule : Rule Unit
-  name_rule = if_some (ident_of e) λ x. name_into_address Γ (op_of op) x given t u
+  name_rule = if_some (ident_of e) λ x. name_into_address Γ (assign_meant op) x given t u
 
   address_test : bare_at S target ≡ true
-      → (is_set (op_of op) && eq_ty u TName && eq_ty t Address && is_address_field (model_in s) (named_at s target)) ≡ becomes_address s S op target c d
-  unfolding becomes_address eq_ty code
-  address_test b = rw (b, name-is, ← k, ← l) refl
+      → (is_set (assign_meant op) && eq_ty u TName && eq_ty t Address && is_address_field (model_in s) (named_at s target)) ≡ becomes_address s S op target t u
+  unfolding becomes_address
+  address_test b = rw (b, name-is) refl
 
-  name_fine : becomes_address s S op target c d ≡ false → Answers name_rule (ok tt)
+  name_fine : becomes_address s S op target t u ≡ false → Answers name_rule (ok tt)
   unfolding name_into_address env_of
   name_fine f = if_fine (ident_of e) (bare_at S target) (named_at s target) _ p.ident (λ b. fits _ 25 _ _ (rw (address_test b, f) refl))
 
-  name_no : becomes_address s S op target c d ≡ true → Answers name_rule (refused (refusal_of s (NameIntoAddress target value)))
+  name_no : becomes_address s S op target t u ≡ true → Answers name_rule (refused (refusal_of s (NameIntoAddress target value)))
   unfolding name_into_address env_of refusal_of becomes_address
   name_no f =
       let b = ((and-eq-true_iff (bare_at S target) _).0 f).0 in
       if_named (ident_of e) (bare_at S target) (named_at s target) _ p.ident _ b (misfits _ 25 _ _ (rw (address_test b, b, ((and-eq-true_iff (bare_at S target) _).0 f).1) refl))
 
-  past_name : (q : Rule Unit) (r : Res Unit) → c ≢ codes.asset → becomes_address s S op target c d ≡ false → Answers q r
+  past_name : (q : Rule Unit) (r : Res Unit) → eq_ty t Asset ≡ false → becomes_address s S op target t u ≡ false → Answers q r
       → Answers (expect (not (eq_ty t Asset)) 24 (span e) asset_slot_text >> (name_rule >> q)) r
   past_name q r n f a = past_asset _ r n (then_fine name_rule q tt r (name_fine f) a)
 
-  -- 26 and 27, where m is the target's largest number
-  module _ (m : ℕ) (q : m ≡ most_of (narrow_at s S target)) where
-    narrow_is : bare_at S target ≡ true → m ≡ most_of (narrow_field (model_in s) (named_at s target))
-    unfolding narrow_at
-    narrow_is b = q ∙ rw (b, name-is) refl
+  -- 26 and 27
+  abbrev field : Option ℕ
+  field = narrow_field (model_in s) (named_at s target)
 
-    -- what isn't a bare name has none
-    is-bare : (z : Bool) → (not (eqb m 0) && z) ≡ true → bare_at S target ≡ true
-    unfolding narrow_at most_of
-    is-bare z f = by_cases (bare_at S target) refl
-      where
-        by_cases : (b : Bool) → bare_at S target ≡ b → bare_at S target ≡ true
-        by_cases true y = y
-        by_cases false y = absurd (true≢false (sym f ∙ rw (q, y) refl))
+  abbrev is-wrapped : Bool
+  is-wrapped = eqb (kind_at S value) kinds.wrapping
 
-    abbrev wrap_rule : Rule Unit
-    wrap_rule = if_some (ident_of e) λ x. wrapping_into_narrow Γ x given
+  narrow_told : judge_narrow s S target value ≡ answer target value (is_above s S value) (bare_at S target) field is-wrapped
+  unfolding judge_narrow narrow_at
+  narrow_told = rw (judge_narrow, name-is) refl
 
-    wrap_test : bare_at S target ≡ true → (is_some (narrow_field (model_in s) (named_at s target)) && is_wrapping given) ≡ wraps_narrow S value m
-    unfolding wraps_narrow
-    wrap_test b = rw (field_some (model_in s) (named_at s target), ← narrow_is b, (told h.loaded h.here).0) refl
+  abbrev wrap_rule : Rule Unit
+  wrap_rule = if_some (ident_of e) λ x. wrapping_into_narrow Γ x given
 
-    wrap_fine : wraps_narrow S value m ≡ false → Answers wrap_rule (ok tt)
-    unfolding wrapping_into_narrow env_of
-    wrap_fine f = if_fine (ident_of e) (bare_at S target) (named_at s target) _ p.ident (λ b. fits _ 26 _ _ (rw (wrap_test b, f) refl))
+  wrap_fine : (bare_at S target ≡ true → (is_some field && is-wrapped) ≡ false) → Answers wrap_rule (ok tt)
+  unfolding wrapping_into_narrow env_of
+  wrap_fine f =
+      if_fine (ident_of e) (bare_at S target) (named_at s target) _ p.ident (λ b. fits _ 26 _ _ (rw ((told h.loaded h.here).0, f b) refl))
 
-    wrap_no : wraps_narrow S value m ≡ true → Answers wrap_rule (refused (refusal_of s (WrappingIntoNarrow target value)))
-    unfolding wrapping_into_narrow env_of refusal_of wraps_narrow
-    wrap_no f =
-        let b = is-bare _ f in
-        if_named (ident_of e) (bare_at S target) (named_at s target) _ p.ident _ b (misfits _ 26 _ _ (rw (wrap_test b, f) refl))
+  wrap_no : bare_at S target ≡ true → (is_some field && is-wrapped) ≡ true → Answers wrap_rule (refused (refusal_of s (WrappingIntoNarrow target value)))
+  unfolding wrapping_into_narrow env_of refusal_of
+  wrap_no b f =
+      if_named (ident_of e) (bare_at S target) (named_at s target) _ p.ident _ b (misfits _ 26 _ _ (rw ((told h.loaded h.here).0, f) refl))
 
-    abbrev literal_rule : Rule Unit
-    literal_rule = if_some (ident_of e) λ x. literal_into_narrow Γ x given
+  abbrev literal_rule : Rule Unit
+  literal_rule = if_some (ident_of e) λ x. literal_into_narrow Γ x given
 
-    -- the literal, if any
-    text_is : int_of given ≡ cond (eqb (kind_at S value) kinds.int) (some (name_at s S value)) none
-    text_is = int_at h.loaded h.here
+  -- the literal, if any
+  text_is : int_of given ≡ cond (eqb (kind_at S value) kinds.int) (some (name_at s S value)) none
+  text_is = int_at h.loaded h.here
 
-    literal_fine : above_narrow s S value m ≡ false → Answers literal_rule (ok tt)
-    unfolding literal_into_narrow env_of above_narrow
-    literal_fine f =
-        if_fine (ident_of e) (bare_at S target) (named_at s target) _ p.ident
-        (λ b. if_fine (int_of given) (eqb (kind_at S value) kinds.int) (name_at s S value) _ text_is
-        (λ y. slot_below _ (field_slot_lem (model_in s) (named_at s target)) m (narrow_is b) (name_at s S value) _ _ (rw y at f)))
+  literal_fine : (bare_at S target ≡ true → (m : ℕ) → field ≡ some m → is_above s S value m ≡ false) → Answers literal_rule (ok tt)
+  unfolding literal_into_narrow env_of is_above
+  literal_fine f =
+      if_fine (ident_of e) (bare_at S target) (named_at s target) _ p.ident
+      (λ b. if_fine (int_of given) (eqb (kind_at S value) kinds.int) (name_at s S value) _ text_is
+      (λ y. slot_below field (name_at s S value) _ _ (λ m z. rw y at (f b m z))))
 
-    literal_no : above_narrow s S value m ≡ true → Answers literal_rule (refused (refusal_of s (LiteralIntoNarrow target value m)))
-    unfolding literal_into_narrow env_of above_narrow refusal_of number_in
-    literal_no f =
-        let b = is-bare _ f in
-        let y = ((and-eq-true_iff (eqb (kind_at S value) kinds.int) _).0 ((and-eq-true_iff (not (eqb m 0)) _).0 f).1).0 in
-        if_named (ident_of e) (bare_at S target) (named_at s target) _ p.ident _ b
-        (if_named (int_of given) (eqb (kind_at S value) kinds.int) (name_at s S value) _ text_is _ y
-        (rw (literal_at_lem h.loaded value, y) (slot_above _ (field_slot_lem (model_in s) (named_at s target)) m (narrow_is b) (name_at s S value) _ _ (rw y at f))))
+  literal_no : (m : ℕ) → bare_at S target ≡ true → field ≡ some m → is_above s S value m ≡ true → Answers literal_rule (refused (refusal_of s (LiteralIntoNarrow target value m)))
+  unfolding literal_into_narrow env_of is_above refusal_of number_in
+  literal_no m b z f =
+      let y = ((and-eq-true_iff (eqb (kind_at S value) kinds.int) _).0 f).0 in
+      if_named (ident_of e) (bare_at S target) (named_at s target) _ p.ident _ b
+      (if_named (int_of given) (eqb (kind_at S value) kinds.int) (name_at s S value) _ text_is _ y
+      (rw (literal_at_lem h.loaded value, y) (slot_above field (name_at s S value) _ _ m z (rw y at f))))
+
+  narrow_fine : (q : Rule Unit) (r : Res Unit) → judge_narrow s S target value ≡ Ok tt → Answers q r → Answers (wrap_rule >> (literal_rule >> q)) r
+  narrow_fine q r f a =
+      let g = sym narrow_told ∙ f in
+      then_fine wrap_rule _ tt r (wrap_fine (no_wrapping _ _ _ (bare_at S target) field is-wrapped g))
+      (then_fine literal_rule q tt r (literal_fine (none_above _ _ _ (bare_at S target) field is-wrapped g)) a)
+
+  some_field : (m : ℕ) → field ≡ some m → is_some field ≡ true
+  unfolding is_some
+  some_field m z = rw z refl
+
+  narrow_no : (q : Rule Unit) (why : Refusal) → judge_narrow s S target value ≡ Err why → Answers (wrap_rule >> (literal_rule >> q)) (refused (refusal_of s why))
+  narrow_no q why f = by_cases n.by
+    where
+      n : Refuses target value (is_above s S value) (bare_at S target) field is-wrapped why
+      n = why_refused target value (is_above s S value) (bare_at S target) field is-wrapped why (sym narrow_told ∙ f)
+
+      by_cases : ((is-wrapped ≡ true) × (why ≡ WrappingIntoNarrow target value)) ⊎ ((is-wrapped ≡ false) × (is_above s S value n.max ≡ true) × (why ≡ LiteralIntoNarrow target value n.max))
+          → Answers (wrap_rule >> (literal_rule >> q)) (refused (refusal_of s why))
+      by_cases (inl z) = rw z.1 (then_refused wrap_rule _ _ (wrap_no n.is-bare (rw (some_field n.max n.is-max, z.0) refl)))
+      by_cases (inr z) =
+          rw z.2
+          (then_fine wrap_rule _ tt _ (wrap_fine (λ b. rw (some_field n.max n.is-max, z.0) refl)) (then_refused literal_rule q _ (literal_no n.max n.is-bare n.is-max z.1)))
 
 -- ------------------------------------------------------------ return by return
 
-module _ (s S : List ℕ) (env : Env) (op target value c d : ℕ) (h : AssignAt s S target value) where
-  pub asset_wrong : c ≡ codes.asset → JudgesAssign s S env op target value c d (Err (AssetSlot target))
-  unfolding judge_assign done_of refusal_of eq_ty code
+module _ (s S : List ℕ) (env : Env) (op : code.AssignOp) (target value : ℕ) (t u : Ty) (h : AssignAt s S target value) (x : Bool) (k : x ≡ sameb the_type t Asset) where
+  pub asset_wrong : x ≡ true → JudgesAssign s S env op target value t u (Err (AssetSlot target))
+  unfolding judge_assign done_of refusal_of
   asset_wrong q =
-      record { judged = λ T e p t u k l. rw (← p.place) (refuses (not (eq_ty t Asset)) 24 (span e) asset_slot_text _ (rw (← k, q) refl)) }
+      record { judged = λ T e p. rw (← p.place) (refuses (not (eq_ty t Asset)) 24 (span e) asset_slot_text _ (rw (← told_ty t Asset x k, q) refl)) }
 
-  module _ (n : c ≢ codes.asset) (a : Bool) (x : a ≡ becomes_address s S op target c d) where
-    pub address_wrong : a ≡ true → JudgesAssign s S env op target value c d (Err (NameIntoAddress target value))
+  module _ (n : x ≡ false) (a : Bool) (y : a ≡ becomes_address s S op target t u) where
+    no_asset : eq_ty t Asset ≡ false
+    no_asset = sym (told_ty t Asset x k) ∙ n
+
+    pub address_wrong : a ≡ true → JudgesAssign s S env op target value t u (Err (NameIntoAddress target value))
     unfolding judge_assign done_of
     address_wrong f =
         record {
-          judged = λ T e p t u k l.
-              past_asset s S env op target value c d h T e p t u k l _ _ n (then_refused _ _ _ (name_no s S env op target value c d h T e p t u k l (sym x ∙ f)));
+          judged = λ T e p.
+              past_asset s S env op target value t u h T e p _ _ no_asset (then_refused _ _ _ (name_no s S env op target value t u h T e p (sym y ∙ f)));
         }
 
-    module _ (m : ℕ) (b : Bool) (na : a ≡ false) (q : m ≡ most_of (narrow_at s S target)) (y : b ≡ wraps_narrow S value m) where
-      pub wrapping_wrong : b ≡ true → JudgesAssign s S env op target value c d (Err (WrappingIntoNarrow target value))
+    module _ (r : Result Unit Refusal) (na : a ≡ false) (q : r ≡ judge_narrow s S target value) where
+      pub narrow_wrong : (why : Refusal) → r ≡ Err why → JudgesAssign s S env op target value t u (Err why)
       unfolding judge_assign done_of
-      wrapping_wrong f =
+      narrow_wrong why f =
           record {
-            judged = λ T e p t u k l.
-                past_name s S env op target value c d h T e p t u k l _ _ n (sym x ∙ na)
-                (then_refused _ _ _ (wrap_no s S env op target value c d h T e p t u k l m q (sym y ∙ f)));
+            judged = λ T e p.
+                past_name s S env op target value t u h T e p _ _ no_asset (sym y ∙ na) (narrow_no s S env op target value t u h T e p _ why (sym q ∙ f));
           }
 
-      module _ (v : Bool) (nb : b ≡ false) (z : v ≡ above_narrow s S value m) where
-        pub literal_wrong : v ≡ true → JudgesAssign s S env op target value c d (Err (LiteralIntoNarrow target value m))
-        unfolding judge_assign done_of
-        literal_wrong f =
+      module _ (g : Bool) (nr : r ≡ Ok tt) (w : FitsSlot s env op value t u g) where
+        -- only the last test is left
+        all_past : (T : Table) (e : Expr) (p : TargetAt s S target e) (v : Res Unit)
+            → Answers (expect (slot_fits (env_of s T env) (assign_meant op) (expr_at s value) t u) 28 (span (expr_at s value)) (slot_text t u)) v
+            → Answers (judge_assign (env_of s T env) (assign_meant op) e (expr_at s value) t u) v
+        unfolding judge_assign
+        all_past T e p v j =
+            past_name s S env op target value t u h T e p _ _ no_asset (sym y ∙ na) (narrow_fine s S env op target value t u h T e p _ v (sym q ∙ nr) j)
+
+        pub slot_fine : g ≡ true → JudgesAssign s S env op target value t u (Ok tt)
+        unfolding done_of
+        slot_fine f = record { judged = λ T e p. all_past T e p _ (fits _ 28 _ _ (sym (w.fits T) ∙ f)) }
+
+        pub slot_wrong : g ≡ false → JudgesAssign s S env op target value t u (Err (SlotMismatch value t u))
+        unfolding done_of refusal_of
+        slot_wrong f =
             record {
-              judged = λ T e p t u k l.
-                  past_name s S env op target value c d h T e p t u k l _ _ n (sym x ∙ na)
-                  (then_fine _ _ tt _ (wrap_fine s S env op target value c d h T e p t u k l m q (sym y ∙ nb))
-                  (then_refused _ _ _ (literal_no s S env op target value c d h T e p t u k l m q (sym z ∙ f))));
+              judged = λ T e p.
+                  all_past T e p _ ((misfits _ 28 _ _ (sym (w.fits T) ∙ f)));
             }
-
-        module _ (g : Bool) (nv : v ≡ false) (w : FitsSlot s env op value c d g) where
-          -- only the last test is left
-          all_past : (T : Table) (e : Expr) (p : TargetAt s S target e) (t u : Ty) (k : c ≡ code t) (l : d ≡ code u) (r : Res Unit)
-              → Answers (expect (slot_fits (env_of s T env) (op_of op) (expr_at s value) t u) 28 (span (expr_at s value)) (slot_text t u)) r
-              → Answers (judge_assign (env_of s T env) (op_of op) e (expr_at s value) t u) r
-          unfolding judge_assign
-          all_past T e p t u k l r j =
-              past_name s S env op target value c d h T e p t u k l _ _ n (sym x ∙ na)
-              (then_fine _ _ tt _ (wrap_fine s S env op target value c d h T e p t u k l m q (sym y ∙ nb))
-              (then_fine _ _ tt _ (literal_fine s S env op target value c d h T e p t u k l m q (sym z ∙ nv)) j))
-
-          pub slot_fine : g ≡ true → JudgesAssign s S env op target value c d (Ok tt)
-          unfolding done_of
-          slot_fine f = record { judged = λ T e p t u k l. all_past T e p t u k l _ (fits _ 28 _ _ (sym (w.fits T t u k l) ∙ f)) }
-
-          pub slot_wrong : g ≡ false → JudgesAssign s S env op target value c d (Err (SlotMismatch value c d))
-          unfolding done_of refusal_of
-          slot_wrong f =
-              record {
-                judged = λ T e p t u k l.
-                    all_past T e p t u k l _ (rw (from_code c t k, from_code d u l) (misfits _ 28 _ _ (sym (w.fits T t u k l) ∙ f)));
-              }

@@ -4,7 +4,8 @@ use Prim.Native.String.{String}
 use Rattle.grammar.specs.Grammar as grammar
 use Rattle.sheet.specs.Scratch.{kind_at, line_count, default_count}
 use Rattle.rules.specs.Ast.{AssignOp, Expr}
-use Rattle.rules.specs.Asking.{Ty, code, Rule, ◌>>=◌}
+use Rattle.rules.specs.Asking.{Rule, ◌>>=◌}
+use Rattle.rules.specs.declared.ty.Ty.{Ty}
 use Rattle.rules.specs.Kept.{Table}
 use Rattle.rules.specs.Typing.{Env, ty_of}
 use Rattle.rules.specs.Statements.{judge_assign}
@@ -12,7 +13,9 @@ use Rattle.rules.specs.Standing.{expr_at, Here}
 use Rattle.env.specs.Force.{env_of, Ready}
 use Rattle.env.specs.declared.env.Env.{Env as CodeEnv}
 use Rattle.typing.specs.Asks.{Does}
-use Rattle.statements.specs.Assigned.{op_of, TargetAt}
+use Rattle.statements.specs.Assigned.{TargetAt}
+use Rattle.rules.specs.Operators.{assign_meant}
+use Rattle.grammar.specs.declared.ops.AssignOp as code
 use Rattle.grammar.specs.Kinds as kinds
 use Rattle.refusals.specs.declared.refusal.Refusal.{Refusal}
 
@@ -51,6 +54,6 @@ pub record ValueIn (s S : List ℕ) (env : CodeEnv) (T : Table) (target value : 
 unfoldable pub given_to : Env → AssignOp → (target value : Expr) → (slot : Ty) → Rule Unit
 given_to Γ op target value slot = ty_of Γ value >>= λ given. judge_assign Γ op target value slot given
 
--- the answer r and the table U are what that rule gives, whatever the target at its line is; its type has the code c
-pub record Gives (s S : List ℕ) (env : CodeEnv) (op target value c : ℕ) (T : Table) (r : Result Unit Refusal) (U : Table) : Type 0 where
-  pub does : (e : Expr) → TargetAt s S target e → (slot : Ty) → c ≡ code slot → Does s (given_to (env_of s T env) (op_of op) e (expr_at s value) slot) T r U
+-- the answer r and the table U are what that rule gives, whatever the target at its line is
+pub record Gives (s S : List ℕ) (env : CodeEnv) (op : code.AssignOp) (target value : ℕ) (slot : Ty) (T : Table) (r : Result Unit Refusal) (U : Table) : Type 0 where
+  pub does : (e : Expr) → TargetAt s S target e → Does s (given_to (env_of s T env) (assign_meant op) e (expr_at s value) slot) T r U

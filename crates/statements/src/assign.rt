@@ -5,31 +5,31 @@ ghost use Rattle.rules.specs.Standing.{expr_at, model_in};
 ghost use Rattle.rules.specs.Statements.{from_deploy_params, is_address_field, is_set};
 ghost use Rattle.lookups.specs.Lines.{ExprAt};
 ghost use Rattle.env.specs.Force.{env_of};
-ghost use Rattle.narrow.specs.Narrow.{most_of};
-ghost use Rattle.statements.specs.Assigned.{above_narrow, AssignAt, bare_at, becomes_address, FitsSlot, JudgesAssign, narrow_at, op_of, wraps_narrow};
+ghost use Rattle.rules.specs.Text.{option_of};
+ghost use Rattle.statements.specs.Assigned.{AssignAt, bare_at, becomes_address, FitsSlot, is_above, judge_narrow, JudgesAssign, narrow_at};
+ghost use Rattle.rules.specs.Operators.{assign_meant};
 
 use env::Env;
-use grammar::{kinds, ops};
+use grammar::{AssignOp, Kind};
 use lookups::{compatible, field_named, numeric};
 use narrow::{exceeds, narrow_field};
 use refusals::Refusal;
-use rules::codes;
-use sheet::{LoadedSheet, kind};
+use rules::Ty;
+use sheet::{LoadedSheet, is_kind};
 use text::is_word;
 
-// `=`, by its place among the operators of an assignment: the others are `+=` and `-=`.
-fn is_set(op: usize) -> bool
-    ensures { result ≡ is_set (op_of op) }
+#[tactic(auto, unfolding(rules::specs::Statements::is_set))]
+fn is_set(op: AssignOp) -> bool
+    ensures { result ≡ is_set (assign_meant op) }
 {
-    (op != ops::ASSIGN_ADD) & (op != ops::ASSIGN_SUB)
+    op == AssignOp::Set
 }
 
 // Whether the target is a bare name.
 fn bare(lines: &[u16], target: usize) -> bool
     ensures { result ≡ bare_at lines.now target }
 {
-    let k = kind(lines, target);
-    (k == kinds::ID) | (k == kinds::FIELD)
+    is_kind(lines, target, Kind::Id) | is_kind(lines, target, Kind::Field)
 }
 
 // Whether the state field x is a Q_Address.
@@ -43,46 +43,58 @@ fn is_address_field(sheet: &LoadedSheet<'_>, x: &[u8]) -> bool
 }
 
 // Whether a name becomes an address.
-fn becomes_address(sheet: &LoadedSheet<'_>, op: usize, target: usize, slot: u8, given: u8) -> bool
+fn becomes_address(
+    sheet: &LoadedSheet<'_>,
+    op: AssignOp,
+    target: usize,
+    slot: Ty,
+    given: Ty,
+) -> bool
     ensures { result ≡ becomes_address sheet.now.bytes.now sheet.now.lines.now op target slot given }
 {
     if !bare(sheet.lines, target) {
         return false;
     }
-    if is_set(op) & (given == codes::NAME) & (slot == codes::ADDRESS) {
+    if is_set(op) & (given == Ty::Name) & (slot == Ty::Address) {
         return is_address_field(sheet, sheet.name(target));
     }
     false
 }
 
-// The largest number of the narrow field that the target is the bare name of, 0 where it is of none.
-fn narrow_at(sheet: &LoadedSheet<'_>, target: usize) -> u64
-    ensures { result ≡ most_of (narrow_at sheet.now.bytes.now sheet.now.lines.now target) }
+// The largest number of the narrow field that the target is the bare name of.
+fn narrow_at(sheet: &LoadedSheet<'_>, target: usize) -> Option<u64>
+    ensures { result ≡ option_of (narrow_at sheet.now.bytes.now sheet.now.lines.now target) }
 {
     if !bare(sheet.lines, target) {
-        return 0;
+        return None;
     }
     narrow_field(sheet, sheet.name(target))
 }
 
-// Whether a wrapping value reaches a narrow slot.
-fn wraps_narrow(lines: &[u16], value: usize, max: u64) -> bool
-    ensures { result ≡ wraps_narrow lines.now value max }
+// Whether the value is a literal above max.
+fn is_above(sheet: &LoadedSheet<'_>, value: usize, max: u64) -> bool
+    ensures { result ≡ is_above sheet.now.bytes.now sheet.now.lines.now value max }
 {
-    (max != 0) & (kind(lines, value) == kinds::WRAPPING)
-}
-
-// Whether a literal above its largest number reaches a narrow slot.
-fn above_narrow(sheet: &LoadedSheet<'_>, value: usize, max: u64) -> bool
-    ensures { result ≡ above_narrow sheet.now.bytes.now sheet.now.lines.now value max }
-{
-    if max == 0 {
-        return false;
-    }
-    if sheet.kind(value) != kinds::INT {
+    if !sheet.is(value, Kind::Int) {
         return false;
     }
     exceeds(sheet.name(value), max)
+}
+
+// Refuses a wrapping value for a narrow field, and a literal above its largest number.
+fn judge_narrow(sheet: &LoadedSheet<'_>, target: usize, value: usize) -> Result<(), Refusal>
+    ensures { result ≡ judge_narrow sheet.now.bytes.now sheet.now.lines.now target value }
+{
+    let Some(max) = narrow_at(sheet, target) else {
+        return Ok(());
+    };
+    if sheet.is(value, Kind::Wrapping) {
+        return Err(Refusal::WrappingIntoNarrow { target, value });
+    }
+    if is_above(sheet, value, max) {
+        return Err(Refusal::LiteralIntoNarrow { target, value, max });
+    }
+    Ok(())
 }
 
 // Whether the value is a dot of `deploy_params`, in genesis.
@@ -93,10 +105,10 @@ fn from_deploy_params(sheet: &LoadedSheet<'_>, env: Env, value: usize) -> bool
     if !env.genesis {
         return false;
     }
-    if sheet.kind(value) != kinds::DOT {
+    if !sheet.is(value, Kind::Dot) {
         return false;
     }
-    if sheet.kind(value + 1) != kinds::ID {
+    if !sheet.is(value + 1, Kind::Id) {
         return false;
     }
     is_word(sheet.name(value + 1), b"deploy_params")
@@ -106,10 +118,10 @@ fn from_deploy_params(sheet: &LoadedSheet<'_>, env: Env, value: usize) -> bool
 fn slot_fits(
     sheet: &LoadedSheet<'_>,
     env: Env,
-    op: usize,
+    op: AssignOp,
     value: usize,
-    slot: u8,
-    given: u8,
+    slot: Ty,
+    given: Ty,
 ) -> bool
     requires { ExprAt sheet.now.bytes.now sheet.now.lines.now value }
     ensures { FitsSlot sheet.now.bytes.now env op value slot given result }
@@ -120,7 +132,7 @@ fn slot_fits(
     if compatible(slot, given) {
         return true;
     }
-    if (slot == codes::COLLECTION) & (given == codes::UNKNOWN) {
+    if (slot == Ty::Collection) & (given == Ty::Unknown) {
         return from_deploy_params(sheet, env, value);
     }
     false
@@ -130,28 +142,22 @@ fn slot_fits(
 pub fn judge_assign(
     sheet: &LoadedSheet<'_>,
     env: Env,
-    op: usize,
+    op: AssignOp,
     target: usize,
     value: usize,
-    slot: u8,
-    given: u8,
+    slot: Ty,
+    given: Ty,
 ) -> Result<(), Refusal>
     requires { AssignAt sheet.now.bytes.now sheet.now.lines.now target value }
     ensures { JudgesAssign sheet.now.bytes.now sheet.now.lines.now env op target value slot given result }
 {
-    if slot == codes::ASSET {
+    if slot == Ty::Asset {
         return Err(Refusal::AssetSlot(target));
     }
     if becomes_address(sheet, op, target, slot, given) {
         return Err(Refusal::NameIntoAddress { target, value });
     }
-    let max = narrow_at(sheet, target);
-    if wraps_narrow(sheet.lines, value, max) {
-        return Err(Refusal::WrappingIntoNarrow { target, value });
-    }
-    if above_narrow(sheet, value, max) {
-        return Err(Refusal::LiteralIntoNarrow { target, value, max });
-    }
+    judge_narrow(sheet, target, value)?;
     if slot_fits(sheet, env, op, value, slot, given) {
         Ok(())
     } else {

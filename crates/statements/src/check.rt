@@ -12,11 +12,11 @@ ghost use Rattle.grammar.specs.Kinds as kinds;
 
 use crate::assign::judge_assign;
 use env::{Env, keyed_of, ty_of_ident};
-use grammar::{kinds, ops};
+use grammar::{AssignOp, Kind};
 use refusals::Refusal;
-use rules::codes;
+use rules::Ty;
 use sheet::LoadedSheet;
-use text::index_in;
+use text::place_in;
 use typing::{check_keyed_call, ty_of};
 
 // The condition at line i is a boolean.
@@ -30,7 +30,7 @@ pub fn expect_predicate(
     ensures { Does sheet.now.bytes.now (expect_predicate (env_of sheet.now.bytes.now table.old env) (expr_at sheet.now.bytes.now i)) table.old result table.new }
 {
     let ty = ty_of(sheet, env, table, i)?;
-    if (ty == codes::BOOLEAN) | (ty == codes::UNKNOWN) {
+    if (ty == Ty::Boolean) | (ty == Ty::Unknown) {
         Ok(())
     } else {
         Err(Refusal::Predicate(i))
@@ -42,10 +42,10 @@ fn check_value(
     sheet: &LoadedSheet<'_>,
     env: Env,
     table: &mut [u8],
-    op: usize,
+    op: AssignOp,
     target: usize,
     value: usize,
-    slot: u8,
+    slot: Ty,
 ) -> Result<(), Refusal>
     requires { ValueIn sheet.now.bytes.now sheet.now.lines.now env table.old target value }
     ensures { Gives sheet.now.bytes.now sheet.now.lines.now env op target value slot table.old result table.new }
@@ -66,7 +66,7 @@ fn check_assign(
 {
     let slot = ty_of(sheet, env, table, i + 1)?;
     let value = sheet.end(i + 1);
-    check_value(sheet, env, table, sheet.op(i), i + 1, value, slot)
+    check_value(sheet, env, table, sheet.assign_op(i), i + 1, value, slot)
 }
 
 // `check_keyed_call` of any expression.
@@ -79,7 +79,7 @@ fn check_keyed_use(
     requires { Asks sheet.now.bytes.now sheet.now.lines.now env table.old i }
     ensures { Does sheet.now.bytes.now (check_keyed_use (env_of sheet.now.bytes.now table.old env) (expr_at sheet.now.bytes.now i)) table.old result table.new }
 {
-    if sheet.kind(i) != kinds::CALL {
+    if !sheet.is(i, Kind::Call) {
         return Ok(());
     }
     let keyed = keyed_of(sheet, env, i + 1);
@@ -104,11 +104,10 @@ pub fn check_stmt_types(
     requires { StmtIn sheet.now.bytes.now sheet.now.lines.now env table.old i }
     ensures { Does sheet.now.bytes.now (check_stmt_types (env_of sheet.now.bytes.now table.old env) (stmt_at sheet.now.bytes.now i)) table.old result table.new }
 {
-    let k = sheet.kind(i);
-    if k == kinds::ASSIGN {
+    if sheet.is(i, Kind::Assign) {
         return check_assign(sheet, env, table, i);
     }
-    if k == kinds::DO {
+    if sheet.is(i, Kind::Do) {
         return check_do(sheet, env, table, i);
     }
     Ok(())
@@ -118,7 +117,7 @@ pub fn check_stmt_types(
 fn no_default(ty: &[u8]) -> bool
     ensures { result ≡ is_one ty.now no_defaults }
 {
-    index_in(ty, b"Map Registry GuardianSet Q_Asset ") < 4
+    place_in(ty, b"Map Registry GuardianSet Q_Asset ").is_some()
 }
 
 // The default of the field at line field is assigned to the last field of its name.
@@ -136,5 +135,5 @@ pub fn check_default(
         return Err(Refusal::Default { field, value });
     }
     let slot = ty_of_ident(sheet, env, table, sheet.name(field));
-    check_value(sheet, env, table, ops::ASSIGN_SET, field, value, slot)
+    check_value(sheet, env, table, AssignOp::Set, field, value, slot)
 }

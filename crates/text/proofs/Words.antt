@@ -2,15 +2,18 @@
 use mathlib.Core.Path.{◌≡◌, refl, sym, ap, ◌∙◌}
 use mathlib.Core.List.{List, [], ◌∷◌}
 use mathlib.Core.Bool.{Bool, true, false, cond, true≢false, ◌&&◌}
-use Prim.Native.Nat.{ℕ, ◌+◌, ◌-◌, ◌≤◌, ◌<◌}
-use native.Mathlib.Nat.{add-zero}
+use Prim.Native.Nat.{ℕ, suc, ◌+◌, ◌-◌, ◌≤◌, ◌<◌}
+use Prim.Native.Nat.compare
+use native.Mathlib.Nat.{add-zero, zero-add}
 use native.Mathlib.Omega.{arith}
 use lib.ListN.{length, take, drop, drop_of_length-le, length-drop}
-use borrow.Author.Tests.{eq-eqb, eqb-true}
-use lib.Dec.{eqb}
+use borrow.Author.Tests.{eq-eqb, eqb-true, lt-ltb}
+use lib.Dec.{eqb, ltb}
+use Rattle.std.specs.Prelude.{Option, Some, None, option_map}
+use Rattle.std.specs.Bool.{then_some}
 use Rattle.std.specs.Cmp.Lexicographic.{pointwise}
 use Rattle.text.specs.Text.{same, either, upto, ended}
-use Rattle.text.specs.Word.{split, index_in}
+use Rattle.text.specs.Word.{split, index_in, place_in}
 use Rattle.text.proofs.Pieces.{upto_between, ended_none, piece_next}
 
 -- texts that are the same are one text
@@ -45,8 +48,8 @@ pointwise-same (x ∷ xs) (y ∷ ys) = rw (pointwise-same xs ys) (by_cases (eqb 
 pub equal_same : (a b : List ℕ) (r : Bool) → r ≡ pointwise eqb a b → r ≡ same a b
 equal_same a b r e = e ∙ pointwise-same a b
 
--- A turn of the search in a table: n is the place, k the words passed, start where the next one starts, and end where it ends.
-module _ (p t : List ℕ) (k start end n : ℕ) (e : n ≡ k + index_in p (split (drop start t)))
+-- A turn of the search in a table: r is the place, k the words passed, start where the next one starts, and end where it ends.
+module _ (p t : List ℕ) (k start end : ℕ) (r : Option ℕ) (e : r ≡ option_map (λ n. k + n) (place_in p (split (drop start t))))
     (f : end ≡ start + length (upto (either 32 32) (drop start t))) where
   abbrev part : List ℕ
   part = take (end - start) (drop start t)
@@ -58,19 +61,42 @@ module _ (p t : List ℕ) (k start end n : ℕ) (e : n ≡ k + index_in p (split
   unfolding split
   next h = rw (word, f) (piece_next (either 32 32) t start (omega arith))
 
-  pub place_hit : end < length t → same p part ≡ true → k ≡ n
-  unfolding index_in
-  place_hit h hit = sym (e ∙ rw (next h, hit) (add-zero k))
+  pub place_hit : end < length t → same p part ≡ true → Some k ≡ r
+  unfolding place_in
+  place_hit h hit = sym (e ∙ rw (next h, hit) (ap Some (add-zero k)))
 
-  pub place_miss : end < length t → same p part ≡ false → n ≡ k + 1 + index_in p (split (drop (end + 1) t))
-  unfolding index_in
-  place_miss h miss = e ∙ rw (next h, miss) (omega arith)
+  pub place_miss : end < length t → same p part ≡ false → r ≡ option_map (λ n. k + 1 + n) (place_in p (split (drop (end + 1) t)))
+  unfolding place_in
+  place_miss h miss = e ∙ rw (next h, miss) (later (place_in p (split (drop (end + 1) t))))
+    where
+      later : (o : Option ℕ) → option_map (λ n. k + n) (option_map suc o) ≡ option_map (λ n. k + 1 + n) o
+      later (Some n) = ap Some (omega arith)
+      later None = refl
 
   -- what no space ends is no word
-  pub place_rest : length t ≤ end → k ≡ n
-  unfolding index_in split
-  place_rest h = sym (e ∙ rw (ended_none (either 32 32) [] (drop start t) (rw (length-drop start t) (omega arith))) (add-zero k))
+  pub place_rest : length t ≤ end → None ≡ r
+  unfolding place_in split
+  place_rest h = sym (e ∙ rw (ended_none (either 32 32) [] (drop start t) (rw (length-drop start t) (omega arith))) refl)
 
-pub place_end : (p t : List ℕ) (k start n : ℕ) → n ≡ k + index_in p (split (drop start t)) → length t ≤ start → k ≡ n
-unfolding index_in split ended
-place_end p t k start n e h = sym (e ∙ rw (drop_of_length-le t h) (add-zero k))
+pub place_start : (r : Option ℕ) → r ≡ option_map (λ n. 0 + n) r
+place_start (Some n) = ap Some (sym (zero-add n))
+place_start None = refl
+
+pub place_end : (p t : List ℕ) (k start : ℕ) (r : Option ℕ) → r ≡ option_map (λ n. k + n) (place_in p (split (drop start t))) → length t ≤ start → None ≡ r
+unfolding place_in split ended
+place_end p t k start r e h = sym (e ∙ rw (drop_of_length-le t h) refl)
+
+-- the place is the number of words before it, where that is not the number of all
+pub place_told : (p : List ℕ) (ws : List (List ℕ)) → place_in p ws ≡ then_some (ltb (index_in p ws) (length ws)) (index_in p ws)
+unfolding place_in index_in
+place_told p [] = refl
+place_told p (w ∷ ws) = by_cases (same p w) (place_told p ws)
+  where
+    further : (b : Bool) (n : ℕ) → option_map suc (then_some b n) ≡ then_some b (suc n)
+    further true n = refl
+    further false n = refl
+
+    by_cases : (t : Bool) → place_in p ws ≡ then_some (ltb (index_in p ws) (length ws)) (index_in p ws)
+        → cond t (Some 0) (option_map suc (place_in p ws)) ≡ then_some (ltb (cond t 0 (1 + index_in p ws)) (length (w ∷ ws))) (cond t 0 (1 + index_in p ws))
+    by_cases true h = rw (lt-ltb 0 (length (w ∷ ws)) (omega arith)) refl
+    by_cases false h = rw (h, let e : 1 + index_in p ws ≡ suc (index_in p ws) = omega arith in e, compare.suc-suc (suc (index_in p ws)) (length ws)) (further (ltb (index_in p ws) (length ws)) (index_in p ws))

@@ -13,18 +13,18 @@ use Rattle.sheet.specs.Scratch.{end_at, line_count, call_arg_count}
 use Rattle.sheet.specs.Say.{span_at}
 use Rattle.sheet.specs.Tree.{take_nodes}
 use Rattle.rules.specs.Ast.{call, more, exprs_of}
-use Rattle.rules.specs.Asking.{Ty, code, ok, refused, Rule, ret, ◌>>◌}
-use Rattle.rules.specs.Kept.{Table, kept, ty_from}
+use Rattle.rules.specs.Asking.{ok, refused, Rule, ret, ◌>>◌}
+use Rattle.rules.specs.declared.ty.Ty.{Ty}
+use Rattle.rules.specs.Kept.{Table, kept}
 use Rattle.rules.specs.Typing.{asked, ask_of, ty_of, typing, typings, type_call, ask_each, check_keyed_call, expect_asset_receiver, expect_keyed_op, is_pool, state_field_of, keyed_field, ty_of_call}
 use Rattle.rules.specs.Standing.{expr_at, exprs_at, Row}
 use Rattle.rules.proofs.Binding.{kept-length, then_ok, then_refused}
 use Rattle.rules.proofs.Exprs.{call_at_lem}
 use Rattle.rules.proofs.Rows.{row_some, exprs_some}
-use Rattle.rules.proofs.Standing.{row_first, row_rest}
+use Rattle.rules.proofs.Standing.{loaded_sheet, row_first, row_rest}
 use Rattle.lookups.specs.Found.{found_field}
 use Rattle.refusals.specs.Refusal.{refusal_of, done_of}
 use Rattle.refusals.specs.declared.refusal.Refusal.{Refusal}
-use Rattle.lookups.proofs.Codes.{code_is, from_code}
 use Rattle.refusals.specs.Answers.{Answers}
 use Rattle.env.specs.Answers.{typed_of}
 use Rattle.env.specs.Calls.{keyed_of, KeyedOf, Callee, op_rule, call_ty}
@@ -80,7 +80,7 @@ module _ (s S : List ℕ) (env : Env) (T : Table) (i : ℕ) (h : AsksAt kinds.ca
       pub call_no_receiver : (r : Refusal) → d ≡ Err r → Types s (typing (env_of s T env) (expr_at s i)) T (Err r) T
       unfolding typing type_call typed_of ◌>>◌
       call_no_receiver r e =
-          record { gives = rw ((parts s S env T i h).0, ← add-one i) (then_refused _ _ T T (refusal_of s r) (stopped s _ T d T receiver r e)); valid = tt }
+          record { gives = rw ((parts s S env T i h).0, ← add-one i) (then_refused _ _ T T (refusal_of s r) (stopped s _ T d T receiver r e)) }
 
       module _ (e : d ≡ Ok tt) (o : Result Unit Refusal) (j : Answers (op_rule (found_field s keyed) (expr_at s (i + 1))) (done_of s o)) where
         operation : kept (expect_keyed_op (env_of s T env) (expr_at s (i + 1))) T ≡ record { res = done_of s o; table = T }
@@ -94,10 +94,9 @@ module _ (s S : List ℕ) (env : Env) (T : Table) (i : ℕ) (h : AsksAt kinds.ca
               gives =
                   rw ((parts s S env T i h).0, ← add-one i)
                   (then_ok _ _ T T tt _ (did s _ T d T receiver e) (then_refused _ _ T T (refusal_of s r) (stopped s _ T o T operation r f)));
-              valid = tt;
             }
 
-        pub call_ok : (r : Result ℕ Refusal) (U : Table) → o ≡ Ok tt → Types s (type_args (env_of s T env) (callee_at s i) (args_at s S i)) T r U
+        pub call_ok : (r : Result Ty Refusal) (U : Table) → o ≡ Ok tt → Types s (type_args (env_of s T env) (callee_at s i) (args_at s S i)) T r U
             → Types s (typing (env_of s T env) (expr_at s i)) T r U
         unfolding typing type_call type_args type_keyed callee_at args_at ◌>>◌
         call_ok r U f k =
@@ -105,7 +104,6 @@ module _ (s S : List ℕ) (env : Env) (T : Table) (i : ℕ) (h : AsksAt kinds.ca
               gives =
                   rw (parts s S env T i h).0
                   (then_ok _ _ T T tt _ (rw (← add-one i) (did s _ T d T receiver e)) (then_ok _ _ T T tt _ (rw (← add-one i) (did s _ T o T operation f)) k.gives));
-              valid = k.valid;
             }
 
 -- ------------------------------------------------------------ type_args and type_keyed
@@ -146,7 +144,7 @@ module _ (s S : List ℕ) (env : Env) (T : Table) (i : ℕ) (keyed : Option ℕ)
 
         pub args_no : (r : Refusal) → d ≡ Err r → Types s (type_args (env_of s T env) (callee_at s i) (args_at s S i)) T (Err r) U
         unfolding type_args typed_of
-        args_no r f = record { gives = then_refused _ _ T U (refusal_of s r) (stopped s _ T d U asks r f); valid = tt }
+        args_no r f = record { gives = then_refused _ _ T U (refusal_of s r) (stopped s _ T d U asks r f) }
 
         module _ (f : d ≡ Ok tt) where
           on : Onward s S env T U
@@ -155,32 +153,30 @@ module _ (s S : List ℕ) (env : Env) (T : Table) (i : ℕ) (keyed : Option ℕ)
           pub args_keyed : AsksCall s S env U i keyed
           args_keyed = on_call s S env T U i keyed h on
 
-          pub args_ok : (r : Result ℕ Refusal) (W : Table) → Types s (type_keyed (env_of s U env) (callee_at s i) (args_at s S i)) U r W
+          pub args_ok : (r : Result Ty Refusal) (W : Table) → Types s (type_keyed (env_of s U env) (callee_at s i) (args_at s S i)) U r W
               → Types s (type_args (env_of s T env) (callee_at s i) (args_at s S i)) T r W
           unfolding type_args
           args_ok r W k' =
-              record { gives = then_ok _ _ T U tt _ (did s _ T d U asks f) (rw (← on.same) k'.gives); valid = k'.valid }
+              record { gives = then_ok _ _ T U tt _ (did s _ T d U asks f) (rw (← on.same) k'.gives) }
 
   module _ (d : Result Unit Refusal) (U : Table) (k : Does s (check_keyed_call (env_of s T env) (callee_at s i) (typings (env_of s T env) (args_at s S i))) T d U) where
     pub keyed_no : (r : Refusal) → d ≡ Err r → Types s (type_keyed (env_of s T env) (callee_at s i) (args_at s S i)) T (Err r) U
     unfolding type_keyed typed_of
-    keyed_no r f = record { gives = then_refused _ _ T U (refusal_of s r) (stopped s _ T d U k.gives r f); valid = tt }
+    keyed_no r f = record { gives = then_refused _ _ T U (refusal_of s r) (stopped s _ T d U k.gives r f) }
 
-    call-code : (c : ℕ) → c ≡ code (call_ty (found_field s keyed) (expr_at s (i + 1))) → c ≡ code (ty_of_call (env_of s T env) (callee_at s i))
+    call-type : (c : Ty) → c ≡ call_ty (found_field s keyed) (expr_at s (i + 1)) → c ≡ ty_of_call (env_of s T env) (callee_at s i)
     unfolding callee_at keyed_of keyed_field state_field_of env_of
-    call-code c t =
+    call-type c t =
         let g : found_field s keyed ≡ keyed_of (env_of s T env) (expr_at s (i + 1)) = rw (add-one i) h.uses.found in
         rw (← add-one i, ← uses-type (env_of s T env) _ _ g) t
 
-    pub keyed_ok : (c : ℕ) → d ≡ Ok tt → c ≡ code (call_ty (found_field s keyed) (expr_at s (i + 1))) → Types s (type_keyed (env_of s T env) (callee_at s i) (args_at s S i)) T (Ok c) U
+    pub keyed_ok : (c : Ty) → d ≡ Ok tt → c ≡ call_ty (found_field s keyed) (expr_at s (i + 1)) → Types s (type_keyed (env_of s T env) (callee_at s i) (args_at s S i)) T (Ok c) U
     unfolding type_keyed typed_of
     keyed_ok c f t =
-        let e = call-code c t in
         record {
           gives =
               then_ok (check_keyed_call (env_of s T env) (callee_at s i) (typings (env_of s T env) (args_at s S i))) _ T U tt _ (did s _ T d U k.gives f)
-              (gives_type _ U ∙ rw (from_code c _ e) refl);
-          valid = rw e (code_is (ty_of_call (env_of s T env) (callee_at s i)));
+              (gives_type _ U ∙ rw (call-type c t) refl);
         }
 
 -- ------------------------------------------------------------ ask_each
@@ -200,12 +196,12 @@ module _ (s S : List ℕ) (env : Env) (T : Table) (left at : ℕ) (h : AsksAll s
     pub each_first : Asks s S env T at
     each_first = record { ready = h.ready; here = row_first row }
 
-    module _ (a : Result ℕ Refusal) (U : Table) (k : Types s (ty_of (env_of s T env) (expr_at s at)) T a U) where
+    module _ (a : Result Ty Refusal) (U : Table) (k : Types s (ty_of (env_of s T env) (expr_at s at)) T a U) where
       pub each_no : (r : Refusal) → a ≡ Err r → Does s (ask_each (typings (env_of s T env) (exprs_at s left at))) T (Err r) U
       unfolding typings ask_each asked ask_of ty_of typed_of done_of
       each_no r e = record { gives = rw list (then_refused (ty_of (env_of s T env) (expr_at s at)) _ T U (refusal_of s r) (k.gives ∙ rw e refl)) }
 
-      module _ (c : ℕ) (e : a ≡ Ok c) (m : ℕ) (q : m ≡ end_at S at) where
+      module _ (c : Ty) (e : a ≡ Ok c) (m : ℕ) (q : m ≡ end_at S at) where
         on_first : Onward s S env T U
         on_first = onward s S env T U _ _ h.ready (off_type h.ready.force.loaded (env_of s T env) (row_first row) h.no_value) (gave s _ T a U k c e)
 
@@ -222,13 +218,13 @@ module _ (s S : List ℕ) (env : Env) (T : Table) (left at : ℕ) (h : AsksAll s
             record {
               gives =
                   rw list
-                  (then_ok (ty_of (env_of s T env) (expr_at s at)) _ T U (ty_from c) _ (gave s _ T a U k c e) (rw (← q, ← on_first.same) g.gives));
+                  (then_ok (ty_of (env_of s T env) (expr_at s at)) _ T U c _ (gave s _ T a U k c e) (rw (← q, ← on_first.same) g.gives));
             }
 
-pub ruleset laws_call = (rules, types-length, does_length, call_callee, call_op, call-args, call_no_receiver, call_no_op, call_ok)
+pub ruleset laws_call = (rules, loaded_sheet, types-length, does_length, call_callee, call_op, call-args, call_no_receiver, call_no_op, call_ok)
 
-pub ruleset laws_args = (rules, types-length, does_length, args_falls, args_all, args_no, args_keyed, args_ok)
+pub ruleset laws_args = (rules, loaded_sheet, types-length, does_length, args_falls, args_all, args_no, args_keyed, args_ok)
 
-pub ruleset laws_keyed = (rules, types-length, does_length, keyed_callee, keyed_no, keyed_ok)
+pub ruleset laws_keyed = (rules, loaded_sheet, types-length, does_length, keyed_callee, keyed_no, keyed_ok)
 
-pub ruleset laws_each = (rules, types-length, does_length, each_none, each_first, each_no, each_rest, each_falls, each_ok)
+pub ruleset laws_each = (rules, loaded_sheet, types-length, does_length, each_none, each_first, each_no, each_rest, each_falls, each_ok)

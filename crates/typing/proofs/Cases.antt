@@ -13,7 +13,9 @@ use Rattle.sheet.specs.Promise.{laid, scratch_from, scratch_after}
 use Rattle.sheet.specs.Scratch.{cell, put, put_line, put_lines, kind_at, skip, closed, cells_per_line}
 use Rattle.sheet.specs.Tree.{before}
 use Rattle.rules.specs.Computed.{computed}
-use Rattle.rules.specs.Asking.{Int, ok}
+use Rattle.rules.specs.Asking.{ok}
+use Rattle.rules.specs.declared.ty.Ty.{Ty}
+use Rattle.rules.specs.declared.ty.Ty.TheVariants.{Int}
 use Rattle.rules.specs.Kept.{Table, kept, ty_from}
 use Rattle.rules.specs.Typing.{ty_of}
 use Rattle.rules.specs.Standing.{model_in, drop_lines, trees_from, node_at, nodes_at, expr_at, Loaded, Here, stop, next}
@@ -58,5 +60,5 @@ unfolding computed env_of local_of named_end lets ends_in params_in of_kind node
 again_int = refl
 
 -- .. and answers Int: it is typed again, and the line keeps Unknown
-pub guarded_again : (r : Result ℕ Refusal) (U : Table) → Types guarded (ty_of (env_of guarded guarded_table both_bound) (expr_at guarded 3)) guarded_table r U → (typed_of guarded r ≡ ok Int) × (U ≡ guarded_table)
+pub guarded_again : (r : Result Ty Refusal) (U : Table) → Types guarded (ty_of (env_of guarded guarded_table both_bound) (expr_at guarded 3)) guarded_table r U → (typed_of guarded r ≡ ok Int) × (U ≡ guarded_table)
 guarded_again r U k = let e = sym k.gives ∙ again_int in (ap (λ o. o.res) e, ap (λ o. o.table) e)

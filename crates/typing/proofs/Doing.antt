@@ -3,8 +3,9 @@ use mathlib.Core.Path.{◌≡◌, refl, ◌∙◌}
 use mathlib.Core.List.{List}
 use Prim.Native.Nat.{ℕ}
 use Rattle.std.specs.Prelude.{Result, Ok, Err}
-use Rattle.rules.specs.Asking.{Ty, Rule, ret, ◌>>=◌}
-use Rattle.rules.specs.Kept.{Table, kept, ty_from}
+use Rattle.rules.specs.Asking.{Rule, ret, ◌>>=◌}
+use Rattle.rules.specs.declared.ty.Ty.{Ty}
+use Rattle.rules.specs.Kept.{Table, kept}
 use Rattle.rules.proofs.Binding.{then_ok, then_refused}
 use Rattle.refusals.specs.Answers.{Answers}
 use Rattle.refusals.specs.Refusal.{refusal_of, done_of}
@@ -23,9 +24,9 @@ unfolding kept done_of
 does_nothing s T = record { gives = refl }
 
 -- a type that was asked is judged
-module _ (s : List ℕ) (p : Rule Ty) (f : Ty → Rule Unit) (T : Table) (a : Result ℕ Refusal) (U : Table) (k : Types s p T a U) where
-  pub typed_then : (c : ℕ) (d : Result Unit Refusal) → a ≡ Ok c → Answers (f (ty_from c)) (done_of s d) → Does s (p >>= f) T d U
-  typed_then c d e j = record { gives = then_ok p f T U (ty_from c) _ (gave s p T a U k c e) (j.answers U) }
+module _ (s : List ℕ) (p : Rule Ty) (f : Ty → Rule Unit) (T : Table) (a : Result Ty Refusal) (U : Table) (k : Types s p T a U) where
+  pub typed_then : (c : Ty) (d : Result Unit Refusal) → a ≡ Ok c → Answers (f c) (done_of s d) → Does s (p >>= f) T d U
+  typed_then c d e j = record { gives = then_ok p f T U c _ (gave s p T a U k c e) (j.answers U) }
 
   pub not_typed : (r : Refusal) → a ≡ Err r → Does s (p >>= f) T (Err r) U
   unfolding typed_of done_of

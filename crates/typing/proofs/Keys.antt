@@ -20,21 +20,21 @@ use Rattle.sheet.specs.Say.{nspan_at}
 use Rattle.sheet.specs.Tree.{take_nodes}
 use Rattle.rules.specs.Text.{Name, is, is_one}
 use Rattle.rules.specs.Ast.{Type', Expr, Field, more, exprs_of}
-use Rattle.rules.specs.Asking.{Ty, code, ok, Rule, ◌>>=◌, ◌>>◌, provided, if_some}
-use Rattle.rules.specs.Kept.{Table, Kept, kept, ty_from}
+use Rattle.rules.specs.Asking.{ok, Rule, ◌>>=◌, ◌>>◌, provided, if_some}
+use Rattle.rules.specs.declared.ty.Ty.{Ty}
+use Rattle.rules.specs.Kept.{Table, Kept, kept}
 use Rattle.rules.specs.Types.{declared_arg}
 use Rattle.rules.specs.Typing.{Env as Environment, Asked, Dot, asked, ask_of, ty_of, typings, dot_of, keyed_field, state_field_of, expected, check_amount, check_keys, judge_key, is_name_param, check_keyed_call}
 use Rattle.rules.specs.Standing.{expr_at, exprs_at, field_at, type_at, Loaded, Row}
 use Rattle.rules.proofs.Binding.{then_ok, then_refused}
 use Rattle.rules.proofs.Exprs.{is_dot_at}
 use Rattle.rules.proofs.Rows.{row_some, exprs_some}
-use Rattle.rules.proofs.Standing.{exprs_next, row_first, row_rest}
+use Rattle.rules.proofs.Standing.{loaded_sheet, exprs_next, row_first, row_rest}
 use Rattle.lookups.specs.Found.{found_field}
 use Rattle.lookups.specs.Lines.{TypeAt}
 use Rattle.refusals.specs.Refusal.{dot_at, refusal_of, done_of}
 use Rattle.refusals.specs.declared.refusal.Refusal.{Refusal}
 use Rattle.text.proofs.Tests.{or_parts}
-use Rattle.lookups.proofs.Codes.{from_code}
 use Rattle.env.proofs.Lookups.{TypeBehind, behind as type_behind}
 use Rattle.env.specs.Answers.{typed_of, JudgesAmount, JudgesKey}
 use Rattle.env.specs.Calls.{wants_of, keyed_of}
@@ -221,7 +221,7 @@ module _ (s S : List ℕ) (env : Env) (T : Table) (i : ℕ) (h : AsksMethod s S 
         pub amount_falls : (τ : ℕ) → 10 * (line_count S - i) + 0 ≡ τ → 10 * (line_count S - arg) + 7 < τ
         amount_falls τ q = omega (arith, arg_is, (row_first all).after, (row_first rest').after, h.call.asks.here.within, q)
 
-        module _ (a : Result ℕ Refusal) (U : Table) (k : Types s (ty_of (env_of s T env) (expr_at s arg)) T a U) where
+        module _ (a : Result Ty Refusal) (U : Table) (k : Types s (ty_of (env_of s T env) (expr_at s arg)) T a U) where
           pub amount_no : (r : Refusal) → a ≡ Err r → Does s (amount_rule (env_of s T env) (method_at s S i) (args_at s S i)) T (Err r) U
           unfolding amount_rule method_at provided typings check_amount asked ask_of ty_of done_of typed_of
           amount_no r e =
@@ -231,13 +231,13 @@ module _ (s S : List ℕ) (env : Env) (T : Table) (i : ℕ) (h : AsksMethod s S 
           unfolding dot_at
           dot-name = rw (add-one i, dot_at, is_dot_at d (row_first all), eq-eqb _ _ h.dot) refl
 
-          pub amount_ok : (c : ℕ) (r : Result Unit Refusal) → a ≡ Ok c → JudgesAmount (i + 1) arg c r → Does s (amount_rule (env_of s T env) (method_at s S i) (args_at s S i)) T r U
+          pub amount_ok : (c : Ty) (r : Result Unit Refusal) → a ≡ Ok c → JudgesAmount (i + 1) arg c r → Does s (amount_rule (env_of s T env) (method_at s S i) (args_at s S i)) T r U
           unfolding amount_rule method_at provided typings check_amount asked ask_of ty_of
           amount_ok c r e j =
               record {
                 gives =
                     rw (method, not-false b n, two)
-                    (then_ok (ty_of (env_of s T env) (expr_at s arg)) _ T U (ty_from c) _ (gave s _ T a U k c e)
+                    (then_ok (ty_of (env_of s T env) (expr_at s arg)) _ T U c _ (gave s _ T a U k c e)
                     (rw dot-name at ((j.judged s).answers U)));
               }
 
@@ -317,7 +317,7 @@ module _ (s S : List ℕ) (env : Env) (T : Table) (field index wants left at : �
     pub keys_type : TypeAt s S (field + 1)
     keys_type = rw (add-one field) type_at_lem.typed
 
-    module _ (a : Result ℕ Refusal) (U : Table) (k : Types s (ty_of Γ (expr_at s at)) T a U) where
+    module _ (a : Result Ty Refusal) (U : Table) (k : Types s (ty_of Γ (expr_at s at)) T a U) where
       pub keys_no : (r : Refusal) → a ≡ Err r → Does s (keys_rule Γ (field_at s field) index wants (exprs_at s left at)) T (Err r) U
       unfolding keys_rule typings check_keys asked ask_of ty_of typed_of done_of
       keys_no r e =
@@ -327,23 +327,23 @@ module _ (s S : List ℕ) (env : Env) (T : Table) (field index wants left at : �
                 (then_refused (ty_of Γ (expr_at s at)) _ T U (refusal_of s r) (k.gives ∙ rw e refl));
           }
 
-      module _ (c want : ℕ) (d : Result Unit Refusal) (e : a ≡ Ok c) (w : want ≡ code (declared_arg (type_at s (field + 1)) index)) (j : JudgesKey s env field (eqb index 0) at want c d) where
+      module _ (c want : Ty) (d : Result Unit Refusal) (e : a ≡ Ok c) (w : want ≡ declared_arg (type_at s (field + 1)) index) (j : JudgesKey s env field (eqb index 0) at want c d) where
         abbrev judge : Rule Unit
-        judge = judge_key Γ (field_at s field).name (eqb index 0) (expr_at s at) (declared_arg (field_at s field).ty index) (ty_from c)
+        judge = judge_key Γ (field_at s field).name (eqb index 0) (expr_at s at) (declared_arg (field_at s field).ty index) c
 
         abbrev others : Rule Unit
         others = check_keys Γ (field_at s field).name false (typings Γ (exprs_at s (left - 1) (end_at S at))) (wanted (field_at s field).ty (index + 1) wants)
 
         judged : kept judge U ≡ record { res = done_of s d; table = U }
         unfolding judge_key is_name_param env_of
-        judged = rw (← from_code want (declared_arg (field_at s field).ty index) (rw (type_at_lem.field, ← add-one field) w)) (j.judged.answers U)
+        judged = rw (type_at_lem.field, ← add-one field, ← w) (j.answers U)
 
         -- the first argument was typed: it is judged, then the others
         went : (o : Kept Unit) → kept (judge >>= λ _. others) U ≡ o → kept (keys_rule Γ (field_at s field) index wants (exprs_at s left at)) T ≡ o
         unfolding keys_rule typings check_keys asked ask_of ty_of ◌>>◌
         went o q =
             rw (list, wanted_next (field_at s field).ty index wants more_to_go.0 h.few)
-            (then_ok (ty_of Γ (expr_at s at)) _ T U (ty_from c) o (gave s _ T a U k c e) q)
+            (then_ok (ty_of Γ (expr_at s at)) _ T U c o (gave s _ T a U k c e) q)
 
         pub keys_wrong : (r : Refusal) → d ≡ Err r → Does s (keys_rule Γ (field_at s field) index wants (exprs_at s left at)) T (Err r) U
         unfolding done_of
@@ -366,8 +366,8 @@ module _ (s S : List ℕ) (env : Env) (T : Table) (field index wants left at : �
               let g' : kept others U ≡ record { res = done_of s r; table = W } = rw (ne_eqb (index + 1) 0 (omega arith), em, on_keys.same) at q.gives in
               record { gives = went _ (then_ok judge (λ _. others) U U tt _ (did s _ U d U judged f) g') }
 
-pub ruleset laws_keyed_call = (rules, types-length, does_length, no_keyed, by_method, amount_ends, keys_asked, keys_below, keys_done)
+pub ruleset laws_keyed_call = (rules, loaded_sheet, types-length, does_length, no_keyed, by_method, amount_ends, keys_asked, keys_below, keys_done)
 
-pub ruleset laws_amount = (rules, types-length, does_length, no_amount, no_move, amount_asks, amount_falls, amount_no, amount_ok)
+pub ruleset laws_amount = (rules, loaded_sheet, types-length, does_length, no_amount, no_move, amount_asks, amount_falls, amount_no, amount_ok)
 
-pub ruleset laws_keys = (rules, types-length, does_length, keys_stop, keys_first, keys_index, keys_next, keys_arg, keys_type, keys_no, keys_wrong, keys_rest, keys_falls, keys_ok)
+pub ruleset laws_keys = (rules, loaded_sheet, types-length, does_length, keys_stop, keys_first, keys_index, keys_next, keys_arg, keys_type, keys_no, keys_wrong, keys_rest, keys_falls, keys_ok)

@@ -14,7 +14,8 @@ use Rattle.grammar.specs.Grammar as grammar
 use Rattle.sheet.specs.Scratch.{kind_at, end_at}
 use Rattle.sheet.specs.Tree.{Node, node, take_nodes}
 use Rattle.rules.specs.Ast.{exprs_of}
-use Rattle.rules.specs.Asking.{Ty, code_r, ok, Rule, ◌>>=◌, expect}
+use Rattle.rules.specs.Asking.{code_r, ok, Rule, ◌>>=◌, expect}
+use Rattle.rules.specs.declared.ty.Ty.{Ty}
 use Rattle.rules.specs.Kept.{Table, kept}
 use Rattle.rules.specs.Text.{Name, Piece}
 use Rattle.rules.specs.Typing as rules
@@ -27,9 +28,8 @@ use Rattle.rules.proofs.Forest.{here_inside, placed_at}
 use Rattle.rules.proofs.Keeps.{Throughout, OfLine, Any, throughout_map}
 use Rattle.rules.proofs.Lines.{fits_lines}
 use Rattle.rules.proofs.Standing.{stands, exprs_next}
-use Rattle.lookups.proofs.Codes.{code_of_lem}
 use Rattle.env.proofs.Lets.{lets_all}
-use Rattle.env.specs.Answers.{typed_of, Valid}
+use Rattle.env.specs.Answers.{typed_of}
 use Rattle.env.specs.Force.{env_of, local_of, lets, Ready}
 use Rattle.env.specs.declared.env.Env.{Env}
 use Rattle.typing.specs.Asks.{amount_rule, NoValue, answer_mark}
@@ -37,10 +37,10 @@ use Rattle.grammar.specs.Kinds as kinds
 use Rattle.refusals.specs.declared.refusal.Refusal.{Refusal}
 
 -- the mark of an answer is its code
-pub mark_code : (s : List ℕ) (a : Result ℕ Refusal) → Valid a → code_r (typed_of s a) ≡ answer_mark a
+pub mark_code : (s : List ℕ) (a : Result Ty Refusal) → code_r (typed_of s a) ≡ answer_mark a
 unfolding code_r typed_of answer_mark
-mark_code s (Ok c) h = (code_of_lem c h).1
-mark_code s (Err r) h = refl
+mark_code s (Ok t) = refl
+mark_code s (Err r) = refl
 
 -- ------------------------------------------------------------ lines that are no `let`'s value
 

@@ -4,13 +4,15 @@ use Rattle.grammar.specs.Grammar as grammar
 use Rattle.sheet.specs.Scratch.{kind_at, end_at, name_at, line_count, call_arg_count}
 use Rattle.rules.specs.Text.{Name, is_one}
 use Rattle.rules.specs.Ast.{Type', Expr, Exprs, Field}
-use Rattle.rules.specs.Asking.{Ty, Rule, ret, ◌>>=◌, provided}
-use Rattle.rules.specs.Kept.{Table, kept, IsCode}
+use Rattle.rules.specs.Asking.{code, Rule, ret, ◌>>=◌, provided}
+use Rattle.rules.specs.declared.ty.Ty.{Ty}
+use Rattle.rules.specs.Kept.{Table, kept, ty_of_mark}
+use Rattle.std.proofs.Math.Option.{some}
 use Rattle.rules.specs.Types.{declared_arg}
 use Rattle.rules.specs.Typing.{Env, stale, ask_each, check_amount, check_keyed_call, check_keys, ty_of_call, typings}
 use Rattle.rules.specs.Standing.{expr_at, exprs_at, Here, Row}
 use Rattle.refusals.specs.Refusal.{done_of}
-use Rattle.env.specs.Answers.{typed_of, Valid}
+use Rattle.env.specs.Answers.{typed_of}
 use Rattle.env.specs.Calls.{KeyedOf}
 use Rattle.env.specs.Force.{env_of, Ready}
 use Rattle.env.specs.declared.env.Env.{Env as CodeEnv}
@@ -56,7 +58,7 @@ pub record Asks (s S : List ℕ) (env : CodeEnv) (T : Table) (i : ℕ) : Type 0 
 -- ... which has a type that is not the answer
 pub record AsksAgain (s S : List ℕ) (env : CodeEnv) (T : Table) (i : ℕ) : Type 0 where
   pub asks : Asks s S env T i
-  pub marked : IsCode (get_or T i 0)
+  pub marked : (t : Ty) × (ty_of_mark (get_or T i 0) ≡ some t)
   pub stale : stale (env_of s [] env) (expr_at s i) ≡ true
 
 -- ... which is of kind k
@@ -101,27 +103,22 @@ pub record AsksKeys (s S : List ℕ) (env : CodeEnv) (T : Table) (field wants m 
 -- ------------------------------------------------------------ what is promised
 
 -- the mark that an answer leaves
-unfoldable pub answer_mark : Result ℕ Refusal → ℕ
-answer_mark (Ok c) = c
+unfoldable pub answer_mark : Result Ty Refusal → ℕ
+answer_mark (Ok t) = code t
 answer_mark (Err r) = codes.refused
 
--- ... on a line that has the type c
-unfoldable pub again_mark : ℕ → Result ℕ Refusal → ℕ
-again_mark c (Ok d) = c
+-- ... on a line that has the mark c
+unfoldable pub again_mark : ℕ → Result Ty Refusal → ℕ
+again_mark c (Ok t) = c
 again_mark c (Err r) = codes.refused
 
--- the codes of lines that have no parts, by their kind; that of a name is looked up
-abbrev pub leaf_codes : List ℕ
-leaf_codes = codes.int ∷ codes.unknown ∷ codes.time ∷ codes.str ∷ codes.address ∷ codes.address ∷ codes.address ∷ codes.int ∷ []
-
 -- the answer r and the table U are what the rule gives with kept types from the table T
-pub record Types (s : List ℕ) (p : Rule Ty) (T : Table) (r : Result ℕ Refusal) (U : Table) : Type 0 where
+pub record Types (s : List ℕ) (p : Rule Ty) (T : Table) (r : Result Ty Refusal) (U : Table) : Type 0 where
   pub gives : kept p T ≡ record { res = typed_of s r; table = U }
-  pub valid : Valid r
 
 pub record Does (s : List ℕ) (p : Rule Unit) (T : Table) (r : Result Unit Refusal) (U : Table) : Type 0 where
   pub gives : kept p T ≡ record { res = done_of s r; table = U }
 
--- the rule gives the type of code c, and leaves the table
-pub record TypesLeaf (s : List ℕ) (p : Rule Ty) (T : Table) (c : ℕ) : Type 0 where
-  pub types : Types s p T (Ok c) T
+-- the rule gives the type, and leaves the table
+pub record TypesLeaf (s : List ℕ) (p : Rule Ty) (T : Table) (t : Ty) : Type 0 where
+  pub types : Types s p T (Ok t) T

@@ -1,68 +1,62 @@
 // `ty_of` and its branches, and `check_keyed_call`, which call each other. The lines left and a phase fall.
-ghost use Rattle.std.specs.Prelude.{◌≡◌, ◌<◌, get_or};
+ghost use Rattle.std.specs.Prelude.{◌≡◌};
 ghost use Rattle.rules.specs.Standing.{expr_at, exprs_at, field_at};
 ghost use Rattle.rules.specs.Typing.{ask_each, check_keyed_call, ty_of, typings};
 ghost use Rattle.rules.specs.Typing.{typing as typing_of};
 ghost use Rattle.env.specs.Force.{env_of};
 ghost use Rattle.typing.specs.Asks.{AsksAgain, AsksAll, AsksAt, AsksCall, AsksKeys, AsksLeaf, AsksMethod, Asks};
-ghost use Rattle.typing.specs.Asks.{amount_rule, args_at, callee_at, Does, keys_rule, leaf_codes, answer_mark, method_at, type_args, type_keyed, Types, TypesLeaf};
+ghost use Rattle.typing.specs.Asks.{amount_rule, args_at, callee_at, Does, keys_rule, answer_mark, method_at, type_args, type_keyed, Types, TypesLeaf};
 ghost use Rattle.grammar.specs.Kinds as kinds;
 
 use env::{
     Env, expect_asset_receiver, expect_keyed_op, judge_amount, judge_binary, judge_key,
     judge_unary, keyed_of, moves_amount, stale, ty_of_call, ty_of_dot, ty_of_ident, wants,
 };
-use grammar::kinds;
+use grammar::Kind;
 use lookups::declared_arg;
 use refusals::Refusal;
-use rules::{codes, is_type};
+use rules::{REFUSED, Ty};
 use sheet::{LoadedSheet, call_arg_count};
 
-fn leaf_code(place: usize) -> u8
-    requires { place < 8 }
-    ensures { result ≡ get_or leaf_codes place 0 }
-{
-    LEAVES[place]
-}
-
-const LEAVES: [u8; 8] = [
-    codes::INT,
-    codes::UNKNOWN,
-    codes::TIME,
-    codes::STR,
-    codes::ADDRESS,
-    codes::ADDRESS,
-    codes::ADDRESS,
-    codes::INT,
-];
-
 // The type of a line that has no parts.
-fn ty_of_leaf(sheet: &LoadedSheet<'_>, env: Env, table: &[u8], i: usize) -> u8
+fn ty_of_leaf(sheet: &LoadedSheet<'_>, env: Env, table: &[u8], i: usize) -> Ty
     requires { AsksLeaf sheet.now.bytes.now sheet.now.lines.now env table.now i }
     ensures { TypesLeaf sheet.now.bytes.now (typing_of (env_of sheet.now.bytes.now table.now env) (expr_at sheet.now.bytes.now i)) table.now result }
 {
-    let k = sheet.kind(i);
-    if k == kinds::ID {
+    if sheet.is(i, Kind::Id) {
         return ty_of_ident(sheet, env, table, sheet.name(i));
     }
-    leaf_code(k - kinds::INT)
+    if sheet.is(i, Kind::Date) {
+        return Ty::Time;
+    }
+    if sheet.is(i, Kind::Str) {
+        return Ty::Str;
+    }
+    if sheet.is(i, Kind::Caller) | sheet.is(i, Kind::Native) | sheet.is(i, Kind::Inasset) {
+        Ty::Address
+    } else {
+        Ty::Int
+    }
 }
 
 // The mark that an answer leaves.
-fn mark(a: Result<u8, Refusal>) -> u8
+fn mark(a: Result<Ty, Refusal>) -> u8
     ensures { result ≡ answer_mark a }
 {
-    a.unwrap_or(codes::REFUSED)
+    match a {
+        Ok(ty) => ty.mark(),
+        Err(_) => REFUSED,
+    }
 }
 
 // The type of line i. Every rule asks a type through this function, and none but this and `ty_again`, its part for the exception, marks a line.
 #[cycle(expression_types)]
-pub fn ty_of(sheet: &LoadedSheet<'_>, env: Env, table: &mut [u8], i: usize) -> Result<u8, Refusal>
+#[tactic(auto, using(crate::proofs::Asking::laws_of))]
+pub fn ty_of(sheet: &LoadedSheet<'_>, env: Env, table: &mut [u8], i: usize) -> Result<Ty, Refusal>
     requires { Asks sheet.now.bytes.now sheet.now.lines.now env table.old i }
     ensures { Types sheet.now.bytes.now (ty_of (env_of sheet.now.bytes.now table.old env) (expr_at sheet.now.bytes.now i)) table.old result table.new }
 {
-    let known = table[i];
-    if is_type(known) {
+    if let Some(known) = Ty::of_mark(table[i]) {
         if stale(sheet, env, i) {
             return ty_again(sheet, env, table, i);
         }
@@ -75,14 +69,14 @@ pub fn ty_of(sheet: &LoadedSheet<'_>, env: Env, table: &mut [u8], i: usize) -> R
 
 // Types line i again, which keeps its first type, or is marked as refused.
 #[cycle(expression_types)]
-fn ty_again(sheet: &LoadedSheet<'_>, env: Env, table: &mut [u8], i: usize) -> Result<u8, Refusal>
+fn ty_again(sheet: &LoadedSheet<'_>, env: Env, table: &mut [u8], i: usize) -> Result<Ty, Refusal>
     requires { AsksAgain sheet.now.bytes.now sheet.now.lines.now env table.old i }
     ensures { Types sheet.now.bytes.now (ty_of (env_of sheet.now.bytes.now table.old env) (expr_at sheet.now.bytes.now i)) table.old result table.new }
 {
     match typing(sheet, env, table, i) {
-        Ok(c) => Ok(c),
+        Ok(ty) => Ok(ty),
         Err(r) => {
-            table[i] = codes::REFUSED;
+            table[i] = REFUSED;
             Err(r)
         }
     }
@@ -90,36 +84,36 @@ fn ty_again(sheet: &LoadedSheet<'_>, env: Env, table: &mut [u8], i: usize) -> Re
 
 // `ty_of` without the asking itself: the type of line i by its kind.
 #[cycle(expression_types)]
-fn typing(sheet: &LoadedSheet<'_>, env: Env, table: &mut [u8], i: usize) -> Result<u8, Refusal>
+#[tactic(auto, using(crate::proofs::Asking::laws_kind))]
+fn typing(sheet: &LoadedSheet<'_>, env: Env, table: &mut [u8], i: usize) -> Result<Ty, Refusal>
     requires { Asks sheet.now.bytes.now sheet.now.lines.now env table.old i }
     ensures { Types sheet.now.bytes.now (typing_of (env_of sheet.now.bytes.now table.old env) (expr_at sheet.now.bytes.now i)) table.old result table.new }
 {
-    let k = sheet.kind(i);
-    if k < kinds::UN {
-        return Ok(ty_of_leaf(sheet, env, table, i));
-    }
-    if k == kinds::UN {
+    if sheet.is(i, Kind::Un) {
         return ty_of_unary(sheet, env, table, i);
     }
-    if k == kinds::BIN {
+    if sheet.is(i, Kind::Bin) {
         return ty_of_binary(sheet, env, table, i);
     }
-    if k == kinds::DOT {
+    if sheet.is(i, Kind::Dot) {
         return Ok(ty_of_dot(sheet.name(i)));
     }
-    if k == kinds::CALL {
+    if sheet.is(i, Kind::Call) {
         return type_call(sheet, env, table, i);
     }
-    ty_of(sheet, env, table, i + 1)
+    if sheet.is(i, Kind::Checked) | sheet.is(i, Kind::Wrapping) {
+        return ty_of(sheet, env, table, i + 1);
+    }
+    Ok(ty_of_leaf(sheet, env, table, i))
 }
 
 #[cycle(expression_types)]
-fn ty_of_unary(sheet: &LoadedSheet<'_>, env: Env, table: &mut [u8], i: usize) -> Result<u8, Refusal>
+fn ty_of_unary(sheet: &LoadedSheet<'_>, env: Env, table: &mut [u8], i: usize) -> Result<Ty, Refusal>
     requires { AsksAt kinds.un sheet.now.bytes.now sheet.now.lines.now env table.old i }
     ensures { Types sheet.now.bytes.now (typing_of (env_of sheet.now.bytes.now table.old env) (expr_at sheet.now.bytes.now i)) table.old result table.new }
 {
     let ty = ty_of(sheet, env, table, i + 1)?;
-    judge_unary(sheet.op(i), i + 1, ty)
+    judge_unary(sheet.unary_op(i), i + 1, ty)
 }
 
 // Both sides are typed before either is judged.
@@ -129,19 +123,19 @@ fn ty_of_binary(
     env: Env,
     table: &mut [u8],
     i: usize,
-) -> Result<u8, Refusal>
+) -> Result<Ty, Refusal>
     requires { AsksAt kinds.bin sheet.now.bytes.now sheet.now.lines.now env table.old i }
     ensures { Types sheet.now.bytes.now (typing_of (env_of sheet.now.bytes.now table.old env) (expr_at sheet.now.bytes.now i)) table.old result table.new }
 {
     let l = ty_of(sheet, env, table, i + 1)?;
     let right = sheet.end(i + 1);
     let r = ty_of(sheet, env, table, right)?;
-    judge_binary(sheet, sheet.op(i), i + 1, right, l, r)
+    judge_binary(sheet, sheet.bin_op(i), i + 1, right, l, r)
 }
 
 // The type of a call: its receiver and its operation are judged first.
 #[cycle(expression_types)]
-fn type_call(sheet: &LoadedSheet<'_>, env: Env, table: &mut [u8], i: usize) -> Result<u8, Refusal>
+fn type_call(sheet: &LoadedSheet<'_>, env: Env, table: &mut [u8], i: usize) -> Result<Ty, Refusal>
     requires { AsksAt kinds.call sheet.now.bytes.now sheet.now.lines.now env table.old i }
     ensures { Types sheet.now.bytes.now (typing_of (env_of sheet.now.bytes.now table.old env) (expr_at sheet.now.bytes.now i)) table.old result table.new }
 {
@@ -159,7 +153,7 @@ fn type_args(
     table: &mut [u8],
     i: usize,
     keyed: Option<usize>,
-) -> Result<u8, Refusal>
+) -> Result<Ty, Refusal>
     requires { AsksCall sheet.now.bytes.now sheet.now.lines.now env table.old i keyed }
     ensures { Types sheet.now.bytes.now (type_args (env_of sheet.now.bytes.now table.old env) (callee_at sheet.now.bytes.now i) (args_at sheet.now.bytes.now sheet.now.lines.now i)) table.old result table.new }
 {
@@ -176,7 +170,7 @@ fn type_keyed(
     table: &mut [u8],
     i: usize,
     keyed: Option<usize>,
-) -> Result<u8, Refusal>
+) -> Result<Ty, Refusal>
     requires { AsksCall sheet.now.bytes.now sheet.now.lines.now env table.old i keyed }
     ensures { Types sheet.now.bytes.now (type_keyed (env_of sheet.now.bytes.now table.old env) (callee_at sheet.now.bytes.now i) (args_at sheet.now.bytes.now sheet.now.lines.now i)) table.old result table.new }
 {
@@ -205,6 +199,7 @@ pub fn ask_each(
 
 // `check_keyed_call` of the call at line i, whose callee uses `keyed`.
 #[cycle(expression_types)]
+#[tactic(auto, using(crate::proofs::Keys::laws_keyed_call))]
 pub fn check_keyed_call(
     sheet: &LoadedSheet<'_>,
     env: Env,
@@ -235,6 +230,7 @@ pub fn check_keyed_call(
 
 // The amount that `credit` and `debit` move.
 #[cycle(expression_types)]
+#[tactic(auto, using(crate::proofs::Keys::laws_amount))]
 fn check_amount(
     sheet: &LoadedSheet<'_>,
     env: Env,
@@ -258,6 +254,7 @@ fn check_amount(
 // The arguments from line at on, as far as the Map or Registry at line field declares what they must be: those from
 // place index on, up to place wants.
 #[cycle(expression_types)]
+#[tactic(auto, using(crate::proofs::Keys::laws_keys))]
 fn check_keys(
     sheet: &LoadedSheet<'_>,
     env: Env,

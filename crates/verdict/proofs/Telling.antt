@@ -19,6 +19,7 @@ use Rattle.rules.proofs.Binding.{kept-length}
 use Rattle.refusals.specs.Refusal.{refusal_of, done_of}
 use Rattle.refusals.specs.declared.refusal.Refusal.{Refusal}
 use Rattle.writing.specs.Writing.{Adds}
+use Rattle.writing.specs.declared.write.Message.{Message}
 use Rattle.writing.proofs.Adding.{told_all, all_written}
 use Rattle.message.proofs.Lengths.{message_short}
 use Rattle.refusals.specs.Numbers.{Numbers}
@@ -33,29 +34,29 @@ written_none : (B : List ℕ) → overwritten [] B ≡ B
 unfolding overwritten
 written_none B = refl
 
--- A message of r: `add_message` told its length n of the buffer B and left U. M is the lent buffer.
+-- A message of r: `add_message` made N of M, a message of no bytes. B is the lent buffer.
 module _ (s S : List ℕ) (r : Refusal) (h : Few s S) where
   text_short : length (text_of s r) ≤ longest
   unfolding text_of
   text_short = message_short s S r h.loaded h.small h.few
 
-  pub told_length : (B U : List ℕ) (n : ℕ) → Adds (render (refusal_of s r).text) B 0 U n → n ≡ length (text_of s r)
+  pub told_length : (M N : Message) → M.length ≡ 0 → Adds (render (refusal_of s r).text) M N → N.length ≡ length (text_of s r)
   unfolding text_of
-  told_length B U n x = let b = text_short in omega (arith, x.told, told_all (0 + length (text_of s r)) (omega arith))
+  told_length M N z x = let b = text_short in omega (arith, x.told, z, told_all (M.length + length (text_of s r)) (omega (arith, z)))
 
-  pub told_fits : (B U : List ℕ) (n : ℕ) → Adds (render (refusal_of s r).text) B 0 U n → Fits w32 n
-  told_fits B U n x = omega (arith, told_length B U n x, text_short)
+  pub told_fits : (M N : Message) → M.length ≡ 0 → Adds (render (refusal_of s r).text) M N → Fits w32 N.length
+  told_fits M N z x = omega (arith, told_length M N z x, text_short)
 
-  pub told_long : (B U M : List ℕ) (n : ℕ) → Adds (render (refusal_of s r).text) B 0 U n → length M < n → M ≡ overwritten (fitting (length M) (text_of s r)) M
+  pub told_long : (B : List ℕ) (n : ℕ) → n ≡ length (text_of s r) → length B < n → B ≡ overwritten (fitting (length B) (text_of s r)) B
   unfolding fitting
-  told_long B U M n x g = sym (rw (lt-leb (length (text_of s r)) (length M) (omega (arith, told_length B U n x))) (written_none M))
+  told_long B n e g = sym (rw (lt-leb (length (text_of s r)) (length B) (omega (arith, e))) (written_none B))
 
-  pub told_whole : (B U M N : List ℕ) (n m : ℕ) → Adds (render (refusal_of s r).text) B 0 U n → n ≤ length M → Adds (render (refusal_of s r).text) M 0 N m
-      → N ≡ overwritten (fitting (length M) (text_of s r)) M
+  pub told_whole : (B : List ℕ) (M N : Message) → M.buffer.now ≡ B → M.length ≡ 0 → Adds (render (refusal_of s r).text) M N → (n : ℕ) → n ≡ length (text_of s r) → n ≤ length B
+      → N.buffer.now ≡ overwritten (fitting (length B) (text_of s r)) B
   unfolding fitting text_of overwritten
-  told_whole B U M N n m x g y =
-      let k : length (text_of s r) ≤ length M = omega (arith, told_length B U n x) in
-      rw (le-leb (length (text_of s r)) (length M) k) (all_written (text_of s r) M N m y k)
+  told_whole B M N b z x n e g =
+      let k : length (text_of s r) ≤ length B = omega (arith, e) in
+      rw (le-leb (length (text_of s r)) (length B) k, ← b) (all_written (text_of s r) M N z x (rw b k))
 
 -- ------------------------------------------------------------ what `check` says
 

@@ -11,6 +11,7 @@ use refusals::Refusal;
 use rules::marked;
 use sheet::LoadedSheet;
 use text::fill;
+use writing::Message;
 
 // Writes the message of a refusal, if it fits; its length.
 pub fn tell(sheet: &LoadedSheet<'_>, message: &mut [u8], r: Refusal) -> u32
@@ -19,11 +20,15 @@ pub fn tell(sheet: &LoadedSheet<'_>, message: &mut [u8], r: Refusal) -> u32
     ensures message_after { message.new ≡ overwritten (fitting (length message.old) (text_of sheet.now.bytes.now r)) message.old }
 {
     let mut none = [0u8; 0];
-    let length = add_message(sheet, &mut none, 0, r);
+    let mut counted = Message::new(&mut none);
+    add_message(sheet, &mut counted, r);
+    let length = counted.length;
     if message.len() < length {
         return length as u32;
     }
-    add_message(sheet, message, 0, r) as u32
+    let mut written = Message::new(message);
+    add_message(sheet, &mut written, r);
+    written.length as u32
 }
 
 // The answer of `check` on a table.

@@ -2,15 +2,14 @@
 use mathlib.Core.Path.{◌≡◌, refl, ◌∙◌}
 use mathlib.Core.Logic.{◌⊎◌, inl, inr}
 use mathlib.Core.List.{List, [], ◌∷◌, zip}
-use mathlib.Core.Bool.{Bool, true, false, not, ◌&&◌}
+use mathlib.Core.Bool.{Bool, true, false, ◌&&◌}
 use Prim.Native.Nat.{ℕ, suc, ◌+◌, ◌<◌}
 use native.Mathlib.Numerals.{add-one}
 use native.Mathlib.Omega.{arith}
 use mir.Syntax.{w64}
 use mir.Val.{Fits}
-use lib.Dec.{eqb}
 use lib.ListN.{length}
-use Rattle.std.specs.Prelude.{None, Ok, Err}
+use Rattle.std.specs.Prelude.{Option, None, is_some, Ok, Err}
 use Rattle.sheet.specs.Records.{Steps, NextOf}
 use Rattle.sheet.specs.declared.records.Records.{Records}
 use Rattle.grammar.specs.Grammar as grammar
@@ -20,7 +19,6 @@ use Rattle.rules.specs.Text.{Name}
 use Rattle.rules.specs.Ast.{Expr, exprs_of, list, type_name}
 use Rattle.rules.specs.Asking.{Res, ok, Rule, ◌>>◌, for_each}
 use Rattle.rules.specs.Types.{narrow_max}
-use Rattle.rules.specs.Typing.{is_some}
 use Rattle.rules.specs.Assets.{wraps, reaches, event_slot}
 use Rattle.rules.specs.Standing.{expr_at, exprs_at, param_at, params_at, Loaded, Row}
 use Rattle.rules.proofs.Standing.{row_first, row_rest}
@@ -32,20 +30,19 @@ use Rattle.refusals.specs.Refusal.{refusal_of, done_of}
 use Rattle.refusals.specs.declared.refusal.Refusal.TheVariants.{ReachesEvent}
 use Rattle.refusals.proofs.Answers.{gives, then_fine, then_refused}
 use Rattle.lookups.proofs.Types.{type_name_lem}
-use Rattle.narrow.specs.Narrow.{most_of}
-use Rattle.narrow.proofs.Narrow.{max_some}
+use Rattle.rules.specs.Text.{option_of}
 use Rattle.wrapping.specs.Lines.{After}
 use Rattle.wrapping.specs.Marks.{wrapped_names}
 use Rattle.wrapping.specs.Reach.{reaches_each, Emits}
 use Rattle.wrapping.proofs.Reaching.{unreached, reached}
 
 -- args expressions from line arg on, side by side with params parameters from line param on
-abbrev pub sides : (s S M : List ℕ) → (k body i args arg params param : ℕ) → Rule Unit
+abbrev pub sides : (s S : List ℕ) (M : List Bool) → (k body i args arg params param : ℕ) → Rule Unit
 sides s S M k body i args arg params param =
     reaches_each (wrapped_names s S M k body) (name_at s S i) (list (exprs_at s args arg)) (params_at s params param)
 
 -- no pair before these refuses: the arguments that a goes over, side by side with the parameters that p goes over
-pub record Emitting (s S M : List ℕ) (k body i event : ℕ) (a p : Records) : Type 0 where
+pub record Emitting (s S : List ℕ) (M : List Bool) (k body i event : ℕ) (a p : Records) : Type 0 where
   pub emits : Emits s S k body i event
   pub arg_lines : a.lines.now ≡ S
   pub param_lines : p.lines.now ≡ S
@@ -54,7 +51,7 @@ pub record Emitting (s S M : List ℕ) (k body i event : ℕ) (a p : Records) : 
   pub rest : (r : Res Unit) → Answers (sides s S M k body i a.left a.at p.left p.at) r
       → Answers (sides s S M k body i (emit_arg_count S i) (suc i) (param_count S event) (suc event)) r
 
-pub emit_start : (s S M : List ℕ) (k body i event args params : ℕ) (a p : Records) → Emits s S k body i event → args ≡ emit_arg_count S i → params ≡ param_count S event
+pub emit_start : (s S : List ℕ) (M : List Bool) (k body i event args params : ℕ) (a p : Records) → Emits s S k body i event → args ≡ emit_arg_count S i → params ≡ param_count S event
     → a.lines.now ≡ S → a.left ≡ args → a.at ≡ i + 1 → p.lines.now ≡ S → p.left ≡ params → p.at ≡ event + 1
     → Emitting s S M k body i event a p
 emit_start s S M k body i event args params a p e x y u v w u' v' w' =
@@ -73,7 +70,7 @@ unfolding reaches_each for_each zip
 each_none xs x [] = gives tt
 each_none xs x (e ∷ es) = gives tt
 
-module _ (s S M : List ℕ) (k body i event : ℕ) (a p : Records) (g : Emitting s S M k body i event a p) where
+module _ (s S : List ℕ) (M : List Bool) (k body i event : ℕ) (a p : Records) (g : Emitting s S M k body i event a p) where
   abbrev xs : List Name
   xs = wrapped_names s S M k body
 
@@ -123,15 +120,15 @@ module _ (s S M : List ℕ) (k body i event : ℕ) (a p : Records) (g : Emitting
     sides_next r j =
         rw (h.left, l.left, ← h.here, ← l.here, exprs.first d b.left (row_first es).within, rows.params.first d q.left (row_first ps).within) j
 
-    module _ (y : Name) (w : ℕ) (v : Bool) (z : y ≡ name_at s S (param + 1)) (o : w ≡ most_of (narrow_max y)) (j : v ≡ (not (eqb w 0) && wraps xs (expr_at s arg))) where
-      some_max : is_some (narrow_max (type_name (param_at s param).ty)) ≡ not (eqb w 0)
-      some_max = rw (o, z, add-one param, type-is) (max_some (type_name (param_at s param).ty))
+    module _ (y : Name) (w : Option ℕ) (v : Bool) (z : y ≡ name_at s S (param + 1)) (o : w ≡ option_of (narrow_max y)) (j : v ≡ (is_some w && wraps xs (expr_at s arg))) where
+      its_max : w ≡ option_of (narrow_max (type_name (param_at s param).ty))
+      its_max = o ∙ rw (z, add-one param, type-is) refl
 
       pub emit-refused : v ≡ true → Judged (done_of s (Err (ReachesEvent i arg)))
       unfolding done_of refusal_of
       emit-refused f =
           g.rest _ (sides_next _ (rw (named d g.emits.stmt.here.within)
-          (then_refused _ _ _ (reached xs _ _ (event_slot (name_at s S i)) w v some_max j f))))
+          (then_refused _ _ _ (reached xs _ _ (event_slot (name_at s S i)) w v its_max j f))))
 
       pub emit_next : v ≡ false → Emitting s S M k body i event b q
       emit_next f =
@@ -143,5 +140,5 @@ module _ (s S M : List ℕ) (k body i event : ℕ) (a p : Records) (g : Emitting
             param_lines = l.lines ∙ g.param_lines;
             exprs = rw m (row_rest es);
             declared = rw n (row_rest ps);
-            rest = λ r x. g.rest r (sides_next r (then_fine _ _ tt r (unreached xs _ _ (event_slot (name_at s S i)) w v some_max j f) (rw (m, n) at x)));
+            rest = λ r x. g.rest r (sides_next r (then_fine _ _ tt r (unreached xs _ _ (event_slot (name_at s S i)) w v its_max j f) (rw (m, n) at x)));
           }

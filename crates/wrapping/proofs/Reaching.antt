@@ -3,14 +3,14 @@ use mathlib.Core.Path.{◌≡◌, refl, sym, ◌∙◌}
 use mathlib.Core.Logic.{◌≢◌}
 use mathlib.Core.List.{List}
 use mathlib.Core.Bool.{Bool, true, false, cond, not, ◌&&◌}
-use mathlib.Core.Option.{Option, none, some}
+use mathlib.Core.Option.{Option as Maybe, none, some}
 use Prim.Native.Nat.{ℕ, zero, suc, ◌+◌, ◌-◌}
 use native.Mathlib.Numerals.{add-one}
 use native.Mathlib.Omega.{arith}
 use lib.Dec.{eqb, ltb}
 use lib.ListN.{get_elem?}
 use borrow.Author.Tests.{eq-eqb, ne_eqb, eqb-true, lt-ltb, ltb-true, not-true, not-false}
-use Rattle.std.specs.Prelude.{Ok, Err}
+use Rattle.std.specs.Prelude.{Option, is_some, is_none, Ok, Err}
 use Rattle.text.specs.Text.{bytes, same}
 use Rattle.grammar.specs.Grammar as grammar
 use Rattle.sheet.specs.Scratch.{kind_at, end_at, name_at, call_arg_count}
@@ -21,7 +21,7 @@ use Rattle.rules.specs.Ast.{Expr, exprs_of, list, span}
 use Rattle.rules.specs.Asking.{Res, ok, refused, if_some, provided}
 use Rattle.rules.specs.Model.{Model}
 use Rattle.rules.specs.Statements.{narrow_field}
-use Rattle.rules.specs.Typing.{Call, Dot, call_of, dot_of, ident_of, is_some}
+use Rattle.rules.specs.Typing.{Call, Dot, call_of, dot_of, ident_of}
 use Rattle.rules.specs.Assets.{wraps, reaches, reaches_text, field_slot, values_slot, narrow_values, narrow_set, narrow_stmt}
 use Rattle.rules.specs.Standing.{expr_at, exprs_at, stmt_at, named_at, model_in, Loaded, Here, Row}
 use Rattle.rules.proofs.Standing.{exprs_next, row_first, row_rest}
@@ -31,8 +31,8 @@ use Rattle.refusals.specs.Answers.{Answers}
 use Rattle.refusals.specs.Refusal.{refusal_of, done_of}
 use Rattle.refusals.specs.declared.refusal.Refusal.TheVariants.{ReachesField, ReachesValues}
 use Rattle.refusals.proofs.Answers.{gives, fits, misfits}
-use Rattle.narrow.specs.Narrow.{most_of}
-use Rattle.narrow.proofs.Narrow.{field_some, values_some}
+use Rattle.rules.specs.Text.{option_of}
+use Rattle.lookups.proofs.Options.{option_some}
 use Rattle.wrapping.specs.Lines.{After}
 use Rattle.wrapping.specs.Marks.{wrapped_names}
 use Rattle.wrapping.specs.Reach.{sets_at}
@@ -40,26 +40,28 @@ use Rattle.grammar.specs.Kinds as kinds
 
 -- ------------------------------------------------------------ a value and its slot
 
-pub wide_slot : (w : ℕ) (b : Bool) → w ≡ 0 → false ≡ (not (eqb w 0) && b)
-wide_slot w b e = rw e refl
+-- n is whether the slot has no largest number
+module _ (w : Option ℕ) (n b : Bool) (e : n ≡ is_none w) where
+  pub wide_slot : n ≡ true → false ≡ (is_some w && b)
+  wide_slot h = rw (not-true (is_some w) (sym e ∙ h)) refl
 
-pub narrow_slot : (w : ℕ) (b r : Bool) → w ≢ 0 → r ≡ b → r ≡ (not (eqb w 0) && b)
-narrow_slot w b r h e = rw (ne_eqb w 0 h) e
+  pub narrow_slot : (r : Bool) → n ≡ false → r ≡ b → r ≡ (is_some w && b)
+  narrow_slot r h f = rw (not-false (is_some w) (sym e ∙ h)) f
 
 -- w is the slot's largest number, and b what the code finds
-module _ (xs : List Name) (o : Option ℕ) (value : Expr) (slot : List Piece) (w : ℕ) (b : Bool) (f : is_some o ≡ not (eqb w 0)) (e : b ≡ (not (eqb w 0) && wraps xs value)) where
+module _ (xs : List Name) (o : Maybe ℕ) (value : Expr) (slot : List Piece) (w : Option ℕ) (b : Bool) (f : w ≡ option_of o) (e : b ≡ (is_some w && wraps xs value)) where
   pub unreached : b ≡ false → Answers (reaches xs o value slot) (ok tt)
   unfolding reaches
-  unreached q = fits _ 22 (span value) (reaches_text slot) (rw (f, ← e, q) refl)
+  unreached q = fits _ 22 (span value) (reaches_text slot) (rw (option_some o, ← f, ← e, q) refl)
 
   pub reached : b ≡ true → Answers (reaches xs o value slot) (refused (record { number = 22; place = span value; text = reaches_text slot }))
   unfolding reaches
-  reached q = misfits _ 22 (span value) (reaches_text slot) (rw (f, ← e, q) refl)
+  reached q = misfits _ 22 (span value) (reaches_text slot) (rw (option_some o, ← f, ← e, q) refl)
 
 -- ------------------------------------------------------------ assignments
 
--- The target is the line behind the assignment, and its kind n.
-module _ (s S M : List ℕ) (k body i : ℕ) (a : After grammar.Stmt s S k body i) (e : kind_at S i ≡ kinds.assign) (n : ℕ) (q : n ≡ kind_at S (i + 1)) where
+-- The target is the line behind the assignment.
+module _ (s S : List ℕ) (M : List Bool) (k body i : ℕ) (a : After grammar.Stmt s S k body i) (e : kind_at S i ≡ kinds.assign) where
   abbrev xs : List Name
   xs = wrapped_names s S M k body
 
@@ -72,51 +74,47 @@ module _ (s S M : List ℕ) (k body i : ℕ) (a : After grammar.Stmt s S k body 
   abbrev Judged : Res Unit → Type 0
   Judged r = Answers (narrow_stmt (model_in s) xs (stmt_at s i)) r
 
-  pub assign_other : n ≢ kinds.id → Judged (done_of s (Ok tt))
+  pub assign_other : kind_at S (i + 1) ≢ kinds.id → Judged (done_of s (Ok tt))
   unfolding narrow_stmt if_some done_of
-  assign_other h = rw ((assign_at d a.here e).0, ident_at d (row_first parts), ← add-one i, ← q, ne_eqb n kinds.id h) (gives tt)
+  assign_other h = rw ((assign_at d a.here e).0, ident_at d (row_first parts), ← add-one i, ne_eqb (kind_at S (i + 1)) kinds.id h) (gives tt)
 
   pub assign_value : (v : ℕ) → v ≡ end_at S (i + 1) → After grammar.Expr s S k body v
   assign_value v z = record { before = a.before; here = rw (z, add-one i) (row_first (row_rest parts)) }
 
-  module _ (x : Name) (w v : ℕ) (b : Bool) (h : n ≡ kinds.id) (z : v ≡ end_at S (i + 1)) (y : x ≡ name_at s S (i + 1)) (f : w ≡ most_of (narrow_field (model_in s) x)) (g : b ≡ (not (eqb w 0) && wraps xs (expr_at s v))) where
+  module _ (x : Name) (w : Option ℕ) (v : ℕ) (b : Bool) (h : kind_at S (i + 1) ≡ kinds.id) (z : v ≡ end_at S (i + 1)) (y : x ≡ name_at s S (i + 1)) (f : w ≡ option_of (narrow_field (model_in s) x)) (g : b ≡ (is_some w && wraps xs (expr_at s v))) where
     assign-judged : (r : Res Unit) → Answers (reaches xs (narrow_field (model_in s) x) (expr_at s v) (field_slot x)) r → Judged r
     unfolding narrow_stmt if_some
     assign-judged r j =
-        rw ((assign_at d a.here e).0, ident_at d (row_first parts), ← add-one i, ← q, eq-eqb n kinds.id h, ← y, ← z) j
-
-    some_field : is_some (narrow_field (model_in s) x) ≡ not (eqb w 0)
-    some_field = rw f (field_some (model_in s) x)
+        rw ((assign_at d a.here e).0, ident_at d (row_first parts), ← add-one i, eq-eqb (kind_at S (i + 1)) kinds.id h, ← y, ← z) j
 
     pub assign_fine : b ≡ false → Judged (done_of s (Ok tt))
     unfolding done_of
-    assign_fine p = assign-judged _ (unreached xs _ _ (field_slot x) w b some_field g p)
+    assign_fine p = assign-judged _ (unreached xs _ _ (field_slot x) w b f g p)
 
     pub assign-refused : b ≡ true → Judged (done_of s (Err (ReachesField (i + 1) v)))
     unfolding done_of refusal_of
     assign-refused p =
         let t : named_at s (i + 1) ≡ x = rw (add-one i) (named d (row_first parts).within) ∙ sym y in
-        assign-judged _ (rw t (reached xs _ _ (field_slot x) w b some_field g p))
+        assign-judged _ (rw t (reached xs _ _ (field_slot x) w b f g p))
 
 -- ------------------------------------------------------------ calls of `set`
 
--- n is the kind of line i, and c that of the line behind it
-module _ (s S : List ℕ) (i n : ℕ) (e : n ≡ kind_at S i) where
-  pub no_call : n ≢ kinds.call → false ≡ sets_at s S i
+module _ (s S : List ℕ) (i : ℕ) where
+  pub no_call : kind_at S i ≢ kinds.call → false ≡ sets_at s S i
   unfolding sets_at
-  no_call h = rw (← e, ne_eqb n kinds.call h) refl
+  no_call h = rw (ne_eqb (kind_at S i) kinds.call h) refl
 
-  module _ (c : ℕ) (h : n ≡ kinds.call) (f : c ≡ kind_at S (i + 1)) where
-    pub no_dot : c ≢ kinds.dot → false ≡ sets_at s S i
+  module _ (h : kind_at S i ≡ kinds.call) where
+    pub no_dot : kind_at S (i + 1) ≢ kinds.dot → false ≡ sets_at s S i
     unfolding sets_at
-    no_dot g = rw (← e, eq-eqb n kinds.call h, ← add-one i, ← f, ne_eqb c kinds.dot g) refl
+    no_dot g = rw (eq-eqb (kind_at S i) kinds.call h, ← add-one i, ne_eqb (kind_at S (i + 1)) kinds.dot g) refl
 
-    pub by_set : (x : Name) (b : Bool) (u m : ℕ) → c ≡ kinds.dot → x ≡ name_at s S (i + 1) → b ≡ same x (bytes "set") → u ≡ kind_at S (i + 1 + 1) → m ≡ call_arg_count S i
-        → (b && (eqb u kinds.id && ltb 1 m)) ≡ sets_at s S i
+    pub by_set : (x : Name) (b u : Bool) (m : ℕ) → kind_at S (i + 1) ≡ kinds.dot → x ≡ name_at s S (i + 1) → b ≡ same x (bytes "set") → u ≡ eqb (kind_at S (i + 1 + 1)) kinds.id
+        → m ≡ call_arg_count S i → (b && (u && ltb 1 m)) ≡ sets_at s S i
     unfolding sets_at is
     by_set x b u m g y p q z =
         let j : i + 1 + 1 ≡ suc (suc i) = omega arith in
-        rw (← e, eq-eqb n kinds.call h, p, y, q, z, j, add-one i, ← add-one i) (rw (← f, eq-eqb c kinds.dot g) refl)
+        rw (eq-eqb (kind_at S i) kinds.call h, p, y, q, z, j, add-one i, ← add-one i) (rw (eq-eqb (kind_at S (i + 1)) kinds.dot g) refl)
 
 second_of : {s S : List ℕ} (d : Loaded s S) (m j : ℕ) → Row S grammar.Expr m j → get_elem? (list (exprs_at s m j)) 1 ≡ cond (ltb 1 m) (some (expr_at s (end_at S j))) none
 unfolding list exprs_at take_nodes exprs_of
@@ -146,7 +144,7 @@ both true b e = (refl, e)
 both false true e = (e, refl)
 both false false e = (e, e)
 
-module _ (s S M : List ℕ) (k body i : ℕ) (a : After grammar.Expr s S k body i) where
+module _ (s S : List ℕ) (M : List Bool) (k body i : ℕ) (a : After grammar.Expr s S k body i) where
   abbrev ys : List Name
   ys = wrapped_names s S M k body
 
@@ -207,10 +205,7 @@ module _ (s S M : List ℕ) (k body i : ℕ) (a : After grammar.Expr s S k body 
       map_named : named_at s (i + 2) ≡ name_at s S (suc (suc i))
       map_named = rw map_at (named ld (row_first (dot_at_lem ld (callee is_call) (eqb-true _ _ then.0)).1).within)
 
-      module _ (x : Name) (w : ℕ) (b : Bool) (y : x ≡ name_at s S (i + 2)) (o : w ≡ most_of (narrow_values (model_in s) x)) (j : b ≡ (not (eqb w 0) && wraps ys (expr_at s v))) where
-        some_values : is_some (narrow_values (model_in s) x) ≡ not (eqb w 0)
-        some_values = rw o (values_some (model_in s) x)
-
+      module _ (x : Name) (w : Option ℕ) (b : Bool) (y : x ≡ name_at s S (i + 2)) (o : w ≡ option_of (narrow_values (model_in s) x)) (j : b ≡ (is_some w && wraps ys (expr_at s v))) where
         name-is : x ≡ name_at s S (suc (suc i))
         name-is = y ∙ rw map_at refl
 
@@ -220,8 +215,8 @@ module _ (s S M : List ℕ) (k body i : ℕ) (a : After grammar.Expr s S k body 
 
         pub set_fine : b ≡ false → Set' (done_of s (Ok tt))
         unfolding done_of
-        set_fine p = set-judged _ (unreached ys _ _ (values_slot x) w b some_values j p)
+        set_fine p = set-judged _ (unreached ys _ _ (values_slot x) w b o j p)
 
         pub set-refused : b ≡ true → Set' (done_of s (Err (ReachesValues (i + 2) v)))
         unfolding done_of refusal_of
-        set-refused p = set-judged _ (rw (map_named ∙ sym name-is) (reached ys _ _ (values_slot x) w b some_values j p))
+        set-refused p = set-judged _ (rw (map_named ∙ sym name-is) (reached ys _ _ (values_slot x) w b o j p))

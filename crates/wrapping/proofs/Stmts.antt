@@ -1,17 +1,13 @@
 -- The statements of an entry, one behind another. Assumes nothing.
-use mathlib.Core.Path.{ap, ◌≡◌, refl, sym, ◌∙◌}
+use mathlib.Core.Path.{◌≡◌, refl, sym, ◌∙◌}
 use mathlib.Core.Logic.{◌≢◌}
 use mathlib.Core.List.{List, ◌∷◌}
-use mathlib.Core.Bool.{◌&&◌, Bool, true, false, cond}
+use mathlib.Core.Bool.{Bool, false, cond}
 use Prim.Native.Nat.{ℕ, zero, suc, ◌+◌, ◌<◌, ◌≤◌}
 use native.Mathlib.Numerals.{add-one}
 use native.Mathlib.Omega.{arith}
-use mir.Syntax.{w64}
-use mir.Val.{Fits}
-use lib.Dec.{eqb}
-use lib.ListN.{length, get_or, set, length-set}
+use lib.ListN.{length, set, length-set}
 use lib.Seq.{get_or-set_same, get_or-set_other}
-use borrow.Author.Tests.{ne_eqb}
 use Rattle.std.specs.Prelude.{Option, Some, None, Result, Ok, Err}
 use Rattle.grammar.specs.Grammar as grammar
 use Rattle.sheet.specs.Records.{Steps}
@@ -20,7 +16,7 @@ use Rattle.sheet.specs.Scratch.{kind_at, end_at, name_at, skip, line_count, para
 use Rattle.rules.specs.Text.{Name}
 use Rattle.rules.specs.Ast.{list}
 use Rattle.rules.specs.Asking.{Res, ◌>>◌, if_some}
-use Rattle.rules.specs.Assets.{wraps, narrow_set, narrow_stmt, wrapped_after, narrow_stmts, narrow_wrapping}
+use Rattle.rules.specs.Assets.{narrow_set, narrow_stmt, wrapped_after, narrow_stmts, narrow_wrapping}
 use Rattle.rules.specs.Standing.{expr_at, exprs_at, params_at, stmt_at, stmts_at, entry_at, model_in, Loaded, Row, stop, next}
 use Rattle.rules.proofs.Parts.{stop as end', ◌also◌, pick}
 use Rattle.rules.proofs.Standing.{row_first, row_nth, row_take, skip_next}
@@ -32,15 +28,17 @@ use Rattle.refusals.specs.Refusal.{refusal_of, done_of}
 use Rattle.refusals.specs.declared.refusal.Refusal.{Refusal}
 use Rattle.refusals.proofs.Answers.{gives, then_fine, then_refused}
 use Rattle.lookups.specs.Event.{found_event, EventNamed}
-use Rattle.wrapping.specs.Lines.{FewEntry, After}
-use Rattle.wrapping.specs.Marks.{is_marked, wrapped_names, marks_after}
+use Rattle.wrapping.specs.Lines.{FewEntry, After, Behind}
+use Rattle.wrapping.specs.Marks.{is_wrapping_let, names_in, wrapped_names, bound_after}
+use Rattle.wrapping.specs.declared.marks.Wrapped.{Wrapped}
+use Rattle.sheet.specs.declared.loaded_sheet.LoadedSheet.{LoadedSheet}
 use Rattle.wrapping.specs.Reach.{reaches_each, Emits}
 use Rattle.grammar.specs.Kinds as kinds
 use Rattle.sheet.specs.Line.{most_lines}
 
 -- ------------------------------------------------------------ an `emit`
 
-module _ (s S M : List ℕ) (k body i : ℕ) (a : After grammar.Stmt s S k body i) (e : kind_at S i ≡ kinds.emit) (x : Name) (r : Option ℕ) (y : x ≡ name_at s S i) (f : EventNamed s S x r) where
+module _ (s S : List ℕ) (M : List Bool) (k body i : ℕ) (a : After grammar.Stmt s S k body i) (e : kind_at S i ≡ kinds.emit) (x : Name) (r : Option ℕ) (y : x ≡ name_at s S i) (f : EventNamed s S x r) where
   abbrev Judged : Res Unit → Type 0
   Judged t = Answers (narrow_stmt (model_in s) (wrapped_names s S M k body) (stmt_at s i)) t
 
@@ -61,32 +59,29 @@ module _ (s S M : List ℕ) (k body i : ℕ) (a : After grammar.Stmt s S k body 
 
 -- ------------------------------------------------------------ a statement by its kind
 
-module _ (s S M : List ℕ) (k body i n : ℕ) (a : After grammar.Stmt s S k body i) (q : n ≡ kind_at S i) where
+module _ (s S : List ℕ) (M : List Bool) (k body i : ℕ) (a : After grammar.Stmt s S k body i) where
   abbrev Said : Res Unit → Type 0
   Said t = Answers (narrow_stmt (model_in s) (wrapped_names s S M k body) (stmt_at s i)) t
 
-  pub stmt_kind : (m : ℕ) → n ≡ m → kind_at S i ≡ m
-  stmt_kind m h = sym q ∙ h
+  pub do_value : kind_at S i ≡ kinds.do' → After grammar.Expr s S k body (i + 1)
+  do_value h = record { before = a.before; here = rw (add-one i) (row_first (do_at a.before.loaded a.here h).1) }
 
-  pub do_value : n ≡ kinds.do' → After grammar.Expr s S k body (i + 1)
-  do_value h = record { before = a.before; here = rw (add-one i) (row_first (do_at a.before.loaded a.here (sym q ∙ h)).1) }
-
-  pub do_judged : (t : Result Unit Refusal) → n ≡ kinds.do' → Answers (narrow_set (model_in s) (wrapped_names s S M k body) (expr_at s (i + 1))) (done_of s t) → Said (done_of s t)
+  pub do_judged : (t : Result Unit Refusal) → kind_at S i ≡ kinds.do' → Answers (narrow_set (model_in s) (wrapped_names s S M k body) (expr_at s (i + 1))) (done_of s t) → Said (done_of s t)
   unfolding narrow_stmt
-  do_judged t h j = rw ((do_at a.before.loaded a.here (sym q ∙ h)).0, ← add-one i) j
+  do_judged t h j = rw ((do_at a.before.loaded a.here h).0, ← add-one i) j
 
-  pub stmt_plain : n ≢ kinds.emit → n ≢ kinds.assign → n ≢ kinds.do' → Said (done_of s (Ok tt))
+  pub stmt_plain : kind_at S i ≢ kinds.emit → kind_at S i ≢ kinds.assign → kind_at S i ≢ kinds.do' → Said (done_of s (Ok tt))
   unfolding narrow_stmt done_of
   stmt_plain x y z =
       let d = a.before.loaded in
-      pick {P = λ m. n ≡ m → Said (done_of s (Ok tt))} {i = kinds.guard} {n = 5} n
-      ((λ h. rw (guard_at d a.here (sym q ∙ h)).0 (gives tt))
-      also (λ h. rw (let_at d a.here (sym q ∙ h)).0 (gives tt))
+      pick {P = λ m. kind_at S i ≡ m → Said (done_of s (Ok tt))} {i = kinds.guard} {n = 5} (kind_at S i)
+      ((λ h. rw (guard_at d a.here h).0 (gives tt))
+      also (λ h. rw (let_at d a.here h).0 (gives tt))
       also (λ h. absurd (x h))
       also (λ h. absurd (y h))
       also (λ h. absurd (z h))
       also end')
-      (omega (arith, a.here.kind.0)) (omega (arith, a.here.kind.1)) refl
+      a.here.kind.0 a.here.kind.1 refl
 
 -- ------------------------------------------------------------ the names after a statement
 
@@ -97,67 +92,49 @@ before_last (next x xs) zero h = omega (arith, x.after, skip_least xs)
 before_last (next x xs) (suc j) h = before_last xs j (omega arith)
 
 -- a mark behind the statements changes nothing
-names-kept : (s S M : List ℕ) (k body l v : ℕ) → ((j : ℕ) → j < k → skip S j body < l) → wrapped_names s S (set M l v) k body ≡ wrapped_names s S M k body
-unfolding wrapped_names is_marked
+names-kept : (s S : List ℕ) (M : List Bool) (k body l : ℕ) (v : Bool) → ((j : ℕ) → j < k → skip S j body < l) → wrapped_names s S (set M l v) k body ≡ wrapped_names s S M k body
+unfolding wrapped_names
 names-kept s S M zero body l v h = refl
 names-kept s S M (suc k) body l v h =
-    rw (get_or-set_other M l (skip S k body) v 0 (λ e. omega (arith, h k (omega arith))), names-kept s S M k body l v (λ j z. h j (omega arith))) refl
+    rw (get_or-set_other M l (skip S k body) v false (λ e. omega (arith, h k (omega arith))), names-kept s S M k body l v (λ j z. h j (omega arith))) refl
 
-module _ (s S M : List ℕ) (k body i : ℕ) (a : After grammar.Stmt s S k body i) (z : i ≡ skip S k body) (w : length M ≡ most_lines) where
+module _ (s S : List ℕ) (M : List Bool) (k body i : ℕ) (a : After grammar.Stmt s S k body i) (z : i ≡ skip S k body) (w : length M ≡ most_lines) where
   d : Loaded s S
   d = a.before.loaded
 
-  marks_of : (m : ℕ) → kind_at S i ≡ m → marks_after s S M k body i ≡ cond (eqb m kinds.let') (set M i (cond (wraps (wrapped_names s S M k body) (expr_at s (suc i))) 1 0)) M
-  unfolding marks_after
-  marks_of m e = rw e refl
+  abbrev xs : List Name
+  xs = wrapped_names s S M k body
 
-  names_of : (N : List ℕ) (m : ℕ) → kind_at S i ≡ m
-      → wrapped_names s S N (suc k) body ≡ cond (eqb m kinds.let' && eqb (get_or N i 0) 1) (name_at s S i ∷ wrapped_names s S N k body) (wrapped_names s S N k body)
-  unfolding wrapped_names is_marked
-  names_of N m e = rw (← z, e) refl
+  abbrev marked : List Bool
+  marked = set M i (is_wrapping_let s S xs i)
 
-  other_names : (m : ℕ) → m ≢ kinds.let' → kind_at S i ≡ m → wrapped_names s S (marks_after s S M k body i) (suc k) body ≡ wrapped_names s S M k body
-  other_names m h e =
-      ap (λ N. wrapped_names s S N (suc k) body) (marks_of m e ∙ rw (ne_eqb m kinds.let' h) refl) ∙ names_of M m e ∙ rw (ne_eqb m kinds.let' h) refl
+  names_of : wrapped_names s S marked (suc k) body ≡ cond (is_wrapping_let s S xs i) (name_at s S i ∷ xs) xs
+  unfolding wrapped_names
+  names_of =
+      rw (
+        ← z,
+        get_or-set_same M i (is_wrapping_let s S xs i) false (omega (arith, a.here.within, a.before.few, w)),
+        names-kept s S M k body i (is_wrapping_let s S xs i) (λ j h. rw z (before_last a.before.row j h)),
+      )
+      refl
 
-  let_names : kind_at S i ≡ kinds.let' → wrapped_names s S (marks_after s S M k body i) (suc k) body ≡ wrapped_after (wrapped_names s S M k body) (stmt_at s i)
-  unfolding wrapped_after
-  let_names e =
-      let w = wraps (wrapped_names s S M k body) (expr_at s (suc i)) in
-      rw (let_at d a.here e).0 (ap (λ N. wrapped_names s S N (suc k) body) (marks_of kinds.let' e) ∙ names_of (set M i (cond w 1 0)) kinds.let' e ∙ by_cases w)
-    where
-      by_cases : (b : Bool) → cond (eqb (get_or (set M i (cond b 1 0)) i 0) 1) (name_at s S i ∷ wrapped_names s S (set M i (cond b 1 0)) k body) (wrapped_names s S (set M i (cond b 1 0)) k body)
-          ≡ cond b (name_at s S i ∷ wrapped_names s S M k body) (wrapped_names s S M k body)
-      by_cases b =
-          rw (
-            get_or-set_same M i (cond b 1 0) 0 (omega (arith, a.here.within, a.before.few)),
-            names-kept s S M k body i (cond b 1 0) (λ j h. rw z (before_last a.before.row j h)),
-          )
-          (by b)
-        where
-          by : (b : Bool) → cond (eqb (cond b 1 0) 1) (name_at s S i ∷ wrapped_names s S M k body) (wrapped_names s S M k body) ≡ cond b (name_at s S i ∷ wrapped_names s S M k body) (wrapped_names s S M k body)
-          by true = refl
-          by false = refl
+  abbrev Told : ℕ → Type 0
+  Told m = kind_at S i ≡ m → cond (is_wrapping_let s S xs i) (name_at s S i ∷ xs) xs ≡ wrapped_after xs (stmt_at s i)
 
-  names-after : wrapped_names s S (marks_after s S M k body i) (suc k) body ≡ wrapped_after (wrapped_names s S M k body) (stmt_at s i)
-  unfolding wrapped_after
-  names-after =
-      pick {P = λ m. kind_at S i ≡ m → wrapped_names s S (marks_after s S M k body i) (suc k) body ≡ wrapped_after (wrapped_names s S M k body) (stmt_at s i)} {i = kinds.guard} {n = 5} (kind_at S i)
-      ((λ e. other_names kinds.guard (λ q. omega arith) e ∙ rw (guard_at d a.here e).0 refl)
-      also let_names
-      also (λ e. other_names kinds.emit (λ q. omega arith) e ∙ rw (emit_at d a.here e).0 refl)
-      also (λ e. other_names kinds.assign (λ q. omega arith) e ∙ rw (assign_at d a.here e).0 refl)
-      also (λ e. other_names kinds.do' (λ q. omega arith) e ∙ rw (do_at d a.here e).0 refl)
+  told : Told (kind_at S i)
+  unfolding is_wrapping_let wrapped_after
+  told =
+      pick {P = Told} {i = kinds.guard} {n = 5} (kind_at S i)
+      ((λ e. rw (is_wrapping_let, e, (guard_at d a.here e).0) refl)
+      also (λ e. rw (is_wrapping_let, e, (let_at d a.here e).0) refl)
+      also (λ e. rw (is_wrapping_let, e, (emit_at d a.here e).0) refl)
+      also (λ e. rw (is_wrapping_let, e, (assign_at d a.here e).0) refl)
+      also (λ e. rw (is_wrapping_let, e, (do_at d a.here e).0) refl)
       also end')
-      a.here.kind.0 a.here.kind.1 refl
+      a.here.kind.0 a.here.kind.1
 
-  marks-length : length (marks_after s S M k body i) ≡ most_lines
-  unfolding marks_after
-  marks-length = by_cases (eqb (kind_at S i) kinds.let')
-    where
-      by_cases : (b : Bool) → length (cond b (set M i (cond (wraps (wrapped_names s S M k body) (expr_at s (suc i))) 1 0)) M) ≡ most_lines
-      by_cases true = length-set M i _ ∙ w
-      by_cases false = w
+  names-after : wrapped_names s S marked (suc k) body ≡ wrapped_after xs (stmt_at s i)
+  names-after = names_of ∙ told refl
 
 -- ------------------------------------------------------------ the statements of an entry
 
@@ -175,84 +152,90 @@ module _ (s S : List ℕ) (i n : ℕ) (h : FewEntry s S i) (e : n ≡ body_count
   unfolding narrow_wrapping narrow_stmts done_of
   no_body z = rw (at_entry.is, ← e, z, no_stmts) (gives tt)
 
--- no statement before the k-th of n refuses, and r goes over the others
-pub record Going (s S M : List ℕ) (i body n k : ℕ) (r : Records) : Type 0 where
-  pub loaded : Loaded s S
-  pub few : line_count S ≤ most_lines
-  pub row : Row S grammar.Stmt n body
-  pub lines : r.lines.now ≡ S
-  pub left : k + r.left ≡ n
-  pub here : r.at ≡ skip S k body
-  pub marks : length M ≡ most_lines
-  pub rest : (d : Res Unit) → Answers (narrow_stmts (model_in s) (wrapped_names s S M k body) (stmts_at s r.left r.at)) d
-      → Answers (narrow_wrapping (model_in s) (entry_at s i)) d
+-- no bound statement refuses, and r goes over the others
+pub record Going (x : LoadedSheet) (i n : ℕ) (w : Wrapped) (r : Records) : Type 0 where
+  pub sheet : w.sheet ≡ x
+  pub loaded : Loaded w.sheet.bytes.now w.sheet.lines.now
+  pub few : line_count w.sheet.lines.now ≤ most_lines
+  pub row : Row w.sheet.lines.now grammar.Stmt n w.body
+  pub lines : r.lines.now ≡ w.sheet.lines.now
+  pub left : w.bound + r.left ≡ n
+  pub here : r.at ≡ skip w.sheet.lines.now w.bound w.body
+  pub marks : length w.marks ≡ most_lines
+  pub rest : (d : Res Unit) → Answers (narrow_stmts (model_in w.sheet.bytes.now) (names_in w) (stmts_at w.sheet.bytes.now r.left r.at)) d
+      → Answers (narrow_wrapping (model_in w.sheet.bytes.now) (entry_at w.sheet.bytes.now i)) d
 
-pub go_start : (s S M : List ℕ) (i n body : ℕ) (r : Records) → FewEntry s S i → n ≡ body_count S i
-    → body ≡ skip S (clause_count S i) (skip S (param_count S i) (suc i)) → length M ≡ most_lines → r.lines.now ≡ S → r.left ≡ n → r.at ≡ body → Going s S M i body n 0 r
+pub go_start : (x : LoadedSheet) (i n : ℕ) (w : Wrapped) (r : Records) → FewEntry x.bytes.now x.lines.now i → n ≡ body_count x.lines.now i → w.sheet ≡ x
+    → w.body ≡ skip x.lines.now (clause_count x.lines.now i) (skip x.lines.now (param_count x.lines.now i) (suc i)) → w.bound ≡ 0 → length w.marks ≡ most_lines
+    → r.lines.now ≡ x.lines.now → r.left ≡ n → r.at ≡ w.body → Going x i n w r
 unfolding narrow_wrapping wrapped_names skip
-go_start s S M i n body r h e y w l p q =
-    let t = at_entry s S i n h e in
+go_start x i n w r h e f y b m l p q =
+    let t = at_entry x.bytes.now x.lines.now i n h e in
     record {
-      loaded = h.entry.loaded;
-      few = h.few;
-      row = rw (e, y) t.body;
-      lines = l;
-      left = omega (arith, p);
-      here = q;
-      marks = w;
-      rest = λ d j. rw (t.is, ← e, ← y) (rw (p, q) at j);
+      sheet = f;
+      loaded = rw f h.entry.loaded;
+      few = rw f h.few;
+      row = rw (f, e, y) t.body;
+      lines = rw f l;
+      left = omega (arith, b, p);
+      here = rw b q;
+      marks = m;
+      rest = λ d j. rw (f, t.is, ← e, ← y) (rw (f, b, p, q) at j);
     }
 
-module _ (s S M : List ℕ) (i body n k : ℕ) (r : Records) (g : Going s S M i body n k r) where
+module _ (x : LoadedSheet) (i n : ℕ) (w : Wrapped) (r : Records) (g : Going x i n w r) where
+  abbrev s : List ℕ
+  s = w.sheet.bytes.now
+
+  abbrev S : List ℕ
+  S = w.sheet.lines.now
+
   abbrev Answered : Res Unit → Type 0
   Answered d = Answers (narrow_wrapping (model_in s) (entry_at s i)) d
 
-  pub go_over : r.left ≡ 0 → Answered (done_of s (Ok tt))
+  pub go_over : r.left ≡ 0 → Answers (narrow_wrapping (model_in x.bytes.now) (entry_at x.bytes.now i)) (done_of x.bytes.now (Ok tt))
   unfolding narrow_stmts done_of
-  go_over h = g.rest _ (rw (h, no_stmts) (gives tt))
+  go_over h = rw (← g.sheet) (g.rest _ (rw (h, no_stmts) (gives tt)))
 
   module _ (at : ℕ) (u : Records) (h : Steps r at u) where
-    at-skip : at ≡ skip S k body
+    at-skip : at ≡ skip S w.bound w.body
     at-skip = h.here ∙ g.here
 
-    some : k < n
+    some : w.bound < n
     some = omega (arith, g.left, h.left)
 
-    pub go_fits : n < 18446744073709551616 → Fits w64 (k + 1)
-    go_fits l = record { fits = omega (arith, some) }
-
-    pub go_stmt : After grammar.Stmt s S k body at
+    pub go_stmt : Behind grammar.Stmt w at
     go_stmt =
         record {
-          before = record { loaded = g.loaded; few = g.few; row = row_take k (omega (arith, some)) g.row };
-          here = rw at-skip (row_nth k some g.row);
+          before = record { loaded = g.loaded; few = g.few; row = row_take w.bound (omega (arith, some)) g.row };
+          here = rw at-skip (row_nth w.bound some g.row);
         }
 
-    module _ (t : Result Unit Refusal) (f : Answers (narrow_stmt (model_in s) (wrapped_names s S M k body) (stmt_at s at)) (done_of s t)) where
-      turn : (d : Res Unit)
-          → Answers (narrow_stmt (model_in s) (wrapped_names s S M k body) (stmt_at s at) >> narrow_stmts (model_in s) (wrapped_after (wrapped_names s S M k body) (stmt_at s at)) (stmts_at s u.left (end_at S at))) d
+    module _ (t : Result Unit Refusal) (f : Answers (narrow_stmt (model_in s) (names_in w) (stmt_at s at)) (done_of s t)) where
+      turn : (d : Res Unit) → Answers (narrow_stmt (model_in s) (names_in w) (stmt_at s at) >> narrow_stmts (model_in s) (wrapped_after (names_in w) (stmt_at s at)) (stmts_at s u.left (end_at S at))) d
           → Answered d
       unfolding narrow_stmts
       turn d j = g.rest d (rw (h.left, ← h.here, stmts_next g.loaded u.left go_stmt.here.within) j)
 
-      pub go_refused : (why : Refusal) → t ≡ Err why → Answered (done_of s (Err why))
+      pub go_refused : (why : Refusal) → t ≡ Err why → Answers (narrow_wrapping (model_in x.bytes.now) (entry_at x.bytes.now i)) (done_of x.bytes.now (Err why))
       unfolding done_of
-      go_refused why q = turn _ (then_refused _ _ (refusal_of s why) (rw q at f))
+      go_refused why q = rw (← g.sheet) (turn _ (then_refused _ _ (refusal_of s why) (rw q at f)))
 
-      pub go_next : (N : List ℕ) → t ≡ Ok tt → N ≡ marks_after s S M k body at → Going s S N i body n (k + 1) u
-      unfolding done_of
-      go_next N q m =
+      pub go_next : (v : Wrapped) → t ≡ Ok tt → v ≡ bound_after w at → Going x i n v u
+      unfolding done_of bound_after
+      go_next v q m =
           let b : u.at ≡ end_at S at = h.behind ∙ rw (g.lines, h.here) refl in
-          rw (m, add-one k)
+          rw (m, add-one)
           (record {
+            sheet = g.sheet;
             loaded = g.loaded;
             few = g.few;
             row = g.row;
             lines = h.lines ∙ g.lines;
             left = omega (arith, g.left, h.left);
-            here = b ∙ rw at-skip (sym (skip_next S k body));
-            marks = marks-length s S M k body at go_stmt at-skip g.marks;
+            here = b ∙ rw at-skip (sym (skip_next S w.bound w.body));
+            marks = length-set w.marks at _ ∙ g.marks;
             rest =
                 λ d j. turn d (then_fine _ _ tt d (rw q at f)
-                (rw (← names-after s S M k body at go_stmt at-skip g.marks, ← b) j));
+                (rw (← names-after s S w.marks w.bound w.body at go_stmt at-skip g.marks, ← b) j));
           })

@@ -2,13 +2,15 @@
 use mathlib.Core.Path.{◌≡◌, refl, sym, ◌∙◌}
 use mathlib.Core.Logic.{◌≢◌}
 use mathlib.Core.List.{List, []}
-use mathlib.Core.Bool.{Bool, true, false, cond, ◌&&◌, ◌||◌, or_assoc, and-false, or-false}
+use mathlib.Core.Bool.{Bool, true, false, not, ◌&&◌, ◌||◌, or_assoc, or-false}
 use Prim.Native.Nat.{ℕ, zero, suc, ◌+◌, ◌-◌, ◌<◌, ◌≤◌}
 use native.Mathlib.Numerals.{add-one}
 use native.Mathlib.Omega.{arith}
+use mir.Syntax.{w64}
+use mir.Val.{Fits}
 use lib.Dec.{eqb, ltb}
-use lib.ListN.{get_or, set}
-use borrow.Author.Tests.{ne_eqb, ltb-true, ltb-false}
+use lib.ListN.{get_or}
+use borrow.Author.Tests.{ne_eqb, ltb-true, ltb-false, not-true, not-false}
 use Rattle.text.specs.Text.{same}
 use Rattle.grammar.specs.Grammar as grammar
 use Rattle.sheet.specs.Scratch.{kind_at, end_at, name_at, skip, line_count}
@@ -21,14 +23,14 @@ use Rattle.rules.specs.Typing.{ident_leaf, leaf_has}
 use Rattle.rules.specs.Standing.{expr_at, Loaded, Here, Row}
 use Rattle.rules.proofs.Lookups.{among_first}
 use Rattle.rules.proofs.Parts.{stop, ◌also◌, pick}
-use Rattle.rules.proofs.Standing.{stands, row_first, row_rest}
+use Rattle.rules.proofs.Standing.{stands, row_first, row_rest, row_nth, row_take}
 use Rattle.rules.proofs.Exprs.{by_kind, leaf_at, dot_at_lem, call_at_lem}
-use Rattle.rules.proofs.Forest.{joined, parts_of}
+use Rattle.rules.proofs.Forest.{joined, parts_of, skip_least}
 use Rattle.rules.proofs.Walks as walks
 use Rattle.rules.proofs.Walks.{any_joined, Walk, walk_one, walk_known, walk_inside, walk_behind, walk_args}
 use Rattle.rules.proofs.Records.{let_at}
 use Rattle.wrapping.specs.Lines.{Before, After}
-use Rattle.wrapping.specs.Marks.{is_marked, wrapped_names, marks_after, wraps_here, next_line}
+use Rattle.wrapping.specs.Marks.{wrapped_names, is_wrapping_let, wraps_here, next_line}
 use Rattle.grammar.specs.Kinds as kinds
 use Rattle.sheet.specs.Line.{most_lines}
 
@@ -40,44 +42,38 @@ or_swap false b c = refl
 -- ------------------------------------------------------------ one `let`
 
 -- line i is a marked `let` of the name x
-abbrev pub hit : (s S M : List ℕ) → Name → ℕ → Bool
-hit s S M x i = is_marked S M i && same x (name_at s S i)
+abbrev pub hit : (s S : List ℕ) → (M : List Bool) → Name → ℕ → Bool
+hit s S M x i = get_or M i false && same x (name_at s S i)
 
-module _ (s S M : List ℕ) (x : Name) (i : ℕ) where
-  pub no_let : (k : ℕ) → k ≡ kind_at S i → k ≢ kinds.let' → false ≡ hit s S M x i
-  unfolding is_marked
-  no_let k e h = rw (← e, ne_eqb k kinds.let' h) refl
+module _ (s S : List ℕ) (M : List Bool) (x : Name) (i : ℕ) where
+  pub no_mark : not (get_or M i false) ≡ true → false ≡ hit s S M x i
+  no_mark h = rw (not-true (get_or M i false) h) refl
 
-  pub no_mark : get_or M i 0 ≢ 1 → false ≡ hit s S M x i
-  unfolding is_marked
-  no_mark h = rw (ne_eqb (get_or M i 0) 1 h, and-false) refl
-
-  pub by_name : (k : ℕ) (y : Name) (r : Bool) → k ≡ kind_at S i → k ≡ kinds.let' → get_or M i 0 ≡ 1 → y ≡ name_at s S i → r ≡ same x y → r ≡ hit s S M x i
-  unfolding is_marked
-  by_name k y r e f g n q = q ∙ rw (← e, f, g, n) refl
+  pub by_name : (y : Name) (r : Bool) → not (get_or M i false) ≡ false → y ≡ name_at s S i → r ≡ same x y → r ≡ hit s S M x i
+  by_name y r g n q = q ∙ rw (not-false (get_or M i false) g, n) refl
 
 -- ------------------------------------------------------------ the `let`s before a statement
 
 -- the last statement is told first, and the code looks at the first one first
-among_wrapped : (s S M : List ℕ) (x : Name) (k body : ℕ) → among x (wrapped_names s S M (suc k) body) ≡ (hit s S M x body || among x (wrapped_names s S M k (end_at S body)))
+among_wrapped : (s S : List ℕ) (M : List Bool) (x : Name) (k body : ℕ) → among x (wrapped_names s S M (suc k) body) ≡ (hit s S M x body || among x (wrapped_names s S M k (end_at S body)))
 unfolding wrapped_names skip
-among_wrapped s S M x zero body = among_first x (name_at s S body) [] (is_marked S M body)
+among_wrapped s S M x zero body = among_first x (name_at s S body) [] (get_or M body false)
 among_wrapped s S M x (suc k) body =
     let l = skip S k (end_at S body) in
-    among_first x (name_at s S l) (wrapped_names s S M (suc k) body) (is_marked S M l)
-    ∙ rw (among_wrapped s S M x k body, among_first x (name_at s S l) (wrapped_names s S M k (end_at S body)) (is_marked S M l))
+    among_first x (name_at s S l) (wrapped_names s S M (suc k) body) (get_or M l false)
+    ∙ rw (among_wrapped s S M x k body, among_first x (name_at s S l) (wrapped_names s S M k (end_at S body)) (get_or M l false))
     (or_swap (hit s S M x l) (hit s S M x body) (among x (wrapped_names s S M k (end_at S body))))
 
 -- no statement before those that r goes over has the name
-pub record Seeking (s S M : List ℕ) (x : Name) (bound body : ℕ) (r : Records) : Type 0 where
+pub record Seeking (s S : List ℕ) (M : List Bool) (x : Name) (bound body : ℕ) (r : Records) : Type 0 where
   pub lines : r.lines.now ≡ S
   pub stmts : Before s S r.left r.at
   pub rest : among x (wrapped_names s S M bound body) ≡ among x (wrapped_names s S M r.left r.at)
 
-pub seek_start : (s S M : List ℕ) (x : Name) (bound body : ℕ) (r : Records) → Before s S bound body → r.lines.now ≡ S → r.left ≡ bound → r.at ≡ body → Seeking s S M x bound body r
+pub seek_start : (s S : List ℕ) (M : List Bool) (x : Name) (bound body : ℕ) (r : Records) → Before s S bound body → r.lines.now ≡ S → r.left ≡ bound → r.at ≡ body → Seeking s S M x bound body r
 seek_start s S M x bound body r b e p q = record { lines = e; stmts = rw (p, q) b; rest = rw (p, q) refl }
 
-module _ (s S M : List ℕ) (x : Name) (bound body : ℕ) (r : Records) (g : Seeking s S M x bound body r) where
+module _ (s S : List ℕ) (M : List Bool) (x : Name) (bound body : ℕ) (r : Records) (g : Seeking s S M x bound body r) where
   pub seek_over : r.left ≡ 0 → false ≡ among x (wrapped_names s S M bound body)
   unfolding wrapped_names among
   seek_over h = sym (g.rest ∙ rw h refl)
@@ -109,31 +105,31 @@ module _ (s S M : List ℕ) (x : Name) (bound body : ℕ) (r : Records) (g : See
 
 -- ------------------------------------------------------------ one line of a value
 
-module _ (s S : List ℕ) (xs : List Name) (i k : ℕ) (e : k ≡ kind_at S i) where
-  pub is_wrapping_lem : k ≡ kinds.wrapping → true ≡ wraps_here s S xs i
+module _ (s S : List ℕ) (xs : List Name) (i : ℕ) where
+  pub is_wrapping_lem : kind_at S i ≡ kinds.wrapping → true ≡ wraps_here s S xs i
   unfolding wraps_here
-  is_wrapping_lem h = rw (← e, h) refl
+  is_wrapping_lem h = rw h refl
 
-  pub no_id : k ≢ kinds.wrapping → k ≢ kinds.id → false ≡ wraps_here s S xs i
+  pub no_id : kind_at S i ≢ kinds.wrapping → kind_at S i ≢ kinds.id → false ≡ wraps_here s S xs i
   unfolding wraps_here
-  no_id h g = rw (← e, ne_eqb k kinds.wrapping h, ne_eqb k kinds.id g) refl
+  no_id h g = rw (ne_eqb (kind_at S i) kinds.wrapping h, ne_eqb (kind_at S i) kinds.id g) refl
 
-  pub by_id : (x : Name) (r : Bool) → k ≡ kinds.id → x ≡ name_at s S i → r ≡ among x xs → r ≡ wraps_here s S xs i
+  pub by_id : (x : Name) (r : Bool) → kind_at S i ≡ kinds.id → x ≡ name_at s S i → r ≡ among x xs → r ≡ wraps_here s S xs i
   unfolding wraps_here
-  by_id x r h n q = q ∙ rw (← e, h, n) refl
+  by_id x r h n q = q ∙ rw (h, n) refl
 
-module _ (S : List ℕ) (i k : ℕ) (e : k ≡ kind_at S i) where
-  pub past_dot : (r : ℕ) → k ≡ kinds.dot → r ≡ end_at S i → r ≡ next_line S i
+module _ (S : List ℕ) (i : ℕ) where
+  pub past_dot : (r : ℕ) → kind_at S i ≡ kinds.dot → r ≡ end_at S i → r ≡ next_line S i
   unfolding next_line
-  past_dot r h q = q ∙ rw (← e, h) refl
+  past_dot r h q = q ∙ rw h refl
 
-  pub past_callee : (r : ℕ) → k ≡ kinds.call → r ≡ end_at S (i + 1) → r ≡ next_line S i
+  pub past_callee : (r : ℕ) → kind_at S i ≡ kinds.call → r ≡ end_at S (i + 1) → r ≡ next_line S i
   unfolding next_line
-  past_callee r h q = q ∙ rw (← e, h, add-one i) refl
+  past_callee r h q = q ∙ rw (h, add-one i) refl
 
-  pub inside : k ≢ kinds.dot → k ≢ kinds.call → i + 1 ≡ next_line S i
+  pub inside : kind_at S i ≢ kinds.dot → kind_at S i ≢ kinds.call → i + 1 ≡ next_line S i
   unfolding next_line
-  inside h g = rw (← e, ne_eqb k kinds.dot h, ne_eqb k kinds.call g) (add-one i)
+  inside h g = rw (ne_eqb (kind_at S i) kinds.dot h, ne_eqb (kind_at S i) kinds.call g) (add-one i)
 
 -- ------------------------------------------------------------ the lines of a value
 
@@ -206,7 +202,7 @@ module _ (s S : List ℕ) (xs : List Name) (i end at : ℕ) (g : Walking s S xs 
     step = by_cases (ltb (kind_at S at) kinds.dot) refl
       where
         in_line : kind_at S at ≢ kinds.dot → kind_at S at ≢ kinds.call → next_line S at ≡ at + 1
-        in_line p q = sym (inside S at (kind_at S at) refl p q)
+        in_line p q = sym (inside S at p q)
 
         by_cases : (b : Bool) → ltb (kind_at S at) kinds.dot ≡ b → Next
         by_cases true q =
@@ -234,23 +230,22 @@ module _ (s S : List ℕ) (xs : List Name) (i end at : ℕ) (g : Walking s S xs 
       pub walk_next : (b : Bool) → b ≡ wraps_here s S xs at → b ≡ false → Walking s S xs i end at'
       walk_next b e q = rw n (walk_known step.1 (λ es z. z ∙ rw (← e, q) refl))
 
--- ------------------------------------------------------------ the mark of a `let`
+-- ------------------------------------------------------------ the mark of a statement
 
-module _ (s S M : List ℕ) (k body i : ℕ) (n : ℕ) (e : n ≡ kind_at S i) where
-  pub mark_other : n ≢ kinds.let' → M ≡ marks_after s S M k body i
-  unfolding marks_after
-  mark_other h = rw (← e, ne_eqb n kinds.let' h) refl
+module _ (s S : List ℕ) (i : ℕ) where
+  pub let_value : (k body : ℕ) → After grammar.Stmt s S k body i → kind_at S i ≡ kinds.let' → After grammar.Expr s S k body (i + 1)
+  let_value k body a h = record { before = a.before; here = rw (add-one i) (row_first (let_at a.before.loaded a.here h).1) }
 
-  pub let_value : After grammar.Stmt s S k body i → n ≡ kinds.let' → After grammar.Expr s S k body (i + 1)
-  let_value a h = record { before = a.before; here = rw (add-one i) (row_first (let_at a.before.loaded a.here (sym e ∙ h)).1) }
+  module _ (xs : List Name) where
+    pub no_let : kind_at S i ≢ kinds.let' → false ≡ is_wrapping_let s S xs i
+    unfolding is_wrapping_let
+    no_let h = rw (ne_eqb (kind_at S i) kinds.let' h) refl
 
-  module _ (b : Bool) (h : n ≡ kinds.let') (q : b ≡ wraps (wrapped_names s S M k body) (expr_at s (i + 1))) where
-    mark_let : (v : ℕ) → v ≡ cond b 1 0 → set M i v ≡ marks_after s S M k body i
-    unfolding marks_after
-    mark_let v f = rw (f, ← e, h, q, add-one i) refl
+    pub let_holds : (b : Bool) → kind_at S i ≡ kinds.let' → b ≡ wraps xs (expr_at s (i + 1)) → b ≡ is_wrapping_let s S xs i
+    unfolding is_wrapping_let
+    let_holds b h q = q ∙ rw (h, add-one i) refl
 
-    pub mark-wraps : b ≡ true → set M i 1 ≡ marks_after s S M k body i
-    mark-wraps z = mark_let 1 (rw z refl)
-
-    pub mark-plain : b ≡ false → set M i 0 ≡ marks_after s S M k body i
-    mark-plain z = mark_let 0 (rw z refl)
+-- each bound statement takes a line
+pub bound_fits : (s S : List ℕ) (k body : ℕ) → Before s S k body → Fits w64 (k + 1)
+bound_fits s S zero body b = record { fits = omega arith }
+bound_fits s S (suc k) body b = record { fits = omega (arith, (row_nth k (omega arith) b.row).within, skip_least (row_take k (omega arith) b.row), b.few) }

@@ -5,6 +5,7 @@ use Rattle.rules.specs.Standing.{Loaded, Here, Row}
 use Rattle.lookups.specs.Lines.{EntryAt}
 use Rattle.sheet.specs.Scratch.{line_count}
 use Rattle.sheet.specs.Line.{most_lines}
+use Rattle.wrapping.specs.declared.marks.Wrapped.{Wrapped}
 
 -- an entry stands at line i, and each line has a mark
 pub record FewEntry (s S : List ℕ) (i : ℕ) : Type 0 where
@@ -21,3 +22,10 @@ pub record Before (s S : List ℕ) (k body : ℕ) : Type 0 where
 pub record After (σ : grammar.Sort) (s S : List ℕ) (k body i : ℕ) : Type 0 where
   pub before : Before s S k body
   pub here : Here S σ i
+
+-- the same of the bound statements of w
+abbrev pub Bound : Wrapped → Type 0
+Bound w = Before w.sheet.bytes.now w.sheet.lines.now w.bound w.body
+
+abbrev pub Behind : grammar.Sort → Wrapped → ℕ → Type 0
+Behind σ w i = After σ w.sheet.bytes.now w.sheet.lines.now w.bound w.body i

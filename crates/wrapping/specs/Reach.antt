@@ -1,5 +1,5 @@
 -- The rules' slots over lines.
-use Rattle.std.specs.Prelude.{ℕ, suc, ◌<◌, Bool, ◌&&◌, ◌≡◌, eqb, ltb}
+use Rattle.std.specs.Prelude.{ℕ, suc, ◌<◌, Bool, ◌&&◌, ◌≡◌, eqb, ltb, Result}
 use mathlib.Core.List.{List, zip}
 use Rattle.grammar.specs.Grammar as grammar
 use Rattle.sheet.specs.Scratch.{kind_at, name_at, line_count, call_arg_count}
@@ -7,8 +7,14 @@ use Rattle.rules.specs.Text.{Name, is}
 use Rattle.rules.specs.Ast.{Expr, Param, type_name}
 use Rattle.rules.specs.Asking.{Rule, for_each}
 use Rattle.rules.specs.Types.{narrow_max}
-use Rattle.rules.specs.Assets.{reaches, event_slot}
+use Rattle.rules.specs.Assets.{reaches, event_slot, narrow_stmt}
+use Rattle.rules.specs.Standing.{model_in, stmt_at}
+use Rattle.refusals.specs.Answers.{Answers}
+use Rattle.refusals.specs.Refusal.{done_of}
+use Rattle.refusals.specs.declared.refusal.Refusal.{Refusal}
 use Rattle.wrapping.specs.Lines.{After}
+use Rattle.wrapping.specs.Marks.{names_in}
+use Rattle.wrapping.specs.declared.marks.Wrapped.{Wrapped}
 use Rattle.grammar.specs.Kinds as kinds
 
 -- line i is a call NAME.set(..) that has a second argument
@@ -27,3 +33,10 @@ pub record Emits (s S : List ℕ) (k body i event : ℕ) : Type 0 where
   pub emits : kind_at S i ≡ kinds.emit
   pub within : event < line_count S
   pub declares : kind_at S event ≡ kinds.event
+
+abbrev pub EmitsIn : Wrapped → (i event : ℕ) → Type 0
+EmitsIn w = Emits w.sheet.bytes.now w.sheet.lines.now w.bound w.body
+
+-- r is the rule's answer to the statement at line i, behind the bound ones of w
+abbrev pub JudgesStmt : Wrapped → ℕ → Result Unit Refusal → Type 0
+JudgesStmt w i r = let s = w.sheet.bytes.now in Answers (narrow_stmt (model_in s) (names_in w) (stmt_at s i)) (done_of s r)

@@ -5,7 +5,7 @@ ghost use Rattle.refusals.specs.Answers.{Answers};
 ghost use Rattle.refusals.specs.Refusal.{done_of};
 ghost use Rattle.wrapping.specs.Lines.{FewEntry};
 
-use crate::marks::mark;
+use crate::marks::Wrapped;
 use crate::reach::narrow_stmt;
 use lookups::body_line;
 use refusals::Refusal;
@@ -21,12 +21,15 @@ pub fn narrow_wrapping(sheet: &LoadedSheet<'_>, i: usize) -> Result<(), Refusal>
         return Ok(());
     }
     let body = body_line(sheet.lines, i);
-    let mut marks = [0u8; limits::MOST_LINES];
-    let mut bound = 0;
+    let mut wrapped = Wrapped {
+        sheet: *sheet,
+        body,
+        bound: 0,
+        marks: [false; limits::MOST_LINES],
+    };
     for at in sheet.records(body, n) {
-        narrow_stmt(sheet, &marks, body, bound, at)?;
-        mark(sheet, &mut marks, body, bound, at);
-        bound += 1;
+        narrow_stmt(&wrapped, at)?;
+        wrapped.bind(at);
     }
     Ok(())
 }

@@ -1,71 +1,27 @@
-// The `let`s that hold wrapping values, and the values that wrap. A mark of 1 is at the line of such a `let`.
-ghost use Rattle.std.specs.Prelude.{◌&&◌, ◌≡◌, ◌<◌};
+// The `let`s that hold wrapping values, and the values that wrap.
+ghost use Rattle.std.specs.Prelude.{◌&&◌, ◌≡◌, ◌<◌, get_or, false};
 ghost use Rattle.text.specs.Text.{same};
 ghost use Rattle.grammar.specs.Grammar.{Expr, Stmt};
 ghost use Rattle.sheet.specs.Scratch.{name_at, line_count};
 ghost use Rattle.rules.specs.Assets.{wraps as wraps_of};
 ghost use Rattle.rules.specs.Standing.{expr_at};
 ghost use Rattle.rules.specs.Text.{among};
-ghost use Rattle.wrapping.specs.Lines.{After, Before};
-ghost use Rattle.wrapping.specs.Marks.{is_marked, marks_after, next_line, wrapped_names, wraps_here};
+ghost use Rattle.wrapping.specs.Lines.{Behind, Bound};
+ghost use Rattle.wrapping.specs.Marks.{bound_after, is_wrapping_let, names_in, next_line, wraps_here};
 ghost use Rattle.sheet.specs.Line.{most_lines};
 
-use grammar::kinds;
-use sheet::{LoadedSheet, end, kind, limits};
+use grammar::Kind;
+use sheet::{LoadedSheet, end, is_kind, limits};
 use text::is_word;
 
-// Whether line i is a `let` of the name x that has a mark.
-fn is_marked(sheet: &LoadedSheet<'_>, marks: &[u8; limits::MOST_LINES], x: &[u8], i: usize) -> bool
-    requires { i < most_lines }
-    ensures { result ≡ (is_marked sheet.now.lines.now marks.now i && same x.now (name_at sheet.now.bytes.now sheet.now.lines.now i)) }
-{
-    if sheet.kind(i) != kinds::LET {
-        return false;
-    }
-    if marks[i] != 1 {
-        return false;
-    }
-    is_word(x, sheet.name(i))
-}
-
-// Whether x is the name of a marked `let` among the bound statements from line body on.
-fn is_wrapped(
-    sheet: &LoadedSheet<'_>,
-    marks: &[u8; limits::MOST_LINES],
-    body: usize,
-    bound: usize,
-    x: &[u8],
-) -> bool
-    requires { Before sheet.now.bytes.now sheet.now.lines.now bound body }
-    ensures { result ≡ among x.now (wrapped_names sheet.now.bytes.now sheet.now.lines.now marks.now bound body) }
-{
-    for at in sheet.records(body, bound) {
-        if is_marked(sheet, marks, x, at) {
-            return true;
-        }
-    }
-    false
-}
-
-// Whether line i by itself makes its value wrap.
-fn wraps_here(
-    sheet: &LoadedSheet<'_>,
-    marks: &[u8; limits::MOST_LINES],
-    body: usize,
-    bound: usize,
-    i: usize,
-) -> bool
-    requires { Before sheet.now.bytes.now sheet.now.lines.now bound body }
-    ensures { result ≡ wraps_here sheet.now.bytes.now sheet.now.lines.now (wrapped_names sheet.now.bytes.now sheet.now.lines.now marks.now bound body) i }
-{
-    let k = sheet.kind(i);
-    if k == kinds::WRAPPING {
-        return true;
-    }
-    if k != kinds::ID {
-        return false;
-    }
-    is_wrapped(sheet, marks, body, bound, sheet.name(i))
+// The statements of an entry that are bound, `bound` of them from line body on, and marks at the lines of those that are
+// a `let` of a wrapping value. `HashSet` becomes an array.
+#[derive(Drop)]
+pub struct Wrapped<'a> {
+    pub sheet: LoadedSheet<'a>,
+    pub body: usize,
+    pub bound: usize,
+    pub marks: [bool; limits::MOST_LINES],
 }
 
 // The next line of a value that counts: none inside a dot, nor in the callee of a call.
@@ -73,56 +29,88 @@ fn next_line(lines: &[u16], i: usize) -> usize
     requires { i < line_count lines.now }
     ensures { result ≡ next_line lines.now i }
 {
-    let k = kind(lines, i);
-    if k == kinds::DOT {
+    if is_kind(lines, i, Kind::Dot) {
         return end(lines, i);
     }
-    if k == kinds::CALL {
+    if is_kind(lines, i, Kind::Call) {
         return end(lines, i + 1);
     }
     i + 1
 }
 
-// Whether the value at line i wraps, behind bound statements from line body on.
-pub fn wraps(
-    sheet: &LoadedSheet<'_>,
-    marks: &[u8; limits::MOST_LINES],
-    body: usize,
-    bound: usize,
-    i: usize,
-) -> bool
-    requires { After Expr sheet.now.bytes.now sheet.now.lines.now bound body i }
-    ensures { result ≡ wraps_of (wrapped_names sheet.now.bytes.now sheet.now.lines.now marks.now bound body) (expr_at sheet.now.bytes.now i) }
-{
-    let stop = sheet.end(i);
-    let mut at = i;
-    // No `for`: a step may go past several lines.
-    while at < stop {
-        if wraps_here(sheet, marks, body, bound, at) {
+impl Wrapped<'_> {
+    // Whether line i has a mark and the name x.
+    fn is_marked(&self, x: &[u8], i: usize) -> bool
+        requires { i < most_lines }
+        ensures { result ≡ (get_or self.now.marks i false && same x.now (name_at self.now.sheet.bytes.now self.now.sheet.lines.now i)) }
+    {
+        if !self.marks[i] {
+            return false;
+        }
+        is_word(x, self.sheet.name(i))
+    }
+
+    // Whether x is the name of a marked `let`.
+    fn contains(&self, x: &[u8]) -> bool
+        requires { Bound self.now }
+        ensures { result ≡ among x.now (names_in self.now) }
+    {
+        for at in self.sheet.records(self.body, self.bound) {
+            if self.is_marked(x, at) {
+                return true;
+            }
+        }
+        false
+    }
+
+    // Whether line i by itself makes its value wrap.
+    fn wraps_here(&self, i: usize) -> bool
+        requires { Bound self.now }
+        ensures { result ≡ wraps_here self.now.sheet.bytes.now self.now.sheet.lines.now (names_in self.now) i }
+    {
+        if self.sheet.is(i, Kind::Wrapping) {
             return true;
         }
-        at = next_line(sheet.lines, at);
+        if !self.sheet.is(i, Kind::Id) {
+            return false;
+        }
+        self.contains(self.sheet.name(i))
     }
-    false
-}
 
-// Puts the mark of line i where it is a `let`, behind bound statements from line body on.
-pub fn mark(
-    sheet: &LoadedSheet<'_>,
-    marks: &mut [u8; limits::MOST_LINES],
-    body: usize,
-    bound: usize,
-    i: usize,
-)
-    requires { After Stmt sheet.now.bytes.now sheet.now.lines.now bound body i }
-    ensures { marks.new ≡ marks_after sheet.now.bytes.now sheet.now.lines.now marks.old bound body i }
-{
-    if sheet.kind(i) != kinds::LET {
-        return;
+    // Whether the value at line i wraps.
+    pub fn wraps(&self, i: usize) -> bool
+        requires { Behind Expr self.now i }
+        ensures { result ≡ wraps_of (names_in self.now) (expr_at self.now.sheet.bytes.now i) }
+    {
+        let stop = self.sheet.end(i);
+        let mut at = i;
+        // No `for`: a step may go past several lines.
+        while at < stop {
+            if self.wraps_here(at) {
+                return true;
+            }
+            at = next_line(self.sheet.lines, at);
+        }
+        false
     }
-    if wraps(sheet, marks, body, bound, i + 1) {
-        marks[i] = 1;
-        return;
+
+    // Whether line i is a `let` of a value that wraps.
+    fn is_wrapping_let(&self, i: usize) -> bool
+        requires { Behind Stmt self.now i }
+        ensures { result ≡ is_wrapping_let self.now.sheet.bytes.now self.now.sheet.lines.now (names_in self.now) i }
+    {
+        if !self.sheet.is(i, Kind::Let) {
+            return false;
+        }
+        self.wraps(i + 1)
     }
-    marks[i] = 0;
+
+    // The statement at line i, which is the next one, is bound.
+    pub fn bind(&mut self, i: usize)
+        requires { Behind Stmt self.old i }
+        ensures { self.new ≡ bound_after self.old i }
+    {
+        self.marks[i] = self.is_wrapping_let(i);
+        self.bound += 1;
+    }
 }

@@ -1,62 +1,50 @@
 // Slots that a wrapping value may not reach: narrow fields, narrow values of maps, and narrow parameters of events.
-ghost use Rattle.std.specs.Prelude.{◌&&◌, not, ◌≡◌, ◌<◌, suc, eqb};
+ghost use Rattle.std.specs.Prelude.{◌&&◌, ◌≡◌, ◌<◌, is_some, suc};
 ghost use Rattle.grammar.specs.Grammar.{Expr, Stmt};
 ghost use Rattle.sheet.specs.Scratch.{kind_at, name_at, line_count, emit_arg_count, param_count};
 ghost use Rattle.rules.specs.Assets.{narrow_set, narrow_stmt, wraps as wraps_of};
 ghost use Rattle.rules.specs.Ast.{list};
-ghost use Rattle.rules.specs.Standing.{expr_at, exprs_at, model_in, params_at, stmt_at};
+ghost use Rattle.rules.specs.Standing.{expr_at, exprs_at, model_in, params_at};
 ghost use Rattle.refusals.specs.Answers.{Answers};
 ghost use Rattle.refusals.specs.Refusal.{done_of};
-ghost use Rattle.wrapping.specs.Lines.{After};
-ghost use Rattle.wrapping.specs.Marks.{wrapped_names};
-ghost use Rattle.wrapping.specs.Reach.{Emits, reaches_each, sets_at};
+ghost use Rattle.wrapping.specs.Lines.{Behind};
+ghost use Rattle.wrapping.specs.Marks.{names_in};
+ghost use Rattle.wrapping.specs.Reach.{EmitsIn, JudgesStmt, reaches_each, sets_at};
 ghost use Rattle.grammar.specs.Kinds as kinds;
 
-use crate::marks::wraps;
-use grammar::kinds;
+use crate::marks::Wrapped;
+use grammar::Kind;
 use lookups::event_named;
 use narrow::{narrow_field, narrow_max, narrow_values};
 use refusals::Refusal;
-use sheet::{LoadedSheet, call_arg_count, emit_arg_count, limits, param_count};
+use sheet::{LoadedSheet, call_arg_count, emit_arg_count, param_count};
 use text::is_word;
 
-// Whether the value at line i wraps and its slot is narrow: the slot's largest number is not 0.
-fn reaches(
-    sheet: &LoadedSheet<'_>,
-    marks: &[u8; limits::MOST_LINES],
-    body: usize,
-    bound: usize,
-    narrow: u64,
-    i: usize,
-) -> bool
-    requires { After Expr sheet.now.bytes.now sheet.now.lines.now bound body i }
-    ensures { result ≡ (not (eqb narrow 0) && wraps_of (wrapped_names sheet.now.bytes.now sheet.now.lines.now marks.now bound body) (expr_at sheet.now.bytes.now i)) }
+// Whether the value at line i wraps and its slot is narrow, that is, has a largest number.
+fn reaches(wrapped: &Wrapped<'_>, narrow: Option<u64>, i: usize) -> bool
+    requires { Behind Expr wrapped.now i }
+    ensures { result ≡ (is_some narrow && wraps_of (names_in wrapped.now) (expr_at wrapped.now.sheet.bytes.now i)) }
 {
-    if narrow == 0 {
+    if narrow.is_none() {
         return false;
     }
-    wraps(sheet, marks, body, bound, i)
+    wrapped.wraps(i)
 }
 
 // The assignment at line i.
-fn narrow_assign(
-    sheet: &LoadedSheet<'_>,
-    marks: &[u8; limits::MOST_LINES],
-    body: usize,
-    bound: usize,
-    i: usize,
-) -> Result<(), Refusal>
-    requires after { After Stmt sheet.now.bytes.now sheet.now.lines.now bound body i }
-    requires is_assign { kind_at sheet.now.lines.now i ≡ kinds.assign }
-    ensures { Answers (narrow_stmt (model_in sheet.now.bytes.now) (wrapped_names sheet.now.bytes.now sheet.now.lines.now marks.now bound body) (stmt_at sheet.now.bytes.now i)) (done_of sheet.now.bytes.now result) }
+fn narrow_assign(wrapped: &Wrapped<'_>, i: usize) -> Result<(), Refusal>
+    requires after { Behind Stmt wrapped.now i }
+    requires is_assign { kind_at wrapped.now.sheet.lines.now i ≡ kinds.assign }
+    ensures { JudgesStmt wrapped.now i result }
 {
+    let sheet = &wrapped.sheet;
     let target = i + 1;
-    if sheet.kind(target) != kinds::ID {
+    if !sheet.is(target, Kind::Id) {
         return Ok(());
     }
     let value = sheet.end(target);
     let narrow = narrow_field(sheet, sheet.name(target));
-    if reaches(sheet, marks, body, bound, narrow, value) {
+    if reaches(wrapped, narrow, value) {
         return Err(Refusal::ReachesField { target, value });
     }
     Ok(())
@@ -67,28 +55,23 @@ fn sets(sheet: &LoadedSheet<'_>, i: usize) -> bool
     requires { i < line_count sheet.now.lines.now }
     ensures { result ≡ sets_at sheet.now.bytes.now sheet.now.lines.now i }
 {
-    if sheet.kind(i) != kinds::CALL {
+    if !sheet.is(i, Kind::Call) {
         return false;
     }
     let callee = i + 1;
-    if sheet.kind(callee) != kinds::DOT {
+    if !sheet.is(callee, Kind::Dot) {
         return false;
     }
     let is_set = is_word(sheet.name(callee), b"set");
-    is_set & ((sheet.kind(callee + 1) == kinds::ID) & (1 < call_arg_count(sheet.lines, i)))
+    is_set & (sheet.is(callee + 1, Kind::Id) & (1 < call_arg_count(sheet.lines, i)))
 }
 
 // The call or other expression at line i, which is a statement.
-fn narrow_set(
-    sheet: &LoadedSheet<'_>,
-    marks: &[u8; limits::MOST_LINES],
-    body: usize,
-    bound: usize,
-    i: usize,
-) -> Result<(), Refusal>
-    requires { After Expr sheet.now.bytes.now sheet.now.lines.now bound body i }
-    ensures { Answers (narrow_set (model_in sheet.now.bytes.now) (wrapped_names sheet.now.bytes.now sheet.now.lines.now marks.now bound body) (expr_at sheet.now.bytes.now i)) (done_of sheet.now.bytes.now result) }
+fn narrow_set(wrapped: &Wrapped<'_>, i: usize) -> Result<(), Refusal>
+    requires { Behind Expr wrapped.now i }
+    ensures { Answers (narrow_set (model_in wrapped.now.sheet.bytes.now) (names_in wrapped.now) (expr_at wrapped.now.sheet.bytes.now i)) (done_of wrapped.now.sheet.bytes.now result) }
 {
+    let sheet = &wrapped.sheet;
     if !sets(sheet, i) {
         return Ok(());
     }
@@ -97,29 +80,23 @@ fn narrow_set(
     let key = sheet.end(callee);
     let value = sheet.end(key);
     let narrow = narrow_values(sheet, sheet.name(map));
-    if reaches(sheet, marks, body, bound, narrow, value) {
+    if reaches(wrapped, narrow, value) {
         return Err(Refusal::ReachesValues { map, value });
     }
     Ok(())
 }
 
 // The arguments of the `emit` at line i, side by side with the parameters of the event at line event.
-fn narrow_args(
-    sheet: &LoadedSheet<'_>,
-    marks: &[u8; limits::MOST_LINES],
-    body: usize,
-    bound: usize,
-    i: usize,
-    event: usize,
-) -> Result<(), Refusal>
-    requires { Emits sheet.now.bytes.now sheet.now.lines.now bound body i event }
-    ensures { Answers (reaches_each (wrapped_names sheet.now.bytes.now sheet.now.lines.now marks.now bound body) (name_at sheet.now.bytes.now sheet.now.lines.now i) (list (exprs_at sheet.now.bytes.now (emit_arg_count sheet.now.lines.now i) (suc i))) (params_at sheet.now.bytes.now (param_count sheet.now.lines.now event) (suc event))) (done_of sheet.now.bytes.now result) }
+fn narrow_args(wrapped: &Wrapped<'_>, i: usize, event: usize) -> Result<(), Refusal>
+    requires { EmitsIn wrapped.now i event }
+    ensures { Answers (reaches_each (names_in wrapped.now) (name_at wrapped.now.sheet.bytes.now wrapped.now.sheet.lines.now i) (list (exprs_at wrapped.now.sheet.bytes.now (emit_arg_count wrapped.now.sheet.lines.now i) (suc i))) (params_at wrapped.now.sheet.bytes.now (param_count wrapped.now.sheet.lines.now event) (suc event))) (done_of wrapped.now.sheet.bytes.now result) }
 {
+    let sheet = &wrapped.sheet;
     let args = sheet.records(i + 1, emit_arg_count(sheet.lines, i));
     let params = sheet.records(event + 1, param_count(sheet.lines, event));
     for (arg, param) in args.zip(params) {
         let narrow = narrow_max(sheet.name(param + 1));
-        if reaches(sheet, marks, body, bound, narrow, arg) {
+        if reaches(wrapped, narrow, arg) {
             return Err(Refusal::ReachesEvent {
                 emit: i,
                 value: arg,
@@ -130,43 +107,31 @@ fn narrow_args(
 }
 
 // The `emit` at line i.
-fn narrow_emit(
-    sheet: &LoadedSheet<'_>,
-    marks: &[u8; limits::MOST_LINES],
-    body: usize,
-    bound: usize,
-    i: usize,
-) -> Result<(), Refusal>
-    requires after { After Stmt sheet.now.bytes.now sheet.now.lines.now bound body i }
-    requires is_emit { kind_at sheet.now.lines.now i ≡ kinds.emit }
-    ensures { Answers (narrow_stmt (model_in sheet.now.bytes.now) (wrapped_names sheet.now.bytes.now sheet.now.lines.now marks.now bound body) (stmt_at sheet.now.bytes.now i)) (done_of sheet.now.bytes.now result) }
+fn narrow_emit(wrapped: &Wrapped<'_>, i: usize) -> Result<(), Refusal>
+    requires after { Behind Stmt wrapped.now i }
+    requires is_emit { kind_at wrapped.now.sheet.lines.now i ≡ kinds.emit }
+    ensures { JudgesStmt wrapped.now i result }
 {
-    match event_named(sheet, sheet.name(i)) {
-        Some(event) => narrow_args(sheet, marks, body, bound, i, event),
+    match event_named(&wrapped.sheet, wrapped.sheet.name(i)) {
+        Some(event) => narrow_args(wrapped, i, event),
         None => Ok(()),
     }
 }
 
-// The statement at line i, behind bound statements from line body on.
-pub fn narrow_stmt(
-    sheet: &LoadedSheet<'_>,
-    marks: &[u8; limits::MOST_LINES],
-    body: usize,
-    bound: usize,
-    i: usize,
-) -> Result<(), Refusal>
-    requires { After Stmt sheet.now.bytes.now sheet.now.lines.now bound body i }
-    ensures { Answers (narrow_stmt (model_in sheet.now.bytes.now) (wrapped_names sheet.now.bytes.now sheet.now.lines.now marks.now bound body) (stmt_at sheet.now.bytes.now i)) (done_of sheet.now.bytes.now result) }
+// The statement at line i, behind the bound ones.
+pub fn narrow_stmt(wrapped: &Wrapped<'_>, i: usize) -> Result<(), Refusal>
+    requires { Behind Stmt wrapped.now i }
+    ensures { JudgesStmt wrapped.now i result }
 {
-    let k = sheet.kind(i);
-    if k == kinds::EMIT {
-        return narrow_emit(sheet, marks, body, bound, i);
+    let sheet = &wrapped.sheet;
+    if sheet.is(i, Kind::Emit) {
+        return narrow_emit(wrapped, i);
     }
-    if k == kinds::ASSIGN {
-        return narrow_assign(sheet, marks, body, bound, i);
+    if sheet.is(i, Kind::Assign) {
+        return narrow_assign(wrapped, i);
     }
-    if k == kinds::DO {
-        return narrow_set(sheet, marks, body, bound, i + 1);
+    if sheet.is(i, Kind::Do) {
+        return narrow_set(wrapped, i + 1);
     }
     Ok(())
 }

@@ -10,6 +10,7 @@ use lib.Seq.{take_all}
 use borrow.Rule.Slice.PartMut.{put_mid, mid_of}
 use borrow.Author.Tests.{le-leb, leb-true, leb-false}
 use Rattle.writing.specs.Writing.{MOST, told_as, overlay, Adds}
+use Rattle.writing.specs.declared.write.Message.{Message}
 
 -- ------------------------------------------------------------ lengths
 
@@ -78,12 +79,13 @@ overlay_fit (b ∷ B) (c ∷ t) h = ap (λ U. c ∷ U) (overlay_fit B t (omega a
 
 -- ------------------------------------------------------------ one text behind another
 
-pub adds_none : (B : List ℕ) (a : ℕ) → a < 18446744073709551616 → Adds [] B a B a
-adds_none B a h =
-    record { told = sym (rw (let q : a + 0 ≡ a = omega arith in q) (told_all a (omega arith))); buffer = sym (overlay_none B a) }
+pub adds_none : (M : Message) → M.length < 18446744073709551616 → Adds [] M M
+adds_none M h =
+    let n : M.length + 0 ≡ M.length = omega arith in
+    record { told = sym (rw n (told_all M.length (omega arith))); buffer = sym (overlay_none M.buffer.now M.length); lent = refl }
 
-pub adds_same : (t B : List ℕ) (a : ℕ) (U : List ℕ) (b : ℕ) → Adds t B a U b → length U ≡ length B
-adds_same t B a U b x = ap length x.buffer ∙ overlay-length B a t
+pub adds_same : (t : List ℕ) (M N : Message) → Adds t M N → length N.buffer.now ≡ length M.buffer.now
+adds_same t M N x = ap length x.buffer ∙ overlay-length M.buffer.now M.length t
 
 -- a place that is told as MOST is beyond the buffer, as is the place itself
 overlay_told : (B : List ℕ) (a : ℕ) (t : List ℕ) → length B < 18446744073709551616 → overlay B (told_as a) t ≡ overlay B a t
@@ -95,9 +97,10 @@ overlay_told B a t l = by_cases (leb a MOST) refl
         let h = leb-false a MOST e in
         ap (λ x. overlay B x t) (told_most a (omega arith)) ∙ overlay_beyond B MOST t (omega arith) ∙ sym (overlay_beyond B a t (omega arith))
 
-pub both : (t u B : List ℕ) (a : ℕ) (U : List ℕ) (b : ℕ) (W : List ℕ) (c : ℕ) → length B < 18446744073709551616 → Adds t B a U b → Adds u U b W c
-    → Adds (t ++ u) B a W c
-both t u B a U b W c l x y =
+pub both : (t u : List ℕ) (M N O : Message) → length M.buffer.now < 18446744073709551616 → Adds t M N → Adds u N O → Adds (t ++ u) M O
+both t u M N O l x y =
+    let B = M.buffer.now in
+    let a = M.length in
     let n : a + length (t ++ u) ≡ a + length t + length u = rw (length-append t u) (omega arith) in
     record {
       told = y.told ∙ rw (x.told, n) (told_add (a + length t) (length u));
@@ -105,14 +108,12 @@ both t u B a U b W c l x y =
           y.buffer
           ∙ rw (x.buffer, x.told) (overlay_told (overlay B a t) (a + length t) u (omega (arith, overlay-length B a t)))
           ∙ overlay_both B a t u;
+      lent = y.lent ∙ x.lent;
     }
 
 -- three, as `say` adds them
-pub says : (t u v B : List ℕ) (a : ℕ) (U : List ℕ) (b : ℕ) (X : List ℕ) (c : ℕ) (W : List ℕ) (d : ℕ) → length B < 18446744073709551616 → Adds t B a U b → Adds u U b X c
-    → Adds v X c W d
-    → Adds (t ++ (u ++ v)) B a W d
-says t u v B a U b X c W d l x y z =
-    both t (u ++ v) B a U b W d l x (both u v U b X c W d (omega (arith, adds_same t B a U b x)) y z)
+pub says : (t u v : List ℕ) (M N O P : Message) → length M.buffer.now < 18446744073709551616 → Adds t M N → Adds u N O → Adds v O P → Adds (t ++ (u ++ v)) M P
+says t u v M N O P l x y z = both t (u ++ v) M N P l x (both u v N O P (omega (arith, adds_same t M N x)) y z)
 
 -- ------------------------------------------------------------ a piece
 
@@ -136,16 +137,16 @@ module _ (B : List ℕ) (a : ℕ) (p : List ℕ) where
       let over : drop (length B - a) (drop a B) ≡ [] = drop_of_length-le (drop a B) {i = length B - a} (omega (arith, length-drop a B)) in
       rw (over, append-nil y, e, whole) (overlay_rest B a p h)
 
--- What `add` meets: the length can be told or not.
-module _ (p B : List ℕ) (a : ℕ) (U : List ℕ) (e : U ≡ overlay B a p) where
-  pub add_most : MOST - a < length p → Adds p B a U MOST
-  add_most h = record { told = sym (told_most (a + length p) (omega arith)); buffer = e }
-
-  pub add_all : length p ≤ MOST - a → a < 18446744073709551616 → Adds p B a U (a + length p)
-  add_all h l = record { told = sym (told_all (a + length p) (omega arith)); buffer = e }
+-- What `add` meets: the length n of both, as `saturating_add` has it.
+pub added : (a b n : ℕ) → n ≡ min (a + b) MOST → n ≡ told_as (a + b)
+added a b n e = by_cases (leb (a + b) MOST) refl
+  where
+    by_cases : (t : Bool) → leb (a + b) MOST ≡ t → n ≡ told_as (a + b)
+    by_cases true f = let h = leb-true (a + b) MOST f in omega (arith, e, told_all (a + b) h)
+    by_cases false f = let h = leb-false (a + b) MOST f in omega (arith, e, told_most (a + b) (omega arith))
 
 -- ------------------------------------------------------------ a message
 
 -- a message that fits stands at the buffer's start
-pub all_written : (t B U : List ℕ) (b : ℕ) → Adds t B 0 U b → length t ≤ length B → U ≡ t ++ drop (length t) B
-all_written t B U b x h = x.buffer ∙ overlay_fit B t h
+pub all_written : (t : List ℕ) (M N : Message) → M.length ≡ 0 → Adds t M N → length t ≤ length M.buffer.now → N.buffer.now ≡ t ++ drop (length t) M.buffer.now
+all_written t M N z x h = x.buffer ∙ rw z (overlay_fit M.buffer.now t h)

@@ -1,5 +1,5 @@
 -- The text of a type, argument by argument. Assumes nothing.
-use mathlib.Core.Path.{◌≡◌, refl, sym}
+use mathlib.Core.Path.{◌≡◌, refl, sym, ◌∙◌}
 use mathlib.Core.Logic.{◌≢◌}
 use mathlib.Core.List.{List, [], ◌∷◌, ◌++◌, append_assoc, append-nil}
 use mathlib.Core.Bool.{Bool, true, false}
@@ -24,6 +24,7 @@ use Rattle.rules.proofs.Standing.{stands, none_beyond, beyond}
 use Rattle.lookups.proofs.Types.{arg_told}
 use Rattle.writing.specs.Types.{upto, args_upto, LinesUpto, before, closing}
 use Rattle.writing.specs.Writing.{Adds}
+use Rattle.writing.specs.declared.write.Message.{Message}
 use Rattle.writing.proofs.Adding.{both, adds_none}
 use Rattle.grammar.specs.Kinds as kinds
 
@@ -66,24 +67,6 @@ module _ {s S : List ℕ} (d : Loaded s S) where
   unfolding type_at type_of type_text args_of args_text render is same
   no_type i w = rw (beyond d i w) refl
 
--- ------------------------------------------------------------ `add_before` and `add_closing`
-
-pub before_first : (o : Bool) (B : List ℕ) (a : ℕ) (U : List ℕ) (b : ℕ) → o ≡ true → Adds (bytes "<") B a U b → Adds (bytes (before o)) B a U b
-unfolding before
-before_first o B a U b e x = rw e x
-
-pub before_other : (o : Bool) (B : List ℕ) (a : ℕ) (U : List ℕ) (b : ℕ) → o ≡ false → Adds (bytes ", ") B a U b → Adds (bytes (before o)) B a U b
-unfolding before
-before_other o B a U b e x = rw e x
-
-pub closing_first : (o : Bool) (B : List ℕ) (a : ℕ) → o ≡ true → a < 18446744073709551616 → Adds (closing o) B a B a
-unfolding closing
-closing_first o B a e h = rw e (adds_none B a h)
-
-pub closing_other : (o : Bool) (B : List ℕ) (a : ℕ) (U : List ℕ) (b : ℕ) → o ≡ false → Adds (bytes ">") B a U b → Adds (closing o) B a U b
-unfolding closing
-closing_other o B a U b e x = rw e x
-
 -- ------------------------------------------------------------ the measure
 
 -- the lines left and a phase, of which the lines weigh more
@@ -93,8 +76,8 @@ rank n i phase = 3 * (n - i) + phase
 -- ------------------------------------------------------------ `add_type`
 
 module _ (s S : List ℕ) (i : ℕ) (d : Loaded s S) where
-  pub type_none : (B : List ℕ) (a n : ℕ) → n ≡ line_count S → n ≤ i → a < 18446744073709551616 → Adds (render (type_text (type_at s i))) B a B a
-  type_none B a n e h l = rw (no_type d i (omega (arith, e))) (adds_none B a l)
+  pub type_none : (M : Message) (n : ℕ) → n ≡ line_count S → n ≤ i → M.length < 18446744073709551616 → Adds (render (type_text (type_at s i))) M M
+  type_none M n e h l = rw (no_type d i (omega (arith, e))) (adds_none M l)
 
   module _ (n : ℕ) (counted : n ≡ line_count S) (below : i < n) where
     w : i < line_count S
@@ -109,30 +92,33 @@ module _ (s S : List ℕ) (i : ℕ) (d : Loaded s S) where
     pub type_args_lem : (j : ℕ) → j ≡ end_at S i → LinesUpto s S j
     type_args_lem j e = record { loaded = d; within = rw e (stands d i w).ends }
 
-    pub type_all : (x B : List ℕ) (a : ℕ) (U : List ℕ) (b j : ℕ) (W : List ℕ) (c : ℕ) → length B < 18446744073709551616 → x ≡ name_at s S i → Adds x B a U b → j ≡ end_at S i
-        → Adds (render (args_text true (args_upto s (i + 1) j))) U b W c → Adds (render (type_text (type_at s i))) B a W c
+    pub type_all : (x : List ℕ) (M N : Message) (j : ℕ) (O : Message) → length M.buffer.now < 18446744073709551616 → x ≡ name_at s S i → Adds x M N → j ≡ end_at S i
+        → Adds (render (args_text true (args_upto s (i + 1) j))) N O → Adds (render (type_text (type_at s i))) M O
     unfolding before
-    type_all x B a U b j W c l e f g y =
-        rw (type_said d i w, ← e, ← g, ← add-one i) (both x (render (args_text true (args_upto s (i + 1) j))) B a U b W c l f y)
+    type_all x M N j O l e f g y =
+        rw (type_said d i w, ← e, ← g, ← add-one i) (both x (render (args_text true (args_upto s (i + 1) j))) M N O l f y)
 
 -- ------------------------------------------------------------ `add_arg`
 
-module _ (s S : List ℕ) (i k : ℕ) (d : Loaded s S) (e : k ≡ kind_at S i) where
+module _ (s S : List ℕ) (i : ℕ) (d : Loaded s S) where
   pub arg_falls : (t : ℕ) → rank (line_count S) i 1 ≡ t → rank (line_count S) i 0 < t
   arg_falls t q = omega arith
 
-  module _ (B : List ℕ) (a : ℕ) (U : List ℕ) (b : ℕ) where
-    pub arg_type : k ≤ kinds.type → Adds (render (type_text (type_at s i))) B a U b → Adds (render (arg_text (arg_at s i))) B a U b
+  -- k is the kind, and n that of a type
+  module _ (k n : ℕ) (e : k ≡ kind_at S i) (m : n ≡ kinds.type) (M N : Message) where
+    pub arg_type : k ≤ n → Adds (render (type_text (type_at s i))) M N → Adds (render (arg_text (arg_at s i))) M N
     unfolding arg_text
-    arg_type q x = rw (arg_told s S i k d e, let z : k - kinds.type ≡ 0 = omega arith in z) x
+    arg_type q x = rw (arg_told s S i k d e, let z : k - kinds.type ≡ 0 = omega (arith, m) in z) x
 
-    pub arg_num : (y : List ℕ) → k ≡ kinds.num → y ≡ name_at s S i → Adds y B a U b → Adds (render (arg_text (arg_at s i))) B a U b
+    pub arg_num : (y : List ℕ) → kind_at S i ≡ kinds.num → y ≡ name_at s S i → Adds y M N → Adds (render (arg_text (arg_at s i))) M N
     unfolding arg_text render
-    arg_num y q f x = rw (arg_told s S i k d e, q, ← f, append-nil y) x
+    arg_num y q f x = rw (arg_told s S i k d e, e ∙ q, ← f, append-nil y) x
 
-    pub arg_mofn : kinds.type < k → k ≢ kinds.num → Adds (bytes "_") B a U b → Adds (render (arg_text (arg_at s i))) B a U b
+    pub arg_mofn : n < k → kind_at S i ≢ kinds.num → Adds (bytes "_") M N → Adds (render (arg_text (arg_at s i))) M N
     unfolding arg_text render
-    arg_mofn p q x = rw (arg_told s S i k d e, let z : k - kinds.type ≡ suc (suc (k - kinds.mofn)) = omega arith in z) x
+    arg_mofn p q x =
+        let o : k ≢ kinds.num = λ z. q (sym e ∙ z) in
+        rw (arg_told s S i k d e, let z : k - kinds.type ≡ suc (suc (k - kinds.mofn)) = omega (arith, m) in z) x
 
 -- ------------------------------------------------------------ `add_args`
 
@@ -147,9 +133,9 @@ more_said true p ps = rw (render-append (arg_text p) (args_text false ps)) (sym 
 more_said false p ps = rw (render-append (arg_text p) (args_text false ps)) (sym (append_assoc (bytes ", ") (render (arg_text p)) (render (args_text false ps))))
 
 module _ (s S : List ℕ) (i j : ℕ) (o : Bool) (h : LinesUpto s S j) where
-  pub args_none : (B : List ℕ) (a : ℕ) (U : List ℕ) (b : ℕ) → j ≤ i → Adds (closing o) B a U b → Adds (render (args_text o (args_upto s i j))) B a U b
+  pub args_none : (M N : Message) → j ≤ i → Adds (closing o) M N → Adds (render (args_text o (args_upto s i j))) M N
   unfolding args_upto args_of
-  args_none B a U b e x = rw (upto_none h.loaded i j e, none_said o) x
+  args_none M N e x = rw (upto_none h.loaded i j e, none_said o) x
 
   module _ (e : i < j) where
     pub args_arg_falls : (t : ℕ) → rank (line_count S) i 2 ≡ t → rank (line_count S) i 1 < t
@@ -159,10 +145,10 @@ module _ (s S : List ℕ) (i j : ℕ) (o : Bool) (h : LinesUpto s S j) where
       pub args_falls : (t : ℕ) → rank (line_count S) i 2 ≡ t → rank (line_count S) n 2 < t
       args_falls t q = omega (arith, h.within, all_le (stands h.loaded i (omega (arith, h.within))).held)
 
-      pub args_all : (B : List ℕ) (a : ℕ) (U : List ℕ) (b : ℕ) (W : List ℕ) (c : ℕ) (X : List ℕ) (x : ℕ) → length B < 18446744073709551616 → Adds (bytes (before o)) B a U b
-          → Adds (render (arg_text (arg_at s i))) U b W c → Adds (render (args_text false (args_upto s n j))) W c X x
-          → Adds (render (args_text o (args_upto s i j))) B a X x
+      pub args_all : (M N O P : Message) → length M.buffer.now < 18446744073709551616 → Adds (bytes (before o)) M N
+          → Adds (render (arg_text (arg_at s i))) N O → Adds (render (args_text false (args_upto s n j))) O P
+          → Adds (render (args_text o (args_upto s i j))) M P
       unfolding before
-      args_all B a U b W c X x l p q r =
+      args_all M N O P l p q r =
           let next : args_upto s i j ≡ amore (arg_at s i) (args_upto s n j) = rw f (args_next h.loaded i j (omega (arith, h.within)) e) in
-          rw (next, more_said o (arg_at s i) (args_upto s n j)) (both _ _ B a W c X x l (both _ _ B a U b W c l p q) r)
+          rw (next, more_said o (arg_at s i) (args_upto s n j)) (both _ _ M O P l (both _ _ M N O l p q) r)

@@ -7,12 +7,11 @@ use Prim.Native.Nat.{ℕ, zero, suc, ◌+◌, ◌-◌, ◌*◌, ◌/◌, ◌%◌
 use native.Mathlib.Nat.{add-zero}
 use native.Mathlib.Omega.{arith}
 use lib.Dec.{eqb}
-use lib.ListN.{length, set, take, drop, length-drop}
+use lib.ListN.{length, set, drop}
 use lib.Pow.{pow-add}
-use lib.Seq.{drop-cons, drop-set-add, take_all}
+use lib.Seq.{drop-cons, drop-set-add}
 use borrow.Author.Tests.{eq-eqb, ne_eqb, eqb-true, eqb-false}
 use Rattle.rules.specs.Text.{digits}
-use Rattle.writing.specs.Writing.{Adds}
 
 -- the last digit, behind those of a tenth
 pub digits_last : (k n : ℕ) → n / 10 ≡ 0 → digits (suc k) n ≡ (48 + n % 10) ∷ []
@@ -65,10 +64,3 @@ turn_over t start left r e h = sym (e ∙ rw (let q : start ≡ 0 = omega arith 
 
 pub turn_first : (n : ℕ) → n < 18446744073709551616 → digits 39 n ≡ digits 20 n ++ []
 turn_first n h = digits_enough 19 19 n (omega arith) ∙ sym (append-nil (digits 20 n))
-
--- the part of an array from a place on
-pub tail : (t d : List ℕ) (k : ℕ) → length t ≡ 20 → drop k t ≡ d → take (20 - k) (drop k t) ≡ d
-tail t d k l e = take_all (20 - k) (drop k t) (omega (arith, length-drop k t)) ∙ e
-
-pub part_added : (t d : List ℕ) (k : ℕ) (B : List ℕ) (a : ℕ) (U : List ℕ) (b : ℕ) → length t ≡ 20 → drop k t ≡ d → Adds (take (20 - k) (drop k t)) B a U b → Adds d B a U b
-part_added t d k B a U b l e x = rw (tail t d k l e) at x

@@ -20,6 +20,7 @@ use Rattle.rules.proofs.Places.{there_or_not, no_cell, named_at_lem, type-name_a
 use Rattle.rules.proofs.Standing.{stands, beyond}
 use Rattle.writing.specs.Types.{type_line}
 use Rattle.writing.specs.Writing.{Adds}
+use Rattle.writing.specs.declared.write.Message.{Message}
 
 -- ------------------------------------------------------------ `type_line`
 
@@ -61,8 +62,8 @@ module _ (s S : List ℕ) (d : Loaded s S) where
       (λ w. rw (← line_beyond S i w, beyond d i w) no_type)
 
   module _ (i j : ℕ) (e : j ≡ type_line S i) where
-    pub type_of_lem : (B : List ℕ) (a : ℕ) (U : List ℕ) (b : ℕ) → Adds (render (type_text (type_at s j))) B a U b → Adds (render (type_text (field_at s i).ty)) B a U b
-    type_of_lem B a U b x = rw (← declared_at i, ← e) x
+    pub type_of_lem : (M N : Message) → Adds (render (type_text (type_at s j))) M N → Adds (render (type_text (field_at s i).ty)) M N
+    type_of_lem M N x = rw (← declared_at i, ← e) x
 
     pub type_name_of : (y : List ℕ) → y ≡ name_at s S j → y ≡ type_name (field_at s i).ty
     type_name_of y f = rw (← declared_at i, ← e) (f ∙ named_at_lem d j ∙ sym (type-name_at s j))

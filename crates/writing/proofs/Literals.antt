@@ -22,6 +22,7 @@ use Rattle.rules.specs.Text.{digits}
 use Rattle.rules.specs.Types.{no_underscores, parse, parse_u128, zero_digit}
 use Rattle.writing.specs.Literal.{counting, shown, AddsLiteral}
 use Rattle.writing.specs.Writing.{Adds}
+use Rattle.writing.specs.declared.write.Message.{Message}
 use Rattle.writing.proofs.Adding.{both, adds_none}
 use Rattle.writing.proofs.Decimals.{digits_last, digits_more, digits_enough}
 
@@ -189,23 +190,23 @@ no_underscores_append (b ∷ bs) ys = by_cases (eqb b 95) (no_underscores_append
     by_cases true e = e
     by_cases false e = ap (λ xs. b ∷ xs) e
 
-pub digits_start : (t B : List ℕ) (a : ℕ) → a < 18446744073709551616 → Adds (no_underscores (take 0 t)) B a B a
+pub digits_start : (t : List ℕ) (M : Message) → M.length < 18446744073709551616 → Adds (no_underscores (take 0 t)) M M
 unfolding no_underscores
-digits_start t B a h = adds_none B a h
+digits_start t M h = adds_none M h
 
--- A turn: the message of a bytes has b bytes now, and i is the place of the turn.
-module _ (t B : List ℕ) (a : ℕ) (U : List ℕ) (b i : ℕ) (x : Adds (no_underscores (take i t)) B a U b) where
-  pub digits-skip : get_or t i 0 ≡ 95 → i < length t → Adds (no_underscores (take (i + 1) t)) B a U b
+-- A turn: the message M is N now, and i is the place of the turn.
+module _ (t : List ℕ) (M N : Message) (i : ℕ) (x : Adds (no_underscores (take i t)) M N) where
+  pub digits-skip : get_or t i 0 ≡ 95 → i < length t → Adds (no_underscores (take (i + 1) t)) M N
   unfolding no_underscores
   digits-skip e h =
       rw (add-one i, take-suc t i 0 h, e, no_underscores_append (take i t) (95 ∷ []), append-nil (no_underscores (take i t))) x
 
-  pub digits_add : (W : List ℕ) (c : ℕ) → length B < 18446744073709551616 → get_or t i 0 ≢ 95 → i < length t → Adds (get_or t i 0 ∷ []) U b W c → Adds (no_underscores (take (i + 1) t)) B a W c
+  pub digits_add : (O : Message) → length M.buffer.now < 18446744073709551616 → get_or t i 0 ≢ 95 → i < length t → Adds (get_or t i 0 ∷ []) N O → Adds (no_underscores (take (i + 1) t)) M O
   unfolding no_underscores
-  digits_add W c l e h y =
-      rw (add-one i, take-suc t i 0 h, no_underscores_append (take i t) (get_or t i 0 ∷ []), no_underscore (get_or t i 0) [] e) (both (no_underscores (take i t)) (get_or t i 0 ∷ []) B a U b W c l x y)
+  digits_add O l e h y =
+      rw (add-one i, take-suc t i 0 h, no_underscores_append (take i t) (get_or t i 0 ∷ []), no_underscore (get_or t i 0) [] e) (both (no_underscores (take i t)) (get_or t i 0 ∷ []) M N O l x y)
 
-  pub digits_over : length t ≤ i → Adds (no_underscores t) B a U b
+  pub digits_over : length t ≤ i → Adds (no_underscores t) M N
   digits_over h = rw (take_all i t h) at x
 
 -- ------------------------------------------------------------ `add_literal`
@@ -247,8 +248,8 @@ literal_said t c cs n e p q =
     ap (digits 39) v ∙ digits_given c (no_underscores cs) (above_zero c d.0 z.0) d.1 d.2 (subst (λ y. y < 10 ^ 39) v (below n TOP (10 ^ 39) g.1 (leb-true (suc TOP) (10 ^ 39) refl))) ∙ sym u
 
 -- k is the start of the digits that count
-module _ (t B : List ℕ) (a : ℕ) (U : List ℕ) (b k : ℕ) (e : drop k t ≡ counting t) where
-  pub literal_zero : length t ≤ k → Adds (48 ∷ []) B a U b → AddsLiteral t B a U b
+module _ (t : List ℕ) (M N : Message) (k : ℕ) (e : drop k t ≡ counting t) where
+  pub literal_zero : length t ≤ k → Adds (48 ∷ []) M N → AddsLiteral t M N
   unfolding parse_u128 no_underscores value_from digits shown
   literal_zero h x =
       let c : counting t ≡ [] = sym e ∙ drop_of_length-le t h in
@@ -257,11 +258,11 @@ module _ (t B : List ℕ) (a : ℕ) (U : List ℕ) (b k : ℕ) (e : drop k t ≡
         number = λ n p q. let f : n ≡ 0 = (parsed _ (no_underscores t) n q).0 ∙ (counts t).value ∙ rw c refl in rw f x;
       }
 
-  pub literal-digits : k < length t → Adds (no_underscores (take (length t - k) (drop k t))) B a U b → AddsLiteral t B a U b
+  pub literal-digits : k < length t → Adds (no_underscores (take (length t - k) (drop k t))) M N → AddsLiteral t M N
   unfolding shown
   literal-digits h x =
       let d = drop-cons t k 0 h in
       let c : counting t ≡ get_or t k 0 ∷ drop (suc k) t = sym e ∙ d in
       let w = take_all (length t - k) (drop k t) (omega (arith, length-drop k t)) ∙ d in
-      let y : Adds (no_underscores (get_or t k 0 ∷ drop (suc k) t)) B a U b = subst (λ y. Adds (no_underscores y) B a U b) w x in
+      let y : Adds (no_underscores (get_or t k 0 ∷ drop (suc k) t)) M N = subst (λ y. Adds (no_underscores y) M N) w x in
       record { always = rw c y; number = λ n p q. rw (literal_said t (get_or t k 0) (drop (suc k) t) n c p q) y }

@@ -6,6 +6,7 @@ use Rattle.text.specs.Field.{plain}
 use Rattle.rules.specs.Text.{digits}
 use Rattle.rules.specs.Types.{no_underscores, parse_u128, zero_digit}
 use Rattle.writing.specs.Writing.{Adds}
+use Rattle.writing.specs.declared.write.Message.{Message}
 
 -- the text from its first byte on that is no zero and no underscore
 unfoldable pub counting : List ℕ → List ℕ
@@ -18,6 +19,6 @@ shown [] = 48 ∷ []
 shown (b ∷ bs) = no_underscores (b ∷ bs)
 
 -- What a function does that adds a literal's text: its shown digits, which are those of its number where it has digits and underscores only and is a u128.
-pub record AddsLiteral (text B : List ℕ) (at : ℕ) (U : List ℕ) (at' : ℕ) : Type 0 where
-  pub always : Adds (shown (counting text)) B at U at'
-  pub number : (n : ℕ) → all (plain false) text ≡ true → parse_u128 text ≡ some n → Adds (digits 39 n) B at U at'
+pub record AddsLiteral (text : List ℕ) (M N : Message) : Type 0 where
+  pub always : Adds (shown (counting text)) M N
+  pub number : (n : ℕ) → all (plain false) text ≡ true → parse_u128 text ≡ some n → Adds (digits 39 n) M N

@@ -1,5 +1,6 @@
 -- A message written piece by piece.
 use Rattle.std.specs.Prelude.{ℕ, zero, suc, ◌+◌, List, [], ◌∷◌, cond, ◌≡◌, leb, length}
+use Rattle.writing.specs.declared.write.Message.{Message}
 
 -- the largest usize, which is more bytes than a buffer has
 abbrev pub MOST : ℕ
@@ -16,7 +17,8 @@ overlay (b ∷ bs) (suc at) text = b ∷ overlay bs at text
 overlay (b ∷ bs) zero [] = b ∷ bs
 overlay (b ∷ bs) zero (c ∷ cs) = c ∷ overlay bs zero cs
 
--- What a function does that adds the text to a message of `at` bytes: the message then has at' bytes, and the buffer B is U.
-pub record Adds (text B : List ℕ) (at : ℕ) (U : List ℕ) (at' : ℕ) : Type 0 where
-  pub told : at' ≡ told_as (at + length text)
-  pub buffer : U ≡ overlay B at text
+-- What a function does that adds the text to the message M, which is N then: in the same buffer, as far as it has room, and with the length of both.
+pub record Adds (text : List ℕ) (M N : Message) : Type 0 where
+  pub told : N.length ≡ told_as (M.length + length text)
+  pub buffer : N.buffer.now ≡ overlay M.buffer.now M.length text
+  pub lent : N.buffer.ghost_name ≡ M.buffer.ghost_name

@@ -4,7 +4,7 @@ ghost use Rattle.rules.specs.Types.{no_underscores};
 ghost use Rattle.writing.specs.Writing.{Adds};
 ghost use Rattle.writing.specs.Literal.{AddsLiteral, counting};
 
-use crate::write::add;
+use crate::write::Message;
 use lookups::zero_digit;
 
 // Where the digits start that count.
@@ -17,27 +17,27 @@ fn start_of(text: &[u8]) -> usize
         .unwrap_or(text.len())
 }
 
-// Adds a text without its underscores.
-fn add_digits(buffer: &mut [u8], at: usize, text: &[u8]) -> usize
-    ensures { Adds (no_underscores text.now) buffer.old at buffer.new result }
-{
-    let mut end = at;
-    for &b in text {
-        if b == b'_' {
-            continue;
+impl Message<'_> {
+    // Adds a text without its underscores.
+    fn add_digits(&mut self, text: &[u8])
+        ensures { Adds (no_underscores text.now) self.old self.new }
+    {
+        for &b in text {
+            if b == b'_' {
+                continue;
+            }
+            self.add(&[b]);
         }
-        end = add(buffer, end, &[b]);
     }
-    end
-}
 
-// Adds the number that a literal's text means.
-pub fn add_literal(buffer: &mut [u8], at: usize, text: &[u8]) -> usize
-    ensures { AddsLiteral text.now buffer.old at buffer.new result }
-{
-    let start = start_of(text);
-    if text.len() <= start {
-        return add(buffer, at, b"0");
+    // Adds the number that a literal's text means.
+    pub fn add_literal(&mut self, text: &[u8])
+        ensures { AddsLiteral text.now self.old self.new }
+    {
+        let start = start_of(text);
+        if text.len() <= start {
+            return self.add(b"0");
+        }
+        self.add_digits(&text[start..]);
     }
-    add_digits(buffer, at, &text[start..])
 }

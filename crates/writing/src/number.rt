@@ -3,7 +3,7 @@ ghost use Rattle.std.specs.Prelude.{◌≡◌, ◌≤◌, drop, length};
 ghost use Rattle.rules.specs.Text.{digits};
 ghost use Rattle.writing.specs.Writing.{Adds};
 
-use crate::write::add;
+use crate::write::Message;
 
 // Twenty bytes, of which those from start on are the digits.
 #[derive(Clone, Copy)]
@@ -29,12 +29,14 @@ fn decimal_of(n: u64) -> Digits
     Digits { text, start: 0 }
 }
 
-// Adds the decimal digits of n.
-pub fn add_decimal(buffer: &mut [u8], at: usize, n: u64) -> usize
-    ensures { Adds (digits 39 n) buffer.old at buffer.new result }
-{
-    let d = decimal_of(n);
-    let text = d.text;
-    let start = d.start;
-    add(buffer, at, &text[start..])
+impl Message<'_> {
+    // Adds the decimal digits of n.
+    pub fn add_decimal(&mut self, n: u64)
+        ensures { Adds (digits 39 n) self.old self.new }
+    {
+        let d = decimal_of(n);
+        let text = d.text;
+        let start = d.start;
+        self.add(&text[start..]);
+    }
 }

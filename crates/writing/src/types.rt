@@ -8,76 +8,79 @@ ghost use Rattle.rules.specs.Standing.{arg_at, field_at, type_at};
 ghost use Rattle.writing.specs.Writing.{Adds};
 ghost use Rattle.writing.specs.Types.{args_upto, before, closing, LinesUpto, type_line};
 
-use crate::write::add;
-use grammar::kinds;
-use sheet::{LoadedSheet, end, line_count};
+use crate::write::Message;
+use grammar::Kind;
+use sheet::{LoadedSheet, end, kind, line_count};
 
-// Adds what stands before an argument, the first or another.
-fn add_before(buffer: &mut [u8], at: usize, first: bool) -> usize
-    ensures { Adds (bytes (before first)) buffer.old at buffer.new result }
-{
-    if first {
-        return add(buffer, at, b"<");
+impl Message<'_> {
+    // Adds what stands before an argument, the first or another.
+    fn add_before(&mut self, first: bool)
+        ensures { Adds (bytes (before first)) self.old self.new }
+    {
+        if first {
+            return self.add(b"<");
+        }
+        self.add(b", ");
     }
-    add(buffer, at, b", ")
-}
 
-// Adds what stands behind the last argument, nothing where there is none.
-fn add_closing(buffer: &mut [u8], at: usize, first: bool) -> usize
-    ensures { Adds (closing first) buffer.old at buffer.new result }
-{
-    if first {
-        return at;
+    // Adds what stands behind the last argument, nothing where there is none.
+    #[tactic(auto, unfolding(crate::specs::Types::closing))]
+    fn add_closing(&mut self, first: bool)
+        ensures { Adds (closing first) self.old self.new }
+    {
+        // An empty piece, since without a call the length is not known to fit its type.
+        if first {
+            return self.add(b"");
+        }
+        self.add(b">");
     }
-    add(buffer, at, b">")
-}
 
-// Adds the text of the record at line i as a type, whose arguments are its parts.
-#[cycle(type_text)]
-pub fn add_type(sheet: &LoadedSheet<'_>, buffer: &mut [u8], at: usize, i: usize) -> usize
-    ensures { Adds (render (type_text (type_at sheet.now.bytes.now i))) buffer.old at buffer.new result }
-{
-    if line_count(sheet.lines) <= i {
-        return at;
+    // Adds the text of the record at line i as a type, whose arguments are its parts.
+    #[cycle(type_text)]
+    pub fn add_type(&mut self, sheet: &LoadedSheet<'_>, i: usize)
+        ensures { Adds (render (type_text (type_at sheet.now.bytes.now i))) self.old self.new }
+    {
+        if line_count(sheet.lines) <= i {
+            return;
+        }
+        self.add(sheet.name(i));
+        self.add_args(sheet, i + 1, sheet.end(i), true);
     }
-    let named = add(buffer, at, sheet.name(i));
-    add_args(sheet, buffer, named, i + 1, sheet.end(i), true)
-}
 
-// Adds the text of the record at line i as an argument: each kind up to that of a type is a type, as `arg_of` has it for any line.
-#[cycle(type_text)]
-fn add_arg(sheet: &LoadedSheet<'_>, buffer: &mut [u8], at: usize, i: usize) -> usize
-    ensures { Adds (render (arg_text (arg_at sheet.now.bytes.now i))) buffer.old at buffer.new result }
-{
-    let k = sheet.kind(i);
-    if k <= kinds::TYPE {
-        return add_type(sheet, buffer, at, i);
+    // Adds the text of the record at line i as an argument: each kind up to that of a type is a type, as `arg_of` has it for any line.
+    #[cycle(type_text)]
+    fn add_arg(&mut self, sheet: &LoadedSheet<'_>, i: usize)
+        ensures { Adds (render (arg_text (arg_at sheet.now.bytes.now i))) self.old self.new }
+    {
+        if kind(sheet.lines, i) <= Kind::Type.number() {
+            return self.add_type(sheet, i);
+        }
+        if sheet.is(i, Kind::Num) {
+            return self.add(sheet.name(i));
+        }
+        self.add(b"_");
     }
-    if k == kinds::NUM {
-        return add(buffer, at, sheet.name(i));
-    }
-    add(buffer, at, b"_")
-}
 
-// Adds the arguments from line i on, up to line stop, and what ends them.
-#[cycle(type_text)]
-fn add_args(
-    sheet: &LoadedSheet<'_>,
-    buffer: &mut [u8],
-    at: usize,
-    i: usize,
-    stop: usize,
-    first: bool,
-) -> usize
-    requires { LinesUpto sheet.now.bytes.now sheet.now.lines.now stop }
-    ensures { Adds (render (args_text first (args_upto sheet.now.bytes.now i stop))) buffer.old at buffer.new result }
-{
-    if stop <= i {
-        return add_closing(buffer, at, first);
+    // Adds the arguments from line i on, up to line stop, and what ends them.
+    #[cycle(type_text)]
+    fn add_args(&mut self, sheet: &LoadedSheet<'_>, i: usize, stop: usize, first: bool)
+        requires { LinesUpto sheet.now.bytes.now sheet.now.lines.now stop }
+        ensures { Adds (render (args_text first (args_upto sheet.now.bytes.now i stop))) self.old self.new }
+    {
+        if stop <= i {
+            return self.add_closing(first);
+        }
+        self.add_before(first);
+        self.add_arg(sheet, i);
+        self.add_args(sheet, sheet.end(i), stop, false);
     }
-    let parted = add_before(buffer, at, first);
-    let told = add_arg(sheet, buffer, parted, i);
-    add_args(sheet, buffer, told, sheet.end(i), stop, false)
+
+    // Adds the text of the type that the field or parameter at line i declares.
+    pub fn add_type_of(&mut self, sheet: &LoadedSheet<'_>, i: usize)
+        ensures { Adds (render (type_text (field_at sheet.now.bytes.now i).ty)) self.old self.new }
+    {
+        self.add_type(sheet, type_line(sheet.lines, i));
+    }
 }
 
 // The line of the type that the field or parameter at line i declares; one that isn't there where it declares none.
@@ -94,14 +97,7 @@ fn type_line(lines: &[u16], i: usize) -> usize
     n
 }
 
-// Adds the text of the type that the field or parameter at line i declares.
-pub fn add_type_of(sheet: &LoadedSheet<'_>, buffer: &mut [u8], at: usize, i: usize) -> usize
-    ensures { Adds (render (type_text (field_at sheet.now.bytes.now i).ty)) buffer.old at buffer.new result }
-{
-    add_type(sheet, buffer, at, type_line(sheet.lines, i))
-}
-
-// The name of that type, as the part of the sheet that holds it; an empty part where there is none.
+// The name of the type that the field or parameter at line i declares, as the part of the sheet that holds it; an empty part where there is none.
 pub fn type_name_of<'a>(sheet: &LoadedSheet<'a>, i: usize) -> &'a [u8]
     ensures { result.now ≡ type_name (field_at sheet.now.bytes.now i).ty }
 {

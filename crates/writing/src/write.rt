@@ -2,8 +2,12 @@
 ghost use Rattle.std.specs.Prelude.{◌++◌, ◌≡◌};
 ghost use Rattle.writing.specs.Writing.{Adds, overlay};
 
-// The length that is told of a longer message.
-const MOST: usize = 18446744073709551615;
+// A message of `length` bytes; the buffer has those that it has room for.
+#[derive(Drop)]
+pub struct Message<'a> {
+    buffer: &'a mut [u8],
+    pub length: usize,
+}
 
 // Writes the piece over the start of the rest, up to its end.
 fn put(rest: &mut [u8], piece: &[u8])
@@ -23,22 +27,30 @@ fn write(buffer: &mut [u8], at: usize, piece: &[u8])
     put(&mut buffer[at..], piece);
 }
 
-// Adds a piece to a message of `at` bytes, and answers how many there are then.
-pub fn add(buffer: &mut [u8], at: usize, piece: &[u8]) -> usize
-    ensures { Adds piece.now buffer.old at buffer.new result }
-{
-    write(buffer, at, piece);
-    if MOST - at < piece.len() {
-        return MOST;
+impl<'a> Message<'a> {
+    // The message of no bytes, to be written into the buffer from its start on.
+    pub fn new(buffer: &'a mut [u8]) -> Message<'a>
+        ensures same_buffer { result.buffer.ghost_name ≡ buffer.entry.ghost_name }
+        ensures unwritten { result.buffer.now ≡ buffer.old }
+        ensures no_bytes { result.length ≡ 0 }
+    {
+        Message { buffer, length: 0 }
     }
-    at + piece.len()
-}
 
-// Adds a name between two texts.
-pub fn say(buffer: &mut [u8], at: usize, before: &[u8], name: &[u8], after: &[u8]) -> usize
-    ensures { Adds (before.now ++ (name.now ++ after.now)) buffer.old at buffer.new result }
-{
-    let named = add(buffer, at, before);
-    let told = add(buffer, named, name);
-    add(buffer, told, after)
+    // Adds a piece at the end. A length above the largest usize is told as that.
+    pub fn add(&mut self, piece: &[u8])
+        ensures { Adds piece.now self.old self.new }
+    {
+        write(self.buffer, self.length, piece);
+        self.length = self.length.saturating_add(piece.len());
+    }
+
+    // Adds a name between two texts.
+    pub fn say(&mut self, before: &[u8], name: &[u8], after: &[u8])
+        ensures { Adds (before.now ++ (name.now ++ after.now)) self.old self.new }
+    {
+        self.add(before);
+        self.add(name);
+        self.add(after);
+    }
 }

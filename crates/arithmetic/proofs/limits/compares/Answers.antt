@@ -1,31 +1,22 @@
-use borrow.Author.Rules.{rules}
-use Rattle.arithmetic.proofs.Ops.{expr_next, bin_left, bin_right}
+use Rattle.sheet.proofs.Tested.{tested}
+use Rattle.arithmetic.proofs.Ops.{bin_left, bin_right}
 use Rattle.arithmetic.proofs.Capping.{no_bin, compares_below, compares_above, compares_not}
 use Rattle.arithmetic.proofs.limits.compares.Goals as goal
 
-pub returns-then-kind-ne-BIN : goal.returns-then-kind-ne-BIN
-returns-then-kind-ne-BIN c = search (rules, no_bin)
-
-pub overflow_add-i : goal.overflow_add-i
-overflow_add-i c = search (rules, expr_next)
-
-pub overflow_add-i-then-o : goal.overflow_add-i-then-o
-overflow_add-i-then-o c = search (rules, expr_next)
+pub returns-then-not-is : goal.returns-then-not-is
+returns-then-not-is c = search (tested, no_bin)
 
 pub upper_bounds-requires : goal.upper_bounds-requires
-upper_bounds-requires c = record { small_at = search (rules, bin_left, bin_right); large_at = search (rules, bin_left, bin_right) }
+upper_bounds-requires c = record { small_at = search (tested, bin_left); large_at = search (tested, bin_right) }
 
-pub returns-then-o : goal.returns-then-o
-returns-then-o c = search (rules, compares_below)
+pub upper_bounds-requires-in-Ge : goal.upper_bounds-requires-in-Ge
+upper_bounds-requires-in-Ge c = record { small_at = search (tested, bin_left, bin_right); large_at = search (tested, bin_left, bin_right) }
 
-pub overflow_add-i-then-o-2 : goal.overflow_add-i-then-o-2
-overflow_add-i-then-o-2 c = search (rules, expr_next)
+pub returns-in-Le : goal.returns-in-Le
+returns-in-Le c = search (tested, compares_below)
 
-pub upper_bounds-requires-then-o-2 : goal.upper_bounds-requires-then-o-2
-upper_bounds-requires-then-o-2 c = record { small_at = search (rules, bin_left, bin_right); large_at = search (rules, bin_left, bin_right) }
+pub returns-in-Ge : goal.returns-in-Ge
+returns-in-Ge c = search (tested, compares_above)
 
-pub returns-then-o-2 : goal.returns-then-o-2
-returns-then-o-2 c = search (rules, compares_above)
-
-pub returns : goal.returns
-returns c = search (rules, compares_not)
+pub returns-in_default : goal.returns-in_default
+returns-in_default c = search (tested, compares_not)

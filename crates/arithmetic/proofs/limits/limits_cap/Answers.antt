@@ -1,15 +1,15 @@
-use borrow.Author.Rules.{rules}
+use Rattle.sheet.proofs.Tested.{tested}
 use Rattle.arithmetic.proofs.Capping.{other_clause, clause_next, limits_expr, limits_clause}
 use Rattle.arithmetic.proofs.limits.limits_cap.Goals as goal
 
-pub returns-then-kind-ne-LIMITS : goal.returns-then-kind-ne-LIMITS
-returns-then-kind-ne-LIMITS c = search (rules, other_clause)
+pub returns-then-not-is : goal.returns-then-not-is
+returns-then-not-is c = search (tested, other_clause)
 
 pub overflow_add-i : goal.overflow_add-i
-overflow_add-i c = search (rules, clause_next)
+overflow_add-i c = search (tested, clause_next)
 
 pub caps_from_above-requires : goal.caps_from_above-requires
-caps_from_above-requires c = search (rules, limits_expr)
+caps_from_above-requires c = search (tested, limits_expr)
 
 pub returns : goal.returns
-returns c = search (rules, limits_clause)
+returns c = search (tested, limits_clause)

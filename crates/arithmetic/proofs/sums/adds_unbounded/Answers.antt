@@ -1,18 +1,29 @@
 use borrow.Author.Rules.{rules}
-use Rattle.arithmetic.proofs.Adding.{adds_nothing, adds_all, adds_no_sum, adds_no_target, adds_others}
+use mathlib.Core.Path.{sym, ◌∙◌}
+use mathlib.Core.Bool.{true≢false}
+use Rattle.arithmetic.proofs.Adding.{adds_nothing, adds_taken, adds_all, adds_no_sum, adds_no_target, adds_others}
+use Rattle.arithmetic.proofs.sums.adds_unbounded.Goals.{then-is_op, else-is_op}
 use Rattle.arithmetic.proofs.sums.adds_unbounded.Goals as goal
 
-pub returns-then-op-acknowledged : goal.returns-then-op-acknowledged
-returns-then-op-acknowledged c = search (rules, adds_nothing)
+pub returns-then-acknowledged : goal.returns-then-acknowledged
+returns-then-acknowledged c = search (rules, adds_nothing)
 
-pub returns-then-op-eq-ASSIGN_ADD : goal.returns-then-op-eq-ASSIGN_ADD
-returns-then-op-eq-ASSIGN_ADD c = search (rules, adds_all)
+pub returns-then-has_target : goal.returns-then-has_target
+returns-then-has_target c =
+    elim c.if-is_op.branch [
+      | then-is_op w ↦ search (rules, adds_others, w.has_target.ensures, w.if-is_op.true, w.value-is)
+      | else-is_op w ↦ absurd (true≢false (sym c.if-has_target.true ∙ w.value-is ∙ w.if-is_op.false))
+    ]
 
-pub returns-then-not-is_op : goal.returns-then-not-is_op
-returns-then-not-is_op c = search (rules, adds_no_sum)
+pub returns-else-has_target : goal.returns-else-has_target
+returns-else-has_target c =
+    elim c.if-is_op.branch [
+      | then-is_op w ↦ search (rules, adds_no_target, w.has_target.ensures, w.if-is_op.true, w.value-is)
+      | else-is_op w ↦ search (rules, adds_no_sum, w.if-is_op.false)
+    ]
 
-pub returns-then-not-has_target : goal.returns-then-not-has_target
-returns-then-not-has_target c = search (rules, adds_no_target)
+pub returns-in-Add : goal.returns-in-Add
+returns-in-Add c = search (rules, adds_all)
 
-pub returns : goal.returns
-returns c = search (rules, adds_others)
+pub returns-in-Sub : goal.returns-in-Sub
+returns-in-Sub c = search (rules, adds_taken)

@@ -5,8 +5,8 @@ use Rattle.arithmetic.proofs.sums.has_mints.Goals as goal
 pub loop-at-init : goal.loop-at-init
 loop-at-init c = mints_start _ _ _ _ c.requires (cc) (cc) (cc)
 
-pub returns-then-kind-eq-MINTS : goal.returns-then-kind-eq-MINTS
-returns-then-kind-eq-MINTS c = search (seeks, mints_found, c.in-Some.ensures.steps)
+pub returns-then-is : goal.returns-then-is
+returns-then-is c = search (seeks, mints_found, c.in-Some.ensures.steps)
 
 pub loop-at-preserved : goal.loop-at-preserved
 loop-at-preserved c = search (seeks, mints_next, c.in-Some.ensures.steps)

@@ -1,12 +1,12 @@
-use borrow.Author.Rules.{rules}
+use Rattle.sheet.proofs.Tested.{tested}
 use Rattle.assets.proofs.Walk.{no_call, callee_here, a_call}
 use Rattle.assets.proofs.made.is_asset_call.Goals as goal
 
-pub returns-then-kind-ne-CALL : goal.returns-then-kind-ne-CALL
-returns-then-kind-ne-CALL c = search (rules, no_call)
+pub returns-then-not-is : goal.returns-then-not-is
+returns-then-not-is c = search (tested, no_call)
 
 pub makes_asset-requires : goal.makes_asset-requires
-makes_asset-requires c = search (rules, callee_here)
+makes_asset-requires c = search (tested, callee_here)
 
 pub returns : goal.returns
-returns c = search (rules, a_call)
+returns c = search (tested, a_call)

@@ -6,11 +6,11 @@ use Rattle.checking.proofs.entry.check_let.Goals as goal
 pub ty_of-requires : goal.ty_of-requires
 ty_of-requires c = search (rules, let_asks)
 
-pub returns-then-ty-eq-COLLECTION : goal.returns-then-ty-eq-COLLECTION
-returns-then-ty-eq-COLLECTION c = search (rules, let_collection, c.in_ok-ty.was)
+pub returns-then-eq : goal.returns-then-eq
+returns-then-eq c = search (rules, let_collection, c.in_ok-ty.was)
 
-pub returns-else-ty-eq-COLLECTION : goal.returns-else-ty-eq-COLLECTION
-returns-else-ty-eq-COLLECTION c = search (rules, let_bound, c.in_ok-ty.was)
+pub returns-else-eq : goal.returns-else-eq
+returns-else-eq c = search (rules, let_bound, c.in_ok-ty.was)
 
 pub returns-in_err-ty : goal.returns-in_err-ty
 returns-in_err-ty c = rw (handed_on _ _ c.from_residual.ensures) (search (rules, let_refused, c.in_err-ty.was))

@@ -6,11 +6,11 @@ use Rattle.checking.proofs.records.clause_predicate.Goals as goal
 pub expect_predicate-requires : goal.expect_predicate-requires
 expect_predicate-requires c = search (rules, clause_asks)
 
-pub shape_of-table-then-k : goal.shape_of-table-then-k
-shape_of-table-then-k c = search (rules, does_length)
+pub shape_of-table-then-is : goal.shape_of-table-then-is
+shape_of-table-then-is c = search (rules, does_length)
 
-pub returns-then-k : goal.returns-then-k
-returns-then-k c = search (rules, clause_does)
+pub returns-then-is : goal.returns-then-is
+returns-then-is c = search (rules, clause_does)
 
 pub returns : goal.returns
 returns c = search (rules, clause_other)

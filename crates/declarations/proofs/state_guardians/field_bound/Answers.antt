@@ -1,9 +1,9 @@
 use borrow.Author.Rules.{rules}
-use Rattle.declarations.proofs.Bounds.{next_fits, field_typed, field_rest, field_fine, field_passed, field-refused}
+use Rattle.declarations.proofs.Bounds.{field_fits, field_typed, field_rest, field_fine, field_passed, field-refused}
 use Rattle.declarations.proofs.state_guardians.field_bound.Goals as goal
 
 pub overflow_add-field : goal.overflow_add-field
-overflow_add-field c = search (rules, next_fits)
+overflow_add-field c = search (rules, field_fits)
 
 pub guardian_bound-requires : goal.guardian_bound-requires
 guardian_bound-requires c = search (rules, field_typed)

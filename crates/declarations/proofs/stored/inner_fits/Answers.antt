@@ -1,9 +1,12 @@
 use borrow.Author.Rules.{rules}
-use Rattle.declarations.proofs.Storing.{inner_name, inner_other}
+use Rattle.declarations.proofs.Storing.{inner_name, inner_refused, inner_other}
 use Rattle.declarations.proofs.stored.inner_fits.Goals as goal
 
-pub returns-then-decl-eq-NAME : goal.returns-then-decl-eq-NAME
-returns-then-decl-eq-NAME c = search (rules, inner_name)
+pub returns-in-Name : goal.returns-in-Name
+returns-in-Name c = search (rules, inner_name)
 
-pub returns : goal.returns
-returns c = search (rules, inner_other)
+pub returns-in-Unknown : goal.returns-in-Unknown
+returns-in-Unknown c = search (rules, inner_refused)
+
+pub returns-in_default : goal.returns-in_default
+returns-in_default c = search (rules, inner_other)

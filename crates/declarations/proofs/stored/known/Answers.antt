@@ -2,8 +2,8 @@ use borrow.Author.Rules.{rules}
 use Rattle.declarations.proofs.Known.{known-unknown, known-args}
 use Rattle.declarations.proofs.stored.known.Goals as goal
 
-pub returns-then-decl-eq-UNKNOWN : goal.returns-then-decl-eq-UNKNOWN
-returns-then-decl-eq-UNKNOWN c = search (rules, known-unknown)
+pub returns-then-eq : goal.returns-then-eq
+returns-then-eq c = search (rules, known-unknown)
 
 pub returns : goal.returns
 returns c = search (rules, known-args)

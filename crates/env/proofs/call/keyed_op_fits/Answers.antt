@@ -5,8 +5,8 @@ use Rattle.env.proofs.call.keyed_op_fits.Goals as goal
 pub returns-then-is_word : goal.returns-then-is_word
 returns-then-is_word c = search (rules, registry_op)
 
-pub returns-then-index_in-lt4 : goal.returns-then-index_in-lt4
-returns-then-index_in-lt4 c = search (rules, map_op)
+pub returns-then-is_some : goal.returns-then-is_some
+returns-then-is_some c = search (rules, map_op)
 
 pub returns : goal.returns
 returns c = search (rules, amount_op)

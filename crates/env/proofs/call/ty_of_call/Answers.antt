@@ -1,12 +1,12 @@
-use borrow.Author.Rules.{rules}
+use Rattle.sheet.proofs.Tested.{tested}
 use Rattle.env.proofs.Methods.{typed_method, minted, not_minted}
 use Rattle.env.proofs.call.ty_of_call.Goals as goal
 
-pub returns-then-k-eq-DOT : goal.returns-then-k-eq-DOT
-returns-then-k-eq-DOT c = search (rules, typed_method)
+pub returns-then-is : goal.returns-then-is
+returns-then-is c = search (tested, typed_method)
 
-pub returns-then-k-is_word : goal.returns-then-k-is_word
-returns-then-k-is_word c = search (rules, minted)
+pub returns-then-is-is_word : goal.returns-then-is-is_word
+returns-then-is-is_word c = search (tested, minted)
 
-pub returns-else-k-is_word : goal.returns-else-k-is_word
-returns-else-k-is_word c = search (rules, not_minted)
+pub returns-else-is-is_word : goal.returns-else-is-is_word
+returns-else-is-is_word c = search (tested, not_minted)

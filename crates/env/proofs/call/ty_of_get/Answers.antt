@@ -5,8 +5,8 @@ use Rattle.env.proofs.call.ty_of_get.Goals as goal
 pub returns-then-not-is_word : goal.returns-then-not-is_word
 returns-then-not-is_word c = search (rules, no_map)
 
-pub returns-then-value : goal.returns-then-value
-returns-then-value c = search (rules, no_value)
+pub returns-then-eq : goal.returns-then-eq
+returns-then-eq c = search (rules, no_value)
 
-pub returns-else-value : goal.returns-else-value
-returns-else-value c = search (rules, its_value)
+pub returns-else-eq : goal.returns-else-eq
+returns-else-eq c = search (rules, its_value)

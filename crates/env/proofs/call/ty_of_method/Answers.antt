@@ -1,14 +1,17 @@
 use borrow.Author.Rules.{rules}
 use Rattle.env.proofs.Lookups.{found_next, found_typed}
-use Rattle.env.proofs.Methods.{method_most, by_method, by_get, no_get}
+use Rattle.env.proofs.Methods.{by_contains, by_split, by_other, by_get, no_get}
 use Rattle.grammar.specs.Kinds as kinds
 use Rattle.env.proofs.call.ty_of_method.Goals as goal
 
-pub method_code-requires : goal.method_code-requires
-method_code-requires c = search (rules, method_most)
+pub returns-then-is_word : goal.returns-then-is_word
+returns-then-is_word c = search (rules, by_contains)
 
-pub returns-then-place-ne2 : goal.returns-then-place-ne2
-returns-then-place-ne2 c = search (rules, by_method)
+pub returns-then-is_word-2 : goal.returns-then-is_word-2
+returns-then-is_word-2 c = search (rules, by_split)
+
+pub returns-then-not-is_word : goal.returns-then-not-is_word
+returns-then-not-is_word c = search (rules, by_other)
 
 pub overflow_add-field : goal.overflow_add-field
 overflow_add-field c = search (rules, found_next kinds.field)

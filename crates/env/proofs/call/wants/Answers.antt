@@ -5,8 +5,8 @@ use Rattle.env.proofs.call.wants.Goals as goal
 pub returns-then-is_word : goal.returns-then-is_word
 returns-then-is_word c = search (rules, wants_two)
 
-pub returns-then-index_in-lt6 : goal.returns-then-index_in-lt6
-returns-then-index_in-lt6 c = search (rules, wants_one)
+pub returns-then-is_some : goal.returns-then-is_some
+returns-then-is_some c = search (rules, wants_one)
 
-pub returns-else-index_in-lt6 : goal.returns-else-index_in-lt6
-returns-else-index_in-lt6 c = search (rules, wants_none)
+pub returns-else-is_some : goal.returns-else-is_some
+returns-else-is_some c = search (rules, wants_none)

@@ -1,9 +1,9 @@
-use borrow.Author.Rules.{rules}
+use Rattle.sheet.proofs.Tested.{tested}
 use Rattle.env.proofs.Lookups.{no_name, name-param}
 use Rattle.env.proofs.env.is_name_param.Goals as goal
 
-pub returns-then-kind-ne-ID : goal.returns-then-kind-ne-ID
-returns-then-kind-ne-ID c = search (rules, no_name)
+pub returns-then-not-is : goal.returns-then-not-is
+returns-then-not-is c = search (tested, no_name)
 
 pub returns : goal.returns
-returns c = search (rules, name-param)
+returns c = search (tested, name-param)

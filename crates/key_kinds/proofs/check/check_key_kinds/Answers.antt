@@ -7,7 +7,7 @@ pub loop-item-init : goal.loop-item-init
 loop-item-init c = items_start _ _ _ c.requires (cc) (cc) (cc)
 
 pub check_item-requires : goal.check_item-requires
-check_item-requires c = record { few_lines = search (rules, item_here); item_at = search (rules, item_here, c.in-Some.ensures.steps) }
+check_item-requires c = record { few_lines = search rules; item_at = search (rules, item_here, c.in-Some.ensures.steps) }
 
 pub returns-in_err-check_item : goal.returns-in_err-check_item
 returns-in_err-check_item c = rw (handed_on _ _ c.from_residual.ensures) (search (rules, items_refused, c.in-Some.ensures.steps, c.in_err-check_item.was))

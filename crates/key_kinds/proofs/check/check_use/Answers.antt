@@ -5,8 +5,8 @@ use Rattle.key_kinds.proofs.check.check_use.Goals as goal
 pub returns-then-not-is_keyed_call : goal.returns-then-not-is_keyed_call
 returns-then-not-is_keyed_call c = search (rules, no_call)
 
-pub is_name_key-named-requires : goal.is_name_key-named-requires
-is_name_key-named-requires c = record { entry_at = search (rules, key_here); key_at = search (rules, key_here) }
+pub is_name_key-requires : goal.is_name_key-requires
+is_name_key-requires c = record { entry_at = search rules; key_at = search (rules, key_here) }
 
 pub note-requires : goal.note-requires
 note-requires c = search (rules, mark-within)

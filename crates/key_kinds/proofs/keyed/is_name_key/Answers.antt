@@ -1,12 +1,13 @@
+use Rattle.sheet.proofs.Tested.{tested}
 use Rattle.lookups.proofs.Rows.{seeks}
 use Rattle.key_kinds.proofs.Keys.{no_name, look_start, look_here, look_found, look_next}
 use Rattle.key_kinds.proofs.keyed.is_name_key.Goals as goal
 
-pub returns-then-kind-ne-ID : goal.returns-then-kind-ne-ID
-returns-then-kind-ne-ID c = search (seeks, no_name)
+pub returns-then-not-is : goal.returns-then-not-is
+returns-then-not-is c = search (tested, no_name)
 
 pub loop-param-init : goal.loop-param-init
-loop-param-init c = look_start _ _ _ _ c.kind.result _ _ c.requires.entry_at c.requires.key_at (cc) (cc) (cc) (cc) (cc) (cc)
+loop-param-init c = look_start _ _ _ _ _ _ c.requires.entry_at c.requires.key_at (search tested) (cc) (cc) (cc) (cc)
 
 pub is_name_param-requires : goal.is_name_param-requires
 is_name_param-requires c = search (seeks, look_here, c.in-Some.ensures.steps)

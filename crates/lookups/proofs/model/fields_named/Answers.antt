@@ -1,4 +1,5 @@
 use borrow.Author.Rules.{rules}
+use Rattle.sheet.proofs.Tested.{tested}
 use Rattle.lookups.proofs.Fields.{fields_start, fields_item, fields_turn, fields-skip, fields_over}
 use Rattle.lookups.proofs.model.fields_named.Goals as goal
 
@@ -8,11 +9,11 @@ loop-at-init c = fields_start _ _ _ _ _ _ c.requires (cc) (cc) (cc)
 pub newest_field-found-requires : goal.newest_field-found-requires
 newest_field-found-requires c = search (rules, fields_item, c.in-Some.ensures.steps)
 
-pub loop-at-preserved-then-kind-eq-STATE : goal.loop-at-preserved-then-kind-eq-STATE
-loop-at-preserved-then-kind-eq-STATE c = search (rules, fields_turn, c.in-Some.ensures.steps)
+pub loop-at-preserved-then-is : goal.loop-at-preserved-then-is
+loop-at-preserved-then-is c = search (rules, fields_turn, c.in-Some.ensures.steps)
 
 pub loop-at-preserved : goal.loop-at-preserved
-loop-at-preserved c = search (rules, fields-skip, c.in-Some.ensures.steps)
+loop-at-preserved c = search (tested, fields-skip, c.in-Some.ensures.steps)
 
 pub returns : goal.returns
 returns c = search (rules, fields_over, c.in-None.ensures.steps)

@@ -1,12 +1,12 @@
-use borrow.Author.Rules.{rules}
+use Rattle.sheet.proofs.Tested.{tested}
 use Rattle.lookups.proofs.Fields.{other, fields_behind, newer}
 use Rattle.lookups.proofs.model.newest_field.Goals as goal
 
-pub returns-then-kind-ne-STATE : goal.returns-then-kind-ne-STATE
-returns-then-kind-ne-STATE c = search (rules, other)
+pub returns-then-not-is : goal.returns-then-not-is
+returns-then-not-is c = search (tested, other)
 
 pub last_named-requires : goal.last_named-requires
-last_named-requires c = search (rules, fields_behind)
+last_named-requires c = search (tested, fields_behind)
 
 pub returns : goal.returns
-returns c = search (rules, newer)
+returns c = search (tested, newer)

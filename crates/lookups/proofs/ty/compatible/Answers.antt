@@ -2,8 +2,8 @@ use borrow.Author.Rules.{rules}
 use Rattle.lookups.proofs.Codes.{alike, mixed}
 use Rattle.lookups.proofs.ty.compatible.Goals as goal
 
-pub returns-then-w-g : goal.returns-then-w-g
-returns-then-w-g c = search (rules, alike)
+pub returns-then-eq : goal.returns-then-eq
+returns-then-eq c = search (rules, alike)
 
-pub returns-else-w-g : goal.returns-else-w-g
-returns-else-w-g c = search (rules, mixed)
+pub returns-else-eq : goal.returns-else-eq
+returns-else-eq c = search (rules, mixed)

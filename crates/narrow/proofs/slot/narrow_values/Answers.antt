@@ -6,13 +6,13 @@ use Rattle.rules.proofs.Standing.{loaded_sheet}
 use Rattle.narrow.proofs.slot.narrow_values.Goals as goal
 
 pub overflow_add-f : goal.overflow_add-f
-overflow_add-f c = search (loaded_sheet, rules, found_next kinds.field)
+overflow_add-f c = search (loaded_sheet, rules, found_next kinds.field, c.in_ok-f.was)
+
+pub returns-in_err-f : goal.returns-in_err-f
+returns-in_err-f c = search (loaded_sheet, rules, values_none, c.in_err-f.was, c.from_residual.ensures)
+
+pub returns : goal.returns
+returns c = search (loaded_sheet, rules, values_most, c.in_ok-f.was)
 
 pub narrow_arg-requires : goal.narrow_arg-requires
-narrow_arg-requires c = search (loaded_sheet, rules, found_typed kinds.field)
-
-pub returns-in-Some : goal.returns-in-Some
-returns-in-Some c = search (loaded_sheet, rules, values_most)
-
-pub returns-in-None : goal.returns-in-None
-returns-in-None c = search (loaded_sheet, rules, values_none)
+narrow_arg-requires c = search (loaded_sheet, rules, found_typed kinds.field, c.in_ok-f.was)

@@ -2,7 +2,7 @@
 use mathlib.Core.Path.{sym, ◌∙◌}
 use native.Mathlib.Omega.{arith}
 use lib.Seq.{length-take-le}
-use Rattle.grammar.proofs.KindLaws.{kind_known}
+use Rattle.grammar.proofs.Numbers.{number_below}
 use Rattle.grammar.proofs.TableLaws.{fields_at, few_fields}
 use Rattle.sheet.proofs.Told.{line_empty, line-unknown, line-fields, line_left, line_read}
 use Rattle.sheet.proofs.line.read_line.Goals as goal
@@ -13,39 +13,36 @@ returns-then-y-end c = line_empty _ _ _ _ c.find-end.ensures _ c.refuse.ensures 
 pub slice_bounds-kind_for-end : goal.slice_bounds-kind_for-end
 slice_bounds-kind_for-end c = sym (length-take-le _ _ (omega arith))
 
-pub returns-then-kind-eq-NONE : goal.returns-then-kind-eq-NONE
-returns-then-kind-eq-NONE c = line-unknown _ _ _ _ c.find-end.ensures c.if-y-end.false _ c.kind_for-kind.ensures _ c.refuse-then-kind-eq-NONE.ensures c.if-kind-eq-NONE.true
-
-pub fields-n-requires : goal.fields-n-requires
-fields-n-requires c = kind_known _ _ _ c.kind_for-kind.ensures c.if-kind-eq-NONE.false
+pub returns-in_default : goal.returns-in_default
+returns-in_default c = line-unknown _ _ _ _ c.find-end.ensures c.if-y-end.false _ c.kind_for.ensures _ c.refuse-in_default.ensures c.in_default.is
 
 pub overflow_add-n : goal.overflow_add-n
 overflow_add-n c =
-    let known = kind_known _ _ _ c.kind_for-kind.ensures c.if-kind-eq-NONE.false in
+    let known = number_below c.in-Some.kind in
     omega (arith, fields_at _ _ known c.fields-n.ensures, few_fields _ known)
 
 pub returns-then-count-n : goal.returns-then-count-n
 returns-then-count-n c =
-    line-fields _ _ _ _ c.find-end.ensures c.if-y-end.false _ c.kind_for-kind.ensures
-    c.if-kind-eq-NONE.false _ _ c.count.ensures c.fields-n.ensures _ c.refuse-then-count-n.ensures c.if-count-n.true
-
-pub always-requires : goal.always-requires
-always-requires c = kind_known _ _ _ c.kind_for-kind.ensures c.if-kind-eq-NONE.false
+    line-fields _ _ _ _ c.find-end.ensures c.if-y-end.false _ c.kind_for.ensures
+    _ c.in-Some.is _ _ c.count.ensures c.fields-n.ensures _ c.refuse-then-count-n.ensures c.if-count-n.true
 
 pub read_fields-requires : goal.read_fields-requires
 read_fields-requires c =
-    let known = kind_known _ _ _ c.kind_for-kind.ensures c.if-kind-eq-NONE.false in
+    let known = number_below c.in-Some.kind in
     record {
-      known = known;
-      all = fields_at _ _ known c.fields-n.ensures;
-      left = line_left _ c.args.place _ _ c.find-end.ensures c.if-y-end.false _ c.kind_for-kind.ensures
-          c.if-kind-eq-NONE.false _ _ c.count.ensures c.fields-n.ensures c.if-count-n.false;
-      within = c.requires;
+      fields = record {
+        known = rw c.number.ensures known;
+        all = rw c.number.ensures (fields_at _ _ known c.fields-n.ensures);
+        left = line_left _ c.args.place _ _ c.find-end.ensures c.if-y-end.false _ c.kind_for.ensures
+            _ c.in-Some.is _ _ c.count.ensures c.fields-n.ensures c.if-count-n.false;
+        within = c.requires;
+      };
+      kind = c.number.ensures;
     }
 
 pub returns : goal.returns
 returns c =
     c.ok_or.ensures.value
-    ∙ line_read _ _ _ _ c.find-end.ensures c.if-y-end.false _ c.kind_for-kind.ensures
-    c.if-kind-eq-NONE.false _ _ c.count.ensures c.fields-n.ensures _ c.if-count-n.false
-    _ _ c.always.ensures c.read_fields.ensures c.refuse-2.ensures
+    ∙ line_read _ _ _ _ c.find-end.ensures c.if-y-end.false _ c.kind_for.ensures
+    _ c.in-Some.is _ _ c.count.ensures c.fields-n.ensures _ c.if-count-n.false
+    _ _ c.always.ensures (rw c.number.ensures at c.read_fields.ensures) c.refuse-2.ensures

@@ -8,8 +8,8 @@ returns-then-not-is_set c = search (rules, fits_numbers)
 pub returns-then-compatible : goal.returns-then-compatible
 returns-then-compatible c = search (rules, fits_compatible)
 
-pub returns-then-slot-given : goal.returns-then-slot-given
-returns-then-slot-given c = search (rules, fits_params)
+pub returns-then-eq : goal.returns-then-eq
+returns-then-eq c = search (rules, fits_params)
 
 pub returns : goal.returns
 returns c = search (rules, fits_not)

@@ -2,100 +2,37 @@ use borrow.Author.Rules.{rules}
 use Rattle.refusals.proofs.Answers.{handed_on}
 use Rattle.typing.proofs.Calls.{each_falls, each_rest, laws_each, args_keyed, laws_args, laws_call, laws_keyed}
 use Rattle.typing.proofs.Keys.{amount_falls, amount_asks, laws_amount, keys_below, keys_asked, laws_keyed_call, keys_next, keys_some, keys_falls, keys_rest, laws_keys}
-use Rattle.typing.proofs.Asking.{laws_again, laws_of, laws_kind}
+use Rattle.typing.proofs.Asking.{laws_again, laws_kind}
 use Rattle.typing.proofs.Operators.{laws_bin, laws_un}
 use Rattle.rules.proofs.Standing.{loaded_sheet}
 use Rattle.typing.proofs.typing.+expression_types.Goals as goal
 
 pub ask_each-returns-then-left-eq0 : goal.ask_each-returns-then-left-eq0
-ask_each-returns-then-left-eq0 t c = search (loaded_sheet, laws_each)
+ask_each-returns-then-left-eq0 t c = search laws_each
 
 pub ask_each-ty_of-requires : goal.ask_each-ty_of-requires
-ask_each-ty_of-requires t c = search (loaded_sheet, laws_each)
+ask_each-ty_of-requires t c = search laws_each
 
 pub ask_each-end-requires : goal.ask_each-end-requires
-ask_each-end-requires t c = search (loaded_sheet, laws_each)
+ask_each-end-requires t c = search laws_each
 
 pub ask_each-overflow_sub-left : goal.ask_each-overflow_sub-left
-ask_each-overflow_sub-left t c = search (loaded_sheet, laws_each)
+ask_each-overflow_sub-left t c = search laws_each
 
 pub ask_each-ask_each-requires : goal.ask_each-ask_each-requires
 ask_each-ask_each-requires t c = (search (loaded_sheet, rules, each_falls), each_rest _ _ _ _ _ _ c.requires c.if-left-eq0.false _ _ c.ty_of.ensures _ c.in_ok-ty_of.was _ c.end.ensures)
 
-pub check_amount-call_arg_count-requires : goal.check_amount-call_arg_count-requires
-check_amount-call_arg_count-requires t c = search (loaded_sheet, laws_amount)
-
-pub check_amount-returns-then-call_arg_count-lt2 : goal.check_amount-returns-then-call_arg_count-lt2
-check_amount-returns-then-call_arg_count-lt2 t c = search (loaded_sheet, laws_amount)
-
-pub check_amount-overflow_add-i : goal.check_amount-overflow_add-i
-check_amount-overflow_add-i t c = search (loaded_sheet, laws_amount)
-
-pub check_amount-name-requires : goal.check_amount-name-requires
-check_amount-name-requires t c = search (loaded_sheet, laws_amount)
-
-pub check_amount-moves_amount-requires : goal.check_amount-moves_amount-requires
-check_amount-moves_amount-requires t c = search (loaded_sheet, laws_amount)
-
-pub check_amount-returns-then-not-moves_amount : goal.check_amount-returns-then-not-moves_amount
-check_amount-returns-then-not-moves_amount t c = search (loaded_sheet, laws_amount)
-
-pub check_amount-overflow_add-i-2 : goal.check_amount-overflow_add-i-2
-check_amount-overflow_add-i-2 t c = search (loaded_sheet, laws_amount)
-
-pub check_amount-end-requires : goal.check_amount-end-requires
-check_amount-end-requires t c = search (loaded_sheet, laws_amount)
-
-pub check_amount-end-arg-requires : goal.check_amount-end-arg-requires
-check_amount-end-arg-requires t c = search (loaded_sheet, laws_amount)
-
 pub check_amount-ty_of-requires : goal.check_amount-ty_of-requires
 check_amount-ty_of-requires t c = (amount_falls _ _ _ _ _ c.requires _ c.call_arg_count.ensures _ _ c.name.ensures c.moves_amount.ensures c.if-call_arg_count-lt2.false c.if-not-moves_amount.false-raw _ _ c.end.ensures c.end-arg.ensures _ c.decreases, amount_asks _ _ _ _ _ c.requires _ c.call_arg_count.ensures _ _ c.name.ensures c.moves_amount.ensures c.if-call_arg_count-lt2.false c.if-not-moves_amount.false-raw _ _ c.end.ensures c.end-arg.ensures)
-
-pub check_amount-judge_amount-requires : goal.check_amount-judge_amount-requires
-check_amount-judge_amount-requires t c = search (loaded_sheet, laws_amount)
-
-pub check_keyed_call-check_amount-requires : goal.check_keyed_call-check_amount-requires
-check_keyed_call-check_amount-requires t c = search (loaded_sheet, laws_keyed_call)
-
-pub check_keyed_call-overflow_add-i : goal.check_keyed_call-overflow_add-i
-check_keyed_call-overflow_add-i t c = search (loaded_sheet, laws_keyed_call)
-
-pub check_keyed_call-name-method-requires : goal.check_keyed_call-name-method-requires
-check_keyed_call-name-method-requires t c = search (loaded_sheet, laws_keyed_call)
-
-pub check_keyed_call-end-at-requires : goal.check_keyed_call-end-at-requires
-check_keyed_call-end-at-requires t c = search (loaded_sheet, laws_keyed_call)
-
-pub check_keyed_call-wants-requires : goal.check_keyed_call-wants-requires
-check_keyed_call-wants-requires t c = search (loaded_sheet, laws_keyed_call)
-
-pub check_keyed_call-call_arg_count-requires : goal.check_keyed_call-call_arg_count-requires
-check_keyed_call-call_arg_count-requires t c = search (loaded_sheet, laws_keyed_call)
 
 pub check_keyed_call-check_keys-requires : goal.check_keyed_call-check_keys-requires
 check_keyed_call-check_keys-requires t c = (keys_below _ _ _ _ _ _ c.requires _ c.in-Some.is _ _ c.check_amount.ensures c.in_ok-check_amount.was _ _ _ _ c.name-method.ensures c.wants.ensures c.end-at.ensures c.call_arg_count.ensures _ c.decreases, keys_asked _ _ _ _ _ _ c.requires _ c.in-Some.is _ _ c.check_amount.ensures c.in_ok-check_amount.was _ _ _ _ c.name-method.ensures c.wants.ensures c.end-at.ensures c.call_arg_count.ensures)
 
-pub check_keys-returns-then-wants-index : goal.check_keys-returns-then-wants-index
-check_keys-returns-then-wants-index t c = search (loaded_sheet, laws_keys)
-
-pub check_keys-ty_of-requires : goal.check_keys-ty_of-requires
-check_keys-ty_of-requires t c = search (loaded_sheet, laws_keys)
-
-pub check_keys-overflow_add-field : goal.check_keys-overflow_add-field
-check_keys-overflow_add-field t c = search (loaded_sheet, laws_keys)
-
 pub check_keys-declared_arg-want-requires : goal.check_keys-declared_arg-want-requires
-check_keys-declared_arg-want-requires t c = search (loaded_sheet, laws_keys)
-
-pub check_keys-judge_key-requires : goal.check_keys-judge_key-requires
-check_keys-judge_key-requires t c = search (loaded_sheet, laws_keys)
+check_keys-declared_arg-want-requires t c = search laws_keys
 
 pub check_keys-overflow_add-index : goal.check_keys-overflow_add-index
 check_keys-overflow_add-index t c = keys_next _ _ _ _ _ _ _ _ _ c.requires c.if-wants-index.false
-
-pub check_keys-end-requires : goal.check_keys-end-requires
-check_keys-end-requires t c = search (loaded_sheet, laws_keys)
 
 pub check_keys-overflow_sub-left : goal.check_keys-overflow_sub-left
 check_keys-overflow_sub-left t c = keys_some _ _ _ _ _ _ _ _ _ c.requires c.if-wants-index.false
@@ -104,226 +41,154 @@ pub check_keys-check_keys-requires : goal.check_keys-check_keys-requires
 check_keys-check_keys-requires t c = (keys_falls _ _ _ _ _ _ _ _ _ c.requires c.if-wants-index.false _ _ c.ty_of.ensures _ _ _ c.in_ok-got.was c.declared_arg-want.ensures c.judge_key.ensures c.in_ok-judge_key.was _ c.end.ensures _ c.decreases, keys_rest _ _ _ _ _ _ _ _ _ c.requires c.if-wants-index.false _ _ c.ty_of.ensures _ _ _ c.in_ok-got.was c.declared_arg-want.ensures c.judge_key.ensures c.in_ok-judge_key.was _ c.end.ensures)
 
 pub ty_again-typing-requires : goal.ty_again-typing-requires
-ty_again-typing-requires t c = search (loaded_sheet, laws_again)
+ty_again-typing-requires t c = search laws_again
 
 pub ty_again-bounds-table-i : goal.ty_again-bounds-table-i
-ty_again-bounds-table-i t c = search (loaded_sheet, laws_again)
+ty_again-bounds-table-i t c = search laws_again
 
 pub ty_again-returns-in-Ok : goal.ty_again-returns-in-Ok
-ty_again-returns-in-Ok t c = search (loaded_sheet, laws_again)
+ty_again-returns-in-Ok t c = search laws_again
 
 pub ty_again-returns-in-Err : goal.ty_again-returns-in-Err
-ty_again-returns-in-Err t c = search (loaded_sheet, laws_again)
-
-pub ty_of-bounds-table-i : goal.ty_of-bounds-table-i
-ty_of-bounds-table-i t c = search (loaded_sheet, laws_of)
-
-pub ty_of-is_type-requires : goal.ty_of-is_type-requires
-ty_of-is_type-requires t c = search (loaded_sheet, laws_of)
-
-pub ty_of-stale-requires : goal.ty_of-stale-requires
-ty_of-stale-requires t c = search (loaded_sheet, laws_of)
-
-pub ty_of-ty_again-requires : goal.ty_of-ty_again-requires
-ty_of-ty_again-requires t c = search (loaded_sheet, laws_of)
-
-pub ty_of-returns-then-stale : goal.ty_of-returns-then-stale
-ty_of-returns-then-stale t c = search (loaded_sheet, laws_of)
-
-pub ty_of-returns-then-is_type : goal.ty_of-returns-then-is_type
-ty_of-returns-then-is_type t c = search (loaded_sheet, laws_of)
-
-pub ty_of-typing-a-requires : goal.ty_of-typing-a-requires
-ty_of-typing-a-requires t c = search (loaded_sheet, laws_of)
-
-pub ty_of-mark-requires : goal.ty_of-mark-requires
-ty_of-mark-requires t c = search (loaded_sheet, laws_of)
-
-pub ty_of-bounds-table-i-2 : goal.ty_of-bounds-table-i-2
-ty_of-bounds-table-i-2 t c = search (loaded_sheet, laws_of)
-
-pub ty_of-returns : goal.ty_of-returns
-ty_of-returns t c = search (loaded_sheet, laws_of)
+ty_again-returns-in-Err t c = search laws_again
 
 pub ty_of_binary-overflow_add-i : goal.ty_of_binary-overflow_add-i
-ty_of_binary-overflow_add-i t c = search (loaded_sheet, laws_bin)
+ty_of_binary-overflow_add-i t c = search laws_bin
 
 pub ty_of_binary-ty_of-requires : goal.ty_of_binary-ty_of-requires
-ty_of_binary-ty_of-requires t c = search (loaded_sheet, laws_bin)
+ty_of_binary-ty_of-requires t c = search laws_bin
 
 pub ty_of_binary-end-right-requires : goal.ty_of_binary-end-right-requires
-ty_of_binary-end-right-requires t c = search (loaded_sheet, laws_bin)
-
-pub ty_of_binary-op-requires : goal.ty_of_binary-op-requires
-ty_of_binary-op-requires t c = search (loaded_sheet, laws_bin)
+ty_of_binary-end-right-requires t c = search laws_bin
 
 pub ty_of_binary-judge_binary-requires : goal.ty_of_binary-judge_binary-requires
-ty_of_binary-judge_binary-requires t c = search (loaded_sheet, laws_bin)
+ty_of_binary-judge_binary-requires t c = search laws_bin
 
 pub ty_of_unary-overflow_add-i : goal.ty_of_unary-overflow_add-i
-ty_of_unary-overflow_add-i t c = search (loaded_sheet, laws_un)
+ty_of_unary-overflow_add-i t c = search laws_un
 
 pub ty_of_unary-ty_of-requires : goal.ty_of_unary-ty_of-requires
-ty_of_unary-ty_of-requires t c = search (loaded_sheet, laws_un)
-
-pub ty_of_unary-op-requires : goal.ty_of_unary-op-requires
-ty_of_unary-op-requires t c = search (loaded_sheet, laws_un)
+ty_of_unary-ty_of-requires t c = search laws_un
 
 pub ty_of_unary-judge_unary-requires : goal.ty_of_unary-judge_unary-requires
-ty_of_unary-judge_unary-requires t c = search (loaded_sheet, laws_un)
+ty_of_unary-judge_unary-requires t c = search laws_un
 
 pub type_args-overflow_add-i : goal.type_args-overflow_add-i
-type_args-overflow_add-i t c = search (loaded_sheet, laws_args)
+type_args-overflow_add-i t c = search laws_args
 
 pub type_args-end-at-requires : goal.type_args-end-at-requires
-type_args-end-at-requires t c = search (loaded_sheet, laws_args)
+type_args-end-at-requires t c = search laws_args
 
 pub type_args-call_arg_count-requires : goal.type_args-call_arg_count-requires
-type_args-call_arg_count-requires t c = search (loaded_sheet, laws_args)
+type_args-call_arg_count-requires t c = search laws_args
 
 pub type_args-ask_each-requires : goal.type_args-ask_each-requires
-type_args-ask_each-requires t c = search (loaded_sheet, laws_args)
+type_args-ask_each-requires t c = search laws_args
 
 pub type_args-type_keyed-requires : goal.type_args-type_keyed-requires
 type_args-type_keyed-requires t c = (search (loaded_sheet, rules), args_keyed _ _ _ _ _ _ c.requires _ c.end-at.ensures _ c.call_arg_count.ensures _ _ c.ask_each.ensures c.in_ok-ask_each.was)
 
 pub type_call-overflow_add-i : goal.type_call-overflow_add-i
-type_call-overflow_add-i t c = search (loaded_sheet, laws_call)
+type_call-overflow_add-i t c = search laws_call
 
 pub type_call-keyed_of-keyed-requires : goal.type_call-keyed_of-keyed-requires
-type_call-keyed_of-keyed-requires t c = search (loaded_sheet, laws_call)
+type_call-keyed_of-keyed-requires t c = search laws_call
 
 pub type_call-overflow_add-i-2 : goal.type_call-overflow_add-i-2
-type_call-overflow_add-i-2 t c = search (loaded_sheet, laws_call)
+type_call-overflow_add-i-2 t c = search laws_call
 
 pub type_call-expect_asset_receiver-requires : goal.type_call-expect_asset_receiver-requires
-type_call-expect_asset_receiver-requires t c = search (loaded_sheet, laws_call)
+type_call-expect_asset_receiver-requires t c = search laws_call
 
 pub type_call-expect_keyed_op-requires : goal.type_call-expect_keyed_op-requires
-type_call-expect_keyed_op-requires t c = search (loaded_sheet, laws_call)
+type_call-expect_keyed_op-requires t c = search laws_call
 
 pub type_call-type_args-requires : goal.type_call-type_args-requires
-type_call-type_args-requires t c = search (loaded_sheet, laws_call)
+type_call-type_args-requires t c = search laws_call
 
 pub type_keyed-check_keyed_call-requires : goal.type_keyed-check_keyed_call-requires
-type_keyed-check_keyed_call-requires t c = search (loaded_sheet, laws_keyed)
+type_keyed-check_keyed_call-requires t c = search laws_keyed
 
 pub type_keyed-overflow_add-i : goal.type_keyed-overflow_add-i
-type_keyed-overflow_add-i t c = search (loaded_sheet, laws_keyed)
+type_keyed-overflow_add-i t c = search laws_keyed
 
 pub type_keyed-ty_of_call-requires : goal.type_keyed-ty_of_call-requires
-type_keyed-ty_of_call-requires t c = search (loaded_sheet, laws_keyed)
+type_keyed-ty_of_call-requires t c = search laws_keyed
 
-pub typing-kind-k-requires : goal.typing-kind-k-requires
-typing-kind-k-requires t c = search (loaded_sheet, laws_kind)
-
-pub typing-ty_of_leaf-requires : goal.typing-ty_of_leaf-requires
-typing-ty_of_leaf-requires t c = search (loaded_sheet, laws_kind)
-
-pub typing-returns-then-k-lt-UN : goal.typing-returns-then-k-lt-UN
-typing-returns-then-k-lt-UN t c = search (loaded_sheet, laws_kind)
-
-pub typing-ty_of_unary-requires : goal.typing-ty_of_unary-requires
-typing-ty_of_unary-requires t c = search (loaded_sheet, laws_kind)
-
-pub typing-returns-then-k-eq-UN : goal.typing-returns-then-k-eq-UN
-typing-returns-then-k-eq-UN t c = search (loaded_sheet, laws_kind)
-
-pub typing-ty_of_binary-requires : goal.typing-ty_of_binary-requires
-typing-ty_of_binary-requires t c = search (loaded_sheet, laws_kind)
-
-pub typing-returns-then-k-eq-BIN : goal.typing-returns-then-k-eq-BIN
-typing-returns-then-k-eq-BIN t c = search (loaded_sheet, laws_kind)
-
-pub typing-name-requires : goal.typing-name-requires
-typing-name-requires t c = search (loaded_sheet, laws_kind)
-
-pub typing-ty_of_dot-requires : goal.typing-ty_of_dot-requires
-typing-ty_of_dot-requires t c = search (loaded_sheet, laws_kind)
-
-pub typing-returns-then-k-eq-DOT : goal.typing-returns-then-k-eq-DOT
-typing-returns-then-k-eq-DOT t c = search (loaded_sheet, laws_kind)
-
-pub typing-type_call-requires : goal.typing-type_call-requires
-typing-type_call-requires t c = search (loaded_sheet, laws_kind)
-
-pub typing-returns-then-k-eq-CALL : goal.typing-returns-then-k-eq-CALL
-typing-returns-then-k-eq-CALL t c = search (loaded_sheet, laws_kind)
-
-pub typing-overflow_add-i : goal.typing-overflow_add-i
-typing-overflow_add-i t c = search (loaded_sheet, laws_kind)
+pub typing-returns-then-is-3 : goal.typing-returns-then-is-3
+typing-returns-then-is-3 t c = search laws_kind
 
 pub typing-ty_of-requires : goal.typing-ty_of-requires
-typing-ty_of-requires t c = search (loaded_sheet, laws_kind)
+typing-ty_of-requires t c = search laws_kind
 
 pub typing-returns : goal.typing-returns
-typing-returns t c = search (loaded_sheet, laws_kind)
+typing-returns t c = search laws_kind
 
 pub ask_each-returns-in_err-ty_of : goal.ask_each-returns-in_err-ty_of
-ask_each-returns-in_err-ty_of t c = rw (handed_on _ _ c.from_residual.ensures) (search (loaded_sheet, laws_each, c.in_err-ty_of.was))
+ask_each-returns-in_err-ty_of t c = rw (handed_on _ _ c.from_residual.ensures) (search (laws_each, c.in_err-ty_of.was))
 
 pub ask_each-returns : goal.ask_each-returns
-ask_each-returns t c = search (loaded_sheet, laws_each, c.in_ok-ty_of.was)
+ask_each-returns t c = search (laws_each, c.in_ok-ty_of.was)
 
 pub check_amount-returns-in_err-got : goal.check_amount-returns-in_err-got
-check_amount-returns-in_err-got t c = rw (handed_on _ _ c.from_residual.ensures) (search (loaded_sheet, laws_amount, c.in_err-got.was))
+check_amount-returns-in_err-got t c = rw (handed_on _ _ c.from_residual.ensures) (search (laws_amount, c.in_err-got.was))
 
 pub check_amount-returns : goal.check_amount-returns
-check_amount-returns t c = search (loaded_sheet, laws_amount, c.in_ok-got.was)
+check_amount-returns t c = search (laws_amount, c.in_ok-got.was)
 
 pub check_keyed_call-returns-in_err-check_amount : goal.check_keyed_call-returns-in_err-check_amount
-check_keyed_call-returns-in_err-check_amount t c = rw (handed_on _ _ c.from_residual.ensures) (search (loaded_sheet, laws_keyed_call, c.in_err-check_amount.was))
+check_keyed_call-returns-in_err-check_amount t c = rw (handed_on _ _ c.from_residual.ensures) (search (laws_keyed_call, c.in_err-check_amount.was))
 
 pub check_keyed_call-returns : goal.check_keyed_call-returns
-check_keyed_call-returns t c = search (loaded_sheet, laws_keyed_call, c.in_ok-check_amount.was)
+check_keyed_call-returns t c = search (laws_keyed_call, c.in_ok-check_amount.was)
 
 pub check_keys-returns-in_err-got : goal.check_keys-returns-in_err-got
-check_keys-returns-in_err-got t c = rw (handed_on _ _ c.from_residual.ensures) (search (loaded_sheet, laws_keys, c.in_err-got.was))
+check_keys-returns-in_err-got t c = rw (handed_on _ _ c.from_residual.ensures) (search (laws_keys, c.in_err-got.was))
 
 pub check_keys-returns-in_err-judge_key : goal.check_keys-returns-in_err-judge_key
-check_keys-returns-in_err-judge_key t c = rw (handed_on _ _ c.from_residual-in_err-judge_key.ensures) (search (loaded_sheet, laws_keys, c.in_ok-got.was, c.in_err-judge_key.was))
+check_keys-returns-in_err-judge_key t c = rw (handed_on _ _ c.from_residual-in_err-judge_key.ensures) (search (laws_keys, c.in_ok-got.was, c.in_err-judge_key.was))
 
 pub check_keys-returns : goal.check_keys-returns
-check_keys-returns t c = search (loaded_sheet, laws_keys, c.in_ok-got.was, c.in_ok-judge_key.was)
+check_keys-returns t c = search (laws_keys, c.in_ok-got.was, c.in_ok-judge_key.was)
 
 pub ty_of_binary-returns-in_err-l : goal.ty_of_binary-returns-in_err-l
-ty_of_binary-returns-in_err-l t c = rw (handed_on _ _ c.from_residual.ensures) (search (loaded_sheet, laws_bin, c.in_err-l.was))
+ty_of_binary-returns-in_err-l t c = rw (handed_on _ _ c.from_residual.ensures) (search (laws_bin, c.in_err-l.was))
 
 pub ty_of_binary-returns-in_err-r : goal.ty_of_binary-returns-in_err-r
-ty_of_binary-returns-in_err-r t c = rw (handed_on _ _ c.from_residual-in_err-r.ensures) (search (loaded_sheet, laws_bin, c.in_ok-l.was, c.in_err-r.was))
+ty_of_binary-returns-in_err-r t c = rw (handed_on _ _ c.from_residual-in_err-r.ensures) (search (laws_bin, c.in_ok-l.was, c.in_err-r.was))
 
 pub ty_of_binary-returns : goal.ty_of_binary-returns
-ty_of_binary-returns t c = search (loaded_sheet, laws_bin, c.in_ok-l.was, c.in_ok-r.was)
+ty_of_binary-returns t c = search (laws_bin, c.in_ok-l.was, c.in_ok-r.was)
 
 pub ty_of_unary-returns-in_err-ty : goal.ty_of_unary-returns-in_err-ty
-ty_of_unary-returns-in_err-ty t c = rw (handed_on _ _ c.from_residual.ensures) (search (loaded_sheet, laws_un, c.in_err-ty.was))
+ty_of_unary-returns-in_err-ty t c = rw (handed_on _ _ c.from_residual.ensures) (search (laws_un, c.in_err-ty.was))
 
 pub ty_of_unary-returns : goal.ty_of_unary-returns
-ty_of_unary-returns t c = search (loaded_sheet, laws_un, c.in_ok-ty.was)
+ty_of_unary-returns t c = search (laws_un, c.in_ok-ty.was)
 
 pub type_args-returns-in_err-ask_each : goal.type_args-returns-in_err-ask_each
-type_args-returns-in_err-ask_each t c = rw (handed_on _ _ c.from_residual.ensures) (search (loaded_sheet, laws_args, c.in_err-ask_each.was))
+type_args-returns-in_err-ask_each t c = rw (handed_on _ _ c.from_residual.ensures) (search (laws_args, c.in_err-ask_each.was))
 
 pub type_args-returns : goal.type_args-returns
-type_args-returns t c = search (loaded_sheet, laws_args, c.in_ok-ask_each.was)
+type_args-returns t c = search (laws_args, c.in_ok-ask_each.was)
 
 pub type_call-returns-in_err-expect_asset_receiver : goal.type_call-returns-in_err-expect_asset_receiver
-type_call-returns-in_err-expect_asset_receiver t c = rw (handed_on _ _ c.from_residual.ensures) (search (loaded_sheet, laws_call, c.in_err-expect_asset_receiver.was))
+type_call-returns-in_err-expect_asset_receiver t c = rw (handed_on _ _ c.from_residual.ensures) (search (laws_call, c.in_err-expect_asset_receiver.was))
 
 pub type_call-returns-in_err-expect_keyed_op : goal.type_call-returns-in_err-expect_keyed_op
-type_call-returns-in_err-expect_keyed_op t c = rw (handed_on _ _ c.from_residual-in_err-expect_keyed_op.ensures) (search (loaded_sheet, laws_call, c.in_ok-expect_asset_receiver.was, c.in_err-expect_keyed_op.was))
+type_call-returns-in_err-expect_keyed_op t c = rw (handed_on _ _ c.from_residual-in_err-expect_keyed_op.ensures) (search (laws_call, c.in_ok-expect_asset_receiver.was, c.in_err-expect_keyed_op.was))
 
 pub type_call-returns : goal.type_call-returns
-type_call-returns t c = search (loaded_sheet, laws_call, c.in_ok-expect_asset_receiver.was, c.in_ok-expect_keyed_op.was)
+type_call-returns t c = search (laws_call, c.in_ok-expect_asset_receiver.was, c.in_ok-expect_keyed_op.was)
 
 pub type_keyed-returns-in_err-check_keyed_call : goal.type_keyed-returns-in_err-check_keyed_call
-type_keyed-returns-in_err-check_keyed_call t c = rw (handed_on _ _ c.from_residual.ensures) (search (loaded_sheet, laws_keyed, c.in_err-check_keyed_call.was))
+type_keyed-returns-in_err-check_keyed_call t c = rw (handed_on _ _ c.from_residual.ensures) (search (laws_keyed, c.in_err-check_keyed_call.was))
 
 pub type_keyed-returns : goal.type_keyed-returns
-type_keyed-returns t c = search (loaded_sheet, laws_keyed, c.in_ok-check_keyed_call.was)
+type_keyed-returns t c = search (laws_keyed, c.in_ok-check_keyed_call.was)
 
 pub ty_of_binary-ty_of-requires-2 : goal.ty_of_binary-ty_of-requires-2
-ty_of_binary-ty_of-requires-2 t c = search (loaded_sheet, laws_bin, c.in_ok-l.was)
+ty_of_binary-ty_of-requires-2 t c = search (laws_bin, c.in_ok-l.was)
 
-pub check_keyed_call-returns-in_default : goal.check_keyed_call-returns-in_default
-check_keyed_call-returns-in_default t c = search (loaded_sheet, laws_keyed_call)
+pub typing-returns-then-is-5 : goal.typing-returns-then-is-5
+typing-returns-then-is-5 t c = search laws_kind

@@ -1,16 +1,11 @@
-use Prim.Native.Nat.{ℕ}
-use mathlib.Core.Path.{◌≡◌, refl}
-use Rattle.std.specs.Prelude.{Result, Ok, Err}
-use Rattle.std.specs.Result.{result_unwrap_or}
-use Rattle.refusals.specs.declared.refusal.Refusal.{Refusal}
-use Rattle.rules.specs.Codes as codes
+use mathlib.Core.Path.{refl}
 use Rattle.typing.specs.Asks.{answer_mark}
 use Rattle.typing.proofs.typing.mark.Goals as goal
 
-marks : (a : Result ℕ Refusal) → result_unwrap_or a codes.refused ≡ answer_mark a
+pub returns-in-Ok : goal.returns-in-Ok
 unfolding answer_mark
-marks (Ok c) = refl
-marks (Err r) = refl
+returns-in-Ok c = rw (c.in-Ok.is) c.mark.ensures
 
-pub returns : goal.returns
-returns c = rw c.unwrap_or.ensures (marks c.args.a)
+pub returns-in-Err : goal.returns-in-Err
+unfolding answer_mark
+returns-in-Err c = rw (c.in-Err.is) refl

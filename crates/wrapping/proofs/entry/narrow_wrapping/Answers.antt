@@ -11,7 +11,7 @@ pub body_line-body-requires : goal.body_line-body-requires
 body_line-body-requires c = search (rules, entry-within)
 
 pub loop-at-init : goal.loop-at-init
-loop-at-init c = go_start _ _ _ _ _ _ _ c.requires c.body_count-n.ensures c.body_line-body.ensures refl (cc) (cc) cc
+loop-at-init c = go_start _ _ _ _ _ c.requires c.body_count-n.ensures refl c.body_line-body.ensures refl refl (cc) (cc) cc
 
 pub narrow_stmt-requires : goal.narrow_stmt-requires
 narrow_stmt-requires c = search (rules, go_stmt, c.in-Some.ensures.steps)
@@ -19,8 +19,8 @@ narrow_stmt-requires c = search (rules, go_stmt, c.in-Some.ensures.steps)
 pub returns-in_err-narrow_stmt : goal.returns-in_err-narrow_stmt
 returns-in_err-narrow_stmt c = rw (handed_on _ _ c.from_residual.ensures) (search (rules, go_refused, c.in-Some.ensures.steps, c.in_err-narrow_stmt.was))
 
-pub mark-requires : goal.mark-requires
-mark-requires c = search (rules, go_stmt, c.in-Some.ensures.steps)
+pub bind-requires : goal.bind-requires
+bind-requires c = search (rules, go_stmt, c.in-Some.ensures.steps)
 
 pub loop-at-preserved : goal.loop-at-preserved
 loop-at-preserved c = search (rules, go_next, c.in-Some.ensures.steps, c.in_ok-narrow_stmt.was)

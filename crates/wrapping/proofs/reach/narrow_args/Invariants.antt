@@ -3,4 +3,4 @@ use Rattle.wrapping.proofs.Emitting.{Emitting}
 use Rattle.wrapping.proofs.reach.narrow_args.Given as goal
 
 abbrev pub invariant-loop-arg : goal.invariant-loop-arg
-invariant-loop-arg l = Emitting l.sheet.bytes.now l.sheet.lines.now l.marks l.bound l.body l.i l.event (zip_first l.arg-iterator) (zip_second l.arg-iterator)
+invariant-loop-arg l = Emitting l.wrapped.sheet.bytes.now l.wrapped.sheet.lines.now l.wrapped.marks l.wrapped.bound l.wrapped.body l.i l.event (zip_first l.arg-iterator) (zip_second l.arg-iterator)

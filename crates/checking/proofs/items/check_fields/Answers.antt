@@ -1,0 +1,6 @@
+use borrow.Author.Rules.{rules}
+use Rattle.checking.proofs.Passing.{the_fields, model_does}
+use Rattle.checking.proofs.items.check_fields.Goals as goal
+
+pub returns : goal.returns
+returns c = model_does the_fields _ c.requires.loaded (search rules) c.check_items.ensures

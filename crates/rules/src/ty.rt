@@ -1,0 +1,63 @@
+// The types of expressions, and the marks of the type table.
+ghost use Rattle.std.specs.Prelude.{◌≡◌};
+ghost use Rattle.rules.specs.Asking.{code};
+ghost use Rattle.rules.specs.Kept.{ty_of_mark};
+ghost use Rattle.rules.specs.Text.{option_of};
+
+#[derive(Clone, Copy, PartialEq, Eq)]
+pub enum Ty {
+    Int,
+    Boolean,
+    Address,
+    Asset,
+    Word64,
+    Name,
+    Time,
+    Str,
+    Collection,
+    Unknown,
+}
+
+impl Ty {
+    // The type that a line's mark tells, if it tells one.
+    #[tactic(auto, unfolding(crate::specs::Kept::ty_of_mark, crate::specs::Text::option_of))]
+    pub fn of_mark(mark: u8) -> Option<Ty>
+        ensures { result ≡ option_of (ty_of_mark mark) }
+    {
+        match mark {
+            1 => Some(Ty::Int),
+            2 => Some(Ty::Boolean),
+            3 => Some(Ty::Address),
+            4 => Some(Ty::Asset),
+            5 => Some(Ty::Word64),
+            6 => Some(Ty::Name),
+            7 => Some(Ty::Time),
+            8 => Some(Ty::Str),
+            9 => Some(Ty::Collection),
+            10 => Some(Ty::Unknown),
+            _ => None,
+        }
+    }
+
+    // The mark of a line that has the type.
+    #[tactic(auto, unfolding(crate::specs::Asking::code))]
+    pub fn mark(self) -> u8
+        ensures { result ≡ code self }
+    {
+        match self {
+            Ty::Int => 1,
+            Ty::Boolean => 2,
+            Ty::Address => 3,
+            Ty::Asset => 4,
+            Ty::Word64 => 5,
+            Ty::Name => 6,
+            Ty::Time => 7,
+            Ty::Str => 8,
+            Ty::Collection => 9,
+            Ty::Unknown => 10,
+        }
+    }
+}
+
+// The mark of a line whose asking ended in a refusal.
+pub const REFUSED: u8 = 11;

@@ -1,7 +1,0 @@
-use lib.ListN.{take}
-use Rattle.rules.specs.Types.{no_underscores}
-use Rattle.writing.specs.Writing.{Adds}
-use Rattle.writing.proofs.literal.add_digits.Given as goal
-
-abbrev pub invariant-loop-b : goal.invariant-loop-b
-invariant-loop-b l = Adds (no_underscores (take l.b-index l.text)) l.initial.buffer l.at l.buffer l.end
