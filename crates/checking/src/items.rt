@@ -26,7 +26,7 @@ use refusals::Refusal;
 use sheet::{LoadedSheet, field_count, genesis_count, item_count, param_count};
 use statements::expect_predicate;
 
-// `check` at each item of a kind, in the order of the sheet, until it refuses.
+// The step that is given, at each item of a kind in the order of the sheet, until it refuses.
 fn check_items<F: Fn(&mut [u8], usize) -> Result<(), Refusal>>(
     sheet: &LoadedSheet<'_>,
     table: &mut [u8],

@@ -109,7 +109,7 @@ pub fn check_genesis(
     asset_calls_consumed(sheet, i)
 }
 
-// `check` at each of `count` records, the first of which stands at line from, until it refuses.
+// The step that is given, at each of `count` records, the first of which stands at line from, until it refuses.
 pub fn check_records<F: Fn(&mut [u8], usize) -> Result<(), Refusal>>(
     sheet: &LoadedSheet<'_>,
     table: &mut [u8],

@@ -52,7 +52,7 @@ pub fn event_field_type(sheet: &LoadedSheet<'_>, ty: usize) -> Result<(), Refusa
     known(sheet, ty)
 }
 
-// How many arguments a Map or Registry takes.
+// How many arguments a Map or Registry takes; None for another name.
 #[tactic(auto, unfolding(rules::specs::Declarations::arity_of, rules::specs::Text::pick, rules::specs::Text::is, rules::specs::Text::option_of))]
 pub fn arity_of(name: &[u8]) -> Option<usize>
     ensures { result ≡ option_of (arity_in name.now) }
@@ -86,7 +86,7 @@ fn storable_arg(sheet: &LoadedSheet<'_>, ty: usize, arg: usize, key: bool) -> Re
         return Err(Refusal::OnlyTypes(ty));
     }
     let why = Refusal::InnerType {
-        ty: ty,
+        ty,
         inner: arg,
         is_key: key,
     };

@@ -17,7 +17,7 @@ pub enum Rule {
 }
 
 impl Rule {
-    // The rule of a number: `rule_numbers` of specs/Table.antt.
+    // The rule of which `rule_numbers` (specs/Table.antt) has the number; 0 is no rule's, and every number from 10 on a FLAG's.
     pub fn of(n: u8) -> Option<Rule>
         ensures { result ≡ rule_of n }
     {

@@ -99,7 +99,7 @@ impl Kind {
 }
 
 // The kind at a place, if there is one.
-pub fn kind_at(kinds: &[Kind], place: usize) -> Option<Kind>
+pub fn nth_kind(kinds: &[Kind], place: usize) -> Option<Kind>
     ensures { result ≡ slice_get kinds.now place }
 {
     kinds.get(place).copied()
@@ -109,7 +109,7 @@ pub fn kind_at(kinds: &[Kind], place: usize) -> Option<Kind>
 fn kind_in(word: &[u8], table: &[u8], kinds: &[Kind]) -> Option<Kind>
     ensures { result ≡ option_and_then (slice_get kinds.now) (place_in word.now (split table.now)) }
 {
-    kind_at(kinds, place_in(word, table)?)
+    nth_kind(kinds, place_in(word, table)?)
 }
 
 // The kind of the record with this word where a sort is due, if it is allowed there.

@@ -53,6 +53,7 @@ impl BinOp {
         self as usize
     }
 
+    // The operator at a place; the last at every further one.
     pub fn of(place: usize) -> BinOp
         ensures { result ≡ bin_of place }
     {

@@ -16,7 +16,7 @@ pub enum Sort {
 }
 
 impl Sort {
-    // The sort of a number: `sort_number` of specs/Table.antt.
+    // The sort of which `sort_number` (specs/Table.antt) is the number; `Expr` has 8, and every further one.
     pub fn of(n: u8) -> Sort
         ensures { result ≡ sort_from n }
     {

@@ -6,7 +6,7 @@ ghost use Rattle.text.specs.Word.{place_in};
 ghost use Rattle.grammar.specs.Grammar.{bin_ops, Expr, kind_for, Placed, records_for, words_of};
 ghost use Rattle.grammar.specs.Coded.{kind_of};
 
-use crate::kinds::{Kind, kind_at};
+use crate::kinds::{Kind, nth_kind};
 use crate::ops::BinOp;
 use text::{is_word, place_in};
 
@@ -68,7 +68,7 @@ fn place_of_expr(field: &[u8]) -> Option<usize>
 pub fn expr_kind(word: &[u8]) -> Option<Kind>
     ensures { result ≡ kind_of (kind_for Expr word.now) }
 {
-    kind_at(&EXPRS, place_of_expr(word)?)
+    nth_kind(&EXPRS, place_of_expr(word)?)
 }
 
 const EXPRS: [Kind; 14] = [

@@ -1,4 +1,4 @@
--- Codes of types. Assumes nothing.
+-- The type of a code, and what `compatible` compares. Assumes nothing.
 use mathlib.Core.Path.{◌≡◌, refl}
 use mathlib.Core.Bool.{Bool, true, false, ◌&&◌, ◌||◌}
 use mathlib.Core.Option.{some}

@@ -14,7 +14,7 @@ use lookups::field_named;
 use sheet::{LoadedSheet, type_arg_count};
 use text::is_word;
 
-// The largest number of the narrow type of this name.
+// The largest number of the narrow type of this name; None where it is none.
 #[tactic(auto, unfolding(rules::specs::Types::narrow_max, rules::specs::Text::pick, rules::specs::Text::is, rules::specs::Text::option_of))]
 pub fn narrow_max(ty: &[u8]) -> Option<u64>
     ensures { result ≡ option_of (narrow_max ty.now) }
@@ -31,7 +31,7 @@ pub fn narrow_max(ty: &[u8]) -> Option<u64>
     is_word(ty, b"u32").then_some(4294967295)
 }
 
-// The largest number of the state field x.
+// The largest number of the state field x; None where there is no such field, or it is wide.
 pub fn narrow_field(sheet: &LoadedSheet<'_>, x: &[u8]) -> Option<u64>
     ensures { result ≡ option_of (narrow_field (model_in sheet.now.bytes.now) x.now) }
 {
@@ -54,7 +54,7 @@ fn narrow_arg(sheet: &LoadedSheet<'_>, ty: usize) -> Option<u64>
     narrow_max(sheet.name(at))
 }
 
-// The largest number of the values of the state field x.
+// The largest number of the values of the state field x; None where there is no such field, or they are wide.
 pub fn narrow_values(sheet: &LoadedSheet<'_>, x: &[u8]) -> Option<u64>
     ensures { result ≡ option_of (narrow_values (model_in sheet.now.bytes.now) x.now) }
 {

@@ -1,4 +1,4 @@
-// The noise in lent buffers: a byte that is neither a type's code nor in a message, and a cell that is not zero.
+// The noise in lent buffers: a byte that is neither a line's mark nor in a message, and a cell that is not zero.
 ghost use Rattle.std.specs.Prelude.{◌≡◌, ◌==◌, ◌≤◌, length};
 ghost use Rattle.std.specs.List.{prefix_len, suffix_len};
 

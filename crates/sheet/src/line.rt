@@ -13,8 +13,8 @@ use crate::refusal::{Refused, refuse};
 use grammar::{Kind, Rule, Sort, always, fields, kind_for, place_of_bin, rule};
 use text::{count, find, is_name, is_text, number_of, place_in};
 
-// A line without its spans, in the numbers that its cells hold: of its kind and operator, where it and its name start in the sheet, and how
-// many parts of each of its record's sorts it has.
+// A line without its spans, as its cells hold it: the numbers of its kind and of its operator, where it and its name start in the sheet, and
+// how many parts of each of its record's sorts it has.
 #[derive(Clone, Copy)]
 pub struct Line {
     pub kind: usize,
@@ -96,7 +96,7 @@ impl Line {
     }
 }
 
-// The n fields from a place of y on, as many as the line's record has, which is of a kind.
+// The n fields from a place of y on. n is as many as the line's kind has, which it has as a number too.
 fn read_fields(line: Line, kind: Kind, n: usize, y: &[u8], from: usize) -> Option<Line>
     requires fields { Fields line n y.now from }
     requires kind { line.kind ≡ kind_number kind }

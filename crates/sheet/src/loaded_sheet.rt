@@ -25,7 +25,8 @@ impl<'a> LoadedSheet<'a> {
         Kind::of(lines::kind(self.lines, i))
     }
 
-    // Whether the record at line i is of a kind.
+    // Whether the record at line i is of a kind. The rules ask by this and have no `match` on `kind`: they name a few of 34 kinds, and its
+    // arm for the others would have a fact for each.
     pub fn is(&self, i: usize, kind: Kind) -> bool
         ensures { result ≡ eqb (kind_at self.now.lines.now i) (kind_number kind) }
     {
