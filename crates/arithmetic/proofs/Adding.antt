@@ -2,18 +2,17 @@
 use mathlib.Core.Path.{◌≡◌, refl, sym, ◌∙◌}
 use mathlib.Core.List.{List}
 use mathlib.Core.Bool.{Bool, true, false, not, ◌&&◌}
-use mathlib.Core.Option.{Option, none, some}
 use Prim.Native.Nat.{ℕ}
 use native.Mathlib.Omega.{arith}
 use lib.Dec.{eqb}
 use borrow.Author.Tests.{ne_eqb}
+use Rattle.std.specs.Prelude.{Option, Some, None, is_some}
+use Rattle.grammar.specs.Grammar as grammar
 use Rattle.sheet.specs.Scratch.{kind_at, op_at}
 use Rattle.rules.specs.Ast.{AssignOp, SubFrom, Expr, Entry}
 use Rattle.rules.specs.Arithmetic.{op_place, is_op, any, acknowledged, sum_terms, without, is_sum, addends, bounded}
-use Rattle.rules.specs.Typing.{is_some}
-use Rattle.rules.specs.Standing.{expr_at}
+use Rattle.rules.specs.Standing.{expr_at, Loaded, Here}
 use Rattle.rules.proofs.Exprs.{by_kind}
-use Rattle.lookups.specs.Lines.{ExprAt}
 use Rattle.arithmetic.specs.Tests.{others, added, adds_unbounded}
 use Rattle.rules.specs.Operators.{assign_meant}
 use Rattle.arithmetic.proofs.Ops.{op_place_lem}
@@ -24,11 +23,11 @@ use Rattle.grammar.specs.Operators as ops
 
 -- ------------------------------------------------------------ the value by its kind
 
-module _ (s S : List ℕ) (i : ℕ) (h : ExprAt s S i) where
+module _ (s S : List ℕ) (i : ℕ) (d : Loaded s S) (h : Here S grammar.Expr i) where
   sum_at : is_sum (expr_at s i) ≡ (eqb (kind_at S i) kinds.bin && eqb (op_at S i) ops.bin_add)
   unfolding is_sum is_op op_place
   sum_at =
-      by_kind h.loaded h.here (λ k e. is_sum e ≡ (eqb k kinds.bin && eqb (op_at S i) ops.bin_add))
+      by_kind d h (λ k e. is_sum e ≡ (eqb k kinds.bin && eqb (op_at S i) ops.bin_add))
       (λ k _ b. rw (ne_eqb k kinds.bin (omega arith)) refl) refl (op_place_lem (op_at S i) ops.bin_add (omega arith)) refl refl (λ k w a. rw (ne_eqb k kinds.bin (omega arith)) refl)
 
 -- ------------------------------------------------------------ adds_unbounded
@@ -52,7 +51,7 @@ adds_less E T W = by_cases (acknowledged W) refl
     by_cases false q = adds_addends E SubFrom T W q
 
 -- What `adds_unbounded` meets: whether the value at line i is acknowledged.
-module _ (s S : List ℕ) (E : Entry) (T : Expr) (o : code.AssignOp) (i : ℕ) (h : ExprAt s S i) (a : Bool) (e : a ≡ acknowledged (expr_at s i)) where
+module _ (s : List ℕ) (E : Entry) (T : Expr) (o : code.AssignOp) (i : ℕ) (a : Bool) (e : a ≡ acknowledged (expr_at s i)) where
   pub adds_nothing : a ≡ true → false ≡ adds_unbounded E (assign_meant o) T (expr_at s i)
   adds_nothing q = sym (adds_acknowledged E (assign_meant o) T (expr_at s i) (sym e ∙ q))
 
@@ -67,10 +66,10 @@ module _ (s S : List ℕ) (E : Entry) (T : Expr) (o : code.AssignOp) (i : ℕ) (
     unfolding others added addends
     adds_all r q g = g ∙ sym (by_addends ∙ rw q refl)
 
-    module _ (q : o ≡ assign.Set) (b : Bool) (t : b ≡ (eqb (kind_at S i) kinds.bin && eqb (op_at S i) ops.bin_add)) where
-      is_set_lem : adds_unbounded E (assign_meant o) T (expr_at s i) ≡ added E (elim b [ true ↦ without T (sum_terms (expr_at s i)) | false ↦ none ])
+    module _ (S : List ℕ) (d : Loaded s S) (h : Here S grammar.Expr i) (q : o ≡ assign.Set) (b : Bool) (t : b ≡ (eqb (kind_at S i) kinds.bin && eqb (op_at S i) ops.bin_add)) where
+      is_set_lem : adds_unbounded E (assign_meant o) T (expr_at s i) ≡ added E (elim b [ true ↦ without T (sum_terms (expr_at s i)) | false ↦ None ])
       unfolding addends
-      is_set_lem = by_addends ∙ rw (q, addends, sum_at s S i h, ← t) refl
+      is_set_lem = by_addends ∙ rw (q, addends, sum_at s S i d h, ← t) refl
 
       pub adds_no_sum : (v : Bool) → b ≡ false → v ≡ false → v ≡ adds_unbounded E (assign_meant o) T (expr_at s i)
       unfolding added
@@ -78,18 +77,18 @@ module _ (s S : List ℕ) (E : Entry) (T : Expr) (o : code.AssignOp) (i : ℕ) (
 
       module _ (n : b ≡ true) (c : Bool) (g : c ≡ is_some (without T (sum_terms (expr_at s i)))) (v : Bool) (w : v ≡ c) where
         pub adds_no_target : v ≡ false → v ≡ adds_unbounded E (assign_meant o) T (expr_at s i)
-        unfolding added is_some
+        unfolding added
         adds_no_target u = u ∙ sym (is_set_lem ∙ rw n (by_cases (without T (sum_terms (expr_at s i))) (sym (w ∙ g) ∙ u)))
           where
             by_cases : (x : Option (List Expr)) → is_some x ≡ false → added E x ≡ false
-            by_cases none y = refl
-            by_cases (some ts) y = absurd (let z : ◌≡◌ {A = ℕ} 0 1 = cc in omega arith)
+            by_cases None y = refl
+            by_cases (Some ts) y = absurd (let z : ◌≡◌ {A = ℕ} 0 1 = cc in omega arith)
 
         pub adds_others : (r : Bool) → v ≡ true → r ≡ any (λ t. not (bounded E t)) (others true T (sum_terms (expr_at s i))) → r ≡ adds_unbounded E (assign_meant o) T (expr_at s i)
-        unfolding added is_some others
+        unfolding added others
         adds_others r u z = z ∙ sym (is_set_lem ∙ rw (n, others) (by_cases (without T (sum_terms (expr_at s i))) (sym (w ∙ g) ∙ u)))
           where
             by_cases : (x : Option (List Expr)) → is_some x ≡ true
-                → added E x ≡ any (λ t. not (bounded E t)) (elim x as (λ _. List Expr) [ none ↦ sum_terms (expr_at s i) | some us ↦ us ])
-            by_cases none y = absurd (let z : ◌≡◌ {A = ℕ} 0 1 = cc in omega arith)
-            by_cases (some ts) y = refl
+                → added E x ≡ any (λ t. not (bounded E t)) (elim x as (λ _. List Expr) [ None ↦ sum_terms (expr_at s i) | Some us ↦ us ])
+            by_cases None y = absurd (let z : ◌≡◌ {A = ℕ} 0 1 = cc in omega arith)
+            by_cases (Some ts) y = refl

@@ -3,16 +3,11 @@ use mathlib.Core.Logic.{◌≢◌}
 use mathlib.Core.Path.{◌≡◌, refl, sym, ap, ◌∙◌}
 use mathlib.Core.List.{List, map}
 use mathlib.Core.Bool.{Bool, true, false, not, ◌&&◌, ◌||◌}
-use mathlib.Core.Option
-use mathlib.Core.Option.{Option as Maybe, none, some}
-use Prim.Native.Nat.{ℕ, suc, ◌+◌, ◌<◌}
+use Prim.Native.Nat.{ℕ, suc, ◌+◌}
 use native.Mathlib.Numerals.{add-one}
 use native.Mathlib.Omega.{arith}
-use mir.Syntax.{w64}
-use mir.Val.{Fits}
-use lib.ListN.{length}
 use borrow.Author.Tests.{eq-eqb, ne_eqb, not-true, not-false}
-use Rattle.std.specs.Prelude.{Option, Some, None, is_some as found}
+use Rattle.std.specs.Prelude.{Option, Some, None, is_some, option_map}
 use Rattle.text.specs.Text.{bytes, same}
 use Rattle.grammar.specs.Grammar as grammar
 use Rattle.sheet.specs.Scratch.{kind_at, name_at, param_count}
@@ -21,20 +16,19 @@ use Rattle.rules.specs.Ast.{Entry, Param, param_of, type_name}
 use Rattle.rules.specs.declared.ty.Ty.{Ty}
 use Rattle.rules.specs.Types.{ty_of_decl}
 use Rattle.rules.specs.Model.{is_asset_param}
-use Rattle.rules.specs.Typing.{is_some, ident_of}
+use Rattle.rules.specs.Typing.{ident_of}
 use Rattle.rules.specs.Arithmetic.{any, amount_of, is_minted_amount, bounded_addend, is_mints, asset_params, bounded}
 use Rattle.rules.specs.Check.{param_types}
-use Rattle.rules.specs.Standing.{node_name, nodes_at, expr_at, param_at, params_at, type_at, entry_at}
+use Rattle.rules.specs.Standing.{node_name, nodes_at, expr_at, param_at, params_at, type_at, entry_at, Loaded, Here}
 use Rattle.rules.proofs.Exprs.{int_at, ident_at, is_dot_at, dot_at_lem}
 use Rattle.rules.proofs.Standing.{row_first}
 use Rattle.rules.proofs.Records.{param_at_lem}
 use Rattle.lookups.specs.Found.{found_node, Stretch, Last, of_kind}
-use Rattle.lookups.specs.Lines.{TypeAt, EntryAt, ExprAt, RecordAt}
+use Rattle.lookups.specs.Lines.{KindAt}
 use Rattle.lookups.proofs.Fields.{last_map, all_kind, param-name}
 use Rattle.lookups.proofs.Finding.{among_last}
 use Rattle.lookups.proofs.Types.{named_word}
 use Rattle.arithmetic.specs.Tests.{names, amount_bounded}
-use Rattle.arithmetic.proofs.Ops.{fits_next}
 use Rattle.arithmetic.proofs.Rows.{parts_of_lem}
 use Rattle.grammar.specs.Kinds as kinds
 
@@ -48,68 +42,62 @@ both_yes false b e = refl
 
 -- ------------------------------------------------------------ is_param
 
-some_map : {A B : Type 0} (f : A → B) (o : Maybe A) → is_some (Option.map f o) ≡ is_some o
-unfolding is_some
-some_map f none = refl
-some_map f (some a) = refl
+some_map : {A B : Type 0} (f : A → B) (o : Option A) → is_some (option_map f o) ≡ is_some o
+some_map f None = refl
+some_map f (Some a) = refl
 
 -- a parameter of the name has a type
 pub typed_names : (x : Name) (ps : List Param) → is_some (get x (param_types ps)) ≡ among x (names ps)
-unfolding get param_types is_some
+unfolding get param_types
 typed_names x ps =
     rw (get, last_map {B = Name × Ty} (λ p. (p.name, ty_of_decl p.ty)) (λ e. e.0) (λ p. p.name) x (λ p. refl) ps)
     (by_cases (last_named (λ p. p.name) x ps) ∙ sym (among_last (λ p. p.name) x ps))
   where
-    by_cases : (o : Maybe Param)
-        → is_some {A = Ty} (elim (Option.map {B = Name × Ty} (λ p. (p.name, ty_of_decl p.ty)) o) as (λ _. Maybe Ty) [ none ↦ none | some e ↦ some e.1 ]) ≡ is_some o
-    by_cases none = refl
-    by_cases (some p) = refl
+    by_cases : (o : Option Param)
+        → is_some {T = Ty} (elim (option_map {U = Name × Ty} (λ p. (p.name, ty_of_decl p.ty)) o) as (λ _. Option Ty) [ None ↦ None | Some e ↦ Some e.1 ]) ≡ is_some o
+    by_cases None = refl
+    by_cases (Some p) = refl
 
 -- What `is_param` meets: m parameters.
-module _ (s S : List ℕ) (i m : ℕ) (h : EntryAt s S i) (c : m ≡ param_count S i) where
-  pub params_stretch : Stretch s S m (i + 1)
-  params_stretch = rw (c, add-one i) (record { loaded = h.loaded; sort = grammar.Param; row = (parts_of_lem s S i h).params })
+module _ (s S : List ℕ) (i m : ℕ) (d : Loaded s S) (h : KindAt kinds.entry S i) (c : m ≡ param_count S i) where
+  pub params_stretch : Stretch S m (i + 1)
+  params_stretch = rw (c, add-one i) (record { sort = grammar.Param; row = (parts_of_lem s S i d h).params })
 
   module _ (x : Name) (r : Option ℕ) (l : Last s S kinds.param x m (i + 1) r) where
     by_search : among x (names (entry_at s i).params) ≡ is_some (found_node s r)
     unfolding params_at
     by_search =
-        let q = parts_of_lem s S i h in
+        let q = parts_of_lem s S i d h in
         let ns = nodes_at s (param_count S i) (suc i) in
-        let all : of_kind kinds.param ns ≡ ns = all_kind kinds.param (λ i a. omega (arith, a.kind.0, a.kind.1)) h.loaded q.params in
+        let all : of_kind kinds.param ns ≡ ns = all_kind kinds.param (λ i a. omega (arith, a.kind.0, a.kind.1)) d q.params in
         rw q.is
         (among_last (λ p. p.name) x (map param_of ns)
         ∙ ap is_some (last_map param_of (λ p. p.name) node_name x param-name ns)
         ∙ some_map param_of (last_named node_name x ns)
         ∙ rw (l.found, c, add-one i, all) refl)
 
-    pub a_param : (b : Bool) → b ≡ found r → b ≡ among x (names (entry_at s i).params)
-    unfolding is_some found_node
+    pub a_param : (b : Bool) → b ≡ is_some r → b ≡ among x (names (entry_at s i).params)
+    unfolding found_node
     a_param b e = sym (by_search ∙ by_cases r ∙ sym e)
       where
-        by_cases : (r : Option ℕ) → is_some (found_node s r) ≡ found r
+        by_cases : (r : Option ℕ) → is_some (found_node s r) ≡ is_some r
         by_cases (Some j) = refl
         by_cases None = refl
 
 -- ------------------------------------------------------------ is_asset
 
 -- What `is_asset` meets: a parameter of the name n.
-module _ (s S : List ℕ) (i : ℕ) (x n : Name) (b : Bool) (h : RecordAt grammar.Param s S i) (e : n ≡ name_at s S i) (q : b ≡ same x n) where
-  the_param : (param_at s i ≡ record { name = name_at s S i; ty = type_at s (suc i) }) × TypeAt s S (suc i)
-  the_param =
-      let p = param_at_lem h.loaded h.here.within (omega (arith, h.here.kind.0, h.here.kind.1)) in
-      (p.0, record { loaded = h.loaded; here = p.1 })
-
-  pub asset_next : length S < 18446744073709551616 → Fits w64 (i + 1)
-  asset_next l = fits_next S i h.here.within l
+module _ (s S : List ℕ) (i : ℕ) (x n : Name) (b : Bool) (d : Loaded s S) (h : Here S grammar.Param i) (e : n ≡ name_at s S i) (q : b ≡ same x n) where
+  the_param : param_at s i ≡ record { name = name_at s S i; ty = type_at s (suc i) }
+  the_param = (param_at_lem d h.within (omega (arith, h.kind.0, h.kind.1))).0
 
   pub other_name : not b ≡ true → false ≡ (is_asset_param (param_at s i) && same x (param_at s i).name)
-  other_name f = sym (both_not (is_asset_param (param_at s i)) (same x (param_at s i).name) (rw (the_param.0, ← e, ← q) (not-true b f)))
+  other_name f = sym (both_not (is_asset_param (param_at s i)) (same x (param_at s i).name) (rw (the_param, ← e, ← q) (not-true b f)))
 
   pub that_name : (t : Name) (r : Bool) → not b ≡ false → t ≡ name_at s S (i + 1) → r ≡ same t (bytes "Q_Asset") → r ≡ (is_asset_param (param_at s i) && same x (param_at s i).name)
   unfolding is_asset_param
   that_name t r f g k =
-      named_word s S (suc i) t "Q_Asset" r the_param.1 (rw (← add-one i) g) k ∙ rw the_param.0 (both_yes (is (type_name (type_at s (suc i))) "Q_Asset") (same x (name_at s S i)) (rw (← e, ← q) (not-false b f)))
+      named_word s S (suc i) t "Q_Asset" r d (rw (← add-one i) g) k ∙ rw the_param (both_yes (is (type_name (type_at s (suc i))) "Q_Asset") (same x (name_at s S i)) (rw (← e, ← q) (not-false b f)))
 
 -- ------------------------------------------------------------ bounded
 
@@ -129,31 +117,31 @@ module _ (E : Entry) (x : Name) (a : Bool) (e : a ≡ among x (asset_params E.pa
     amount_mints r g k = k ∙ rw (amount_bounded, ← e, q) (both_yes (any is_mints E.clauses) (among x (names E.params)) (sym f ∙ not-false b g))
 
 -- What `bounded` meets.
-module _ (s S : List ℕ) (E : Entry) (i : ℕ) (h : ExprAt s S i) where
+module _ (s S : List ℕ) (E : Entry) (i : ℕ) (d : Loaded s S) (h : Here S grammar.Expr i) where
   pub literal : kind_at S i ≡ kinds.int → true ≡ bounded E (expr_at s i)
-  unfolding bounded bounded_addend is_some
-  literal q = rw (bounded, bounded_addend, int_at h.loaded h.here, eq-eqb (kind_at S i) kinds.int q) refl
+  unfolding bounded bounded_addend
+  literal q = rw (bounded, bounded_addend, int_at d h, eq-eqb (kind_at S i) kinds.int q) refl
 
   module _ (n : kind_at S i ≢ kinds.int) where
     -- a term that is no literal is bounded as an amount
     by_amount : bounded E (expr_at s i) ≡ (amount_of (expr_at s i) (asset_params E.params) || (any is_mints E.clauses && amount_of (expr_at s i) (names E.params)))
-    unfolding bounded bounded_addend is_minted_amount is_some
-    by_amount = rw (bounded, bounded_addend, int_at h.loaded h.here, ne_eqb (kind_at S i) kinds.int n) refl
+    unfolding bounded bounded_addend is_minted_amount
+    by_amount = rw (bounded, bounded_addend, int_at d h, ne_eqb (kind_at S i) kinds.int n) refl
 
     no_amount : ((xs : List Name) → amount_of (expr_at s i) xs ≡ false) → false ≡ bounded E (expr_at s i)
     no_amount f = sym (by_amount ∙ rw (f (asset_params E.params)) (both_not (any is_mints E.clauses) (amount_of (expr_at s i) (names E.params)) (f (names E.params))))
 
     pub no_dot : kind_at S i ≢ kinds.dot → false ≡ bounded E (expr_at s i)
     unfolding amount_of
-    no_dot m = no_amount (λ xs. rw (amount_of, is_dot_at h.loaded h.here, ne_eqb (kind_at S i) kinds.dot m) refl)
+    no_dot m = no_amount (λ xs. rw (amount_of, is_dot_at d h, ne_eqb (kind_at S i) kinds.dot m) refl)
 
     module _ (q : kind_at S i ≡ kinds.dot) (y : Name) (b : Bool) (f : y ≡ name_at s S i) (g : b ≡ same y (bytes "amount")) where
-      base : ExprAt s S (suc i)
-      base = record { loaded = h.loaded; here = row_first (dot_at_lem h.loaded h.here q).1 }
+      base : Here S grammar.Expr (suc i)
+      base = row_first (dot_at_lem d h q).1
 
-      the_dot_lem : (xs : List Name) → amount_of (expr_at s i) xs ≡ (b && elim (ident_of (expr_at s (i + 1))) [ none ↦ false | some x ↦ among x xs ])
+      the_dot_lem : (xs : List Name) → amount_of (expr_at s i) xs ≡ (b && elim (ident_of (expr_at s (i + 1))) [ None ↦ false | Some x ↦ among x xs ])
       unfolding amount_of is
-      the_dot_lem xs = rw (amount_of, is_dot_at h.loaded h.here, eq-eqb (kind_at S i) kinds.dot q, ← f, ← g, add-one i) refl
+      the_dot_lem xs = rw (amount_of, is_dot_at d h, eq-eqb (kind_at S i) kinds.dot q, ← f, ← g, add-one i) refl
 
       pub no_amount_name : not b ≡ true → false ≡ bounded E (expr_at s i)
       no_amount_name z = no_amount (λ xs. the_dot_lem xs ∙ rw (not-true b z) refl)
@@ -161,11 +149,11 @@ module _ (s S : List ℕ) (E : Entry) (i : ℕ) (h : ExprAt s S i) where
       module _ (z : not b ≡ false) where
         pub no_ident : kind_at S (i + 1) ≢ kinds.id → false ≡ bounded E (expr_at s i)
         no_ident m =
-            no_amount (λ xs. the_dot_lem xs ∙ rw (not-false b z, add-one i, ident_at base.loaded base.here, ← add-one i, ne_eqb (kind_at S (i + 1)) kinds.id m) refl)
+            no_amount (λ xs. the_dot_lem xs ∙ rw (not-false b z, add-one i, ident_at d base, ← add-one i, ne_eqb (kind_at S (i + 1)) kinds.id m) refl)
 
         pub ident_amount : (x : Name) (r : Bool) → kind_at S (i + 1) ≡ kinds.id → x ≡ name_at s S (i + 1) → r ≡ amount_bounded E x → r ≡ bounded E (expr_at s i)
         unfolding amount_bounded
         ident_amount x r m u v =
             let w : (xs : List Name) → amount_of (expr_at s i) xs ≡ among x xs =
-            λ xs. the_dot_lem xs ∙ rw (not-false b z, add-one i, ident_at base.loaded base.here, ← add-one i, ← u, eq-eqb (kind_at S (i + 1)) kinds.id m) refl in
+            λ xs. the_dot_lem xs ∙ rw (not-false b z, add-one i, ident_at d base, ← add-one i, ← u, eq-eqb (kind_at S (i + 1)) kinds.id m) refl in
             v ∙ sym (by_amount ∙ rw (w (asset_params E.params), w (names E.params)) refl)

@@ -6,27 +6,22 @@ use mathlib.Core.Bool.{Bool, true, false, not, ◌&&◌, ◌||◌, or-false}
 use Prim.Native.Nat.{ℕ, ◌+◌, ◌<◌, ◌≤◌}
 use native.Mathlib.Numerals.{add-one}
 use native.Mathlib.Omega.{arith}
-use mir.Syntax.{w64}
-use mir.Val.{Fits}
 use lib.Dec.{eqb}
-use lib.ListN.{length}
 use borrow.Author.Tests.{not-true, not-false}
 use Rattle.grammar.specs.Grammar as grammar
 use Rattle.sheet.specs.Scratch.{kind_at, op_at, end_at}
 use Rattle.rules.specs.Text.{Name}
 use Rattle.rules.specs.Ast.{Le, Lt, Ge, Gt, Expr, Exprs, nil, more}
 use Rattle.rules.specs.Arithmetic.{op_place, is_op, mentions, subtracts, upper_bounds, caps_from_above, limits_cap}
-use Rattle.rules.specs.Standing.{expr_at, clause_at}
+use Rattle.rules.specs.Standing.{expr_at, clause_at, Loaded, Here}
 use Rattle.rules.proofs.Exprs.{by_kind}
 use Rattle.rules.proofs.Forest.{joined, parts_of}
-use Rattle.rules.proofs.Walks.{any_joined, Walk, walk_one, walk_over, walk_found, walk_inside, walk_behind}
+use Rattle.rules.proofs.Walks.{any_joined, Walk, walk_one, walk_over, walk_line, walk_found, walk_inside, walk_behind}
 use Rattle.rules.proofs.Standing.{row_first}
 use Rattle.rules.proofs.Records.{limits_at}
-use Rattle.lookups.specs.Lines.{ExprAt, RecordAt}
 use Rattle.arithmetic.specs.Tests.{compares}
-use Rattle.arithmetic.proofs.Ops.{op_place_lem, op_meant, fits_next, the_bin, the_op}
+use Rattle.arithmetic.proofs.Ops.{op_place_lem, op_meant, the_bin, the_op}
 use Rattle.arithmetic.proofs.Rows.{no_limits}
-use Rattle.arithmetic.proofs.Walks.{walk_here}
 use Rattle.grammar.specs.Kinds as kinds
 use Rattle.grammar.specs.Operators as ops
 use Rattle.grammar.specs.Coded.{bin_number, bin_of}
@@ -36,18 +31,18 @@ use Rattle.grammar.specs.declared.ops.BinOp.TheVariants as op
 -- ------------------------------------------------------------ subtracts, upper_bounds
 
 -- What `subtracts` meets: b tells whether the expression at line i is a difference.
-module _ (s S : List ℕ) (i : ℕ) (x : Name) (h : ExprAt s S i) (b : Bool) (t : b ≡ (eqb (kind_at S i) kinds.bin && eqb (op_at S i) ops.bin_sub)) where
+module _ (s S : List ℕ) (i : ℕ) (x : Name) (d : Loaded s S) (h : Here S grammar.Expr i) (b : Bool) (t : b ≡ (eqb (kind_at S i) kinds.bin && eqb (op_at S i) ops.bin_sub)) where
   pub no_difference : not b ≡ true → false ≡ subtracts (expr_at s i) x
   unfolding subtracts is_op op_place
   no_difference q =
-      by_kind h.loaded h.here (λ k e. (eqb k kinds.bin && eqb (op_at S i) ops.bin_sub) ≡ false → false ≡ subtracts e x)
+      by_kind d h (λ k e. (eqb k kinds.bin && eqb (op_at S i) ops.bin_sub) ≡ false → false ≡ subtracts e x)
       (λ k _ _ _. refl) (λ _. refl) (λ e. rw (op_place_lem (op_at S i) ops.bin_sub (omega arith), e) refl) (λ _. refl) (λ _. refl) (λ k w _ _. refl)
       (sym t ∙ not-true b q)
 
   module _ (q : not b ≡ false) (j : ℕ) (f : j ≡ end_at S (i + 1)) (m : Bool) (r : m ≡ mentions (expr_at s j) x) where
     difference : subtracts (expr_at s i) x ≡ (m && not (mentions (expr_at s (i + 1)) x))
     unfolding subtracts is_op op_place
-    difference = rw (the_op s S i h ops.bin_sub b t (not-false b q), ← f, ← r) refl
+    difference = rw (the_op s S i d h ops.bin_sub b t (not-false b q), ← f, ← r) refl
 
     pub not_taken : not m ≡ true → false ≡ subtracts (expr_at s i) x
     not_taken e = sym (difference ∙ rw (not-true m e) refl)
@@ -86,11 +81,11 @@ no_comparison u v op.Rem a b c d = refl
 no_comparison u v op.Shr a b c d = refl
 
 -- What `compares` meets.
-module _ (s S : List ℕ) (i : ℕ) (x : Name) (h : ExprAt s S i) where
+module _ (s S : List ℕ) (i : ℕ) (x : Name) (d : Loaded s S) (h : Here S grammar.Expr i) where
   pub no_bin : kind_at S i ≢ kinds.bin → false ≡ compares (expr_at s i) x
   unfolding compares
   no_bin n =
-      by_kind h.loaded h.here (λ k e. k ≢ kinds.bin → false ≡ compares e x)
+      by_kind d h (λ k e. k ≢ kinds.bin → false ≡ compares e x)
       (λ k _ _ _. refl) (λ _. refl) (λ y. absurd (y refl)) (λ _. refl) (λ _. refl) (λ k w _ _. refl)
       n
 
@@ -106,7 +101,7 @@ module _ (s S : List ℕ) (i : ℕ) (x : Name) (h : ExprAt s S i) where
     unfolding compares op_place
     by_op =
         let n = op_at S i in
-        rw (the_bin s S i h q, op_meant n Le, op_meant n Lt, op_meant n Ge, op_meant n Gt, ← f, ← g) refl
+        rw (the_bin s S i d h q, op_meant n Le, op_meant n Lt, op_meant n Ge, op_meant n Gt, ← f, ← g) refl
 
     pub compares_below : (t : Bool) → (r ≡ op.Le) ⊎ (r ≡ op.Lt) → t ≡ upper_bounds (expr_at s (i + 1)) (expr_at s j) x → t ≡ compares (expr_at s i) x
     compares_below t (inl e) u = u ∙ sym (by_op ∙ rw e (or-false _))
@@ -117,7 +112,7 @@ module _ (s S : List ℕ) (i : ℕ) (x : Name) (h : ExprAt s S i) where
     compares_above t (inr e) u = u ∙ sym (by_op ∙ rw e refl)
 
     pub compares_not : r ≢ op.Lt → r ≢ op.Gt → r ≢ op.Le → r ≢ op.Ge → false ≡ compares (expr_at s i) x
-    compares_not c d e z = sym (by_op ∙ no_comparison (upper_bounds a b x) (upper_bounds b a x) r c d e z)
+    compares_not c k e z = sym (by_op ∙ no_comparison (upper_bounds a b x) (upper_bounds b a x) r c k e z)
 
 -- ------------------------------------------------------------ caps_from_above
 
@@ -132,15 +127,15 @@ caps_joined x es fs = any_joined (λ e. caps_from_above e x) (λ es. caps_any es
 abbrev pub Caps : (s S : List ℕ) → Name → Bool → ℕ → ℕ → Type 0
 Caps s S x whole end at = Walk s S (λ es. whole ≡ caps_any es x) end at
 
-pub caps_start : (s S : List ℕ) (x : Name) (end i : ℕ) → ExprAt s S i → end ≡ end_at S i → Caps s S x (caps_from_above (expr_at s i) x) end i
+pub caps_start : (s S : List ℕ) (x : Name) (end i : ℕ) → Loaded s S → Here S grammar.Expr i → end ≡ end_at S i → Caps s S x (caps_from_above (expr_at s i) x) end i
 unfolding caps_any
-caps_start s S x end i h e = walk_one h.loaded h.here e (sym (or-false _))
+caps_start s S x end i d h e = walk_one d h e (sym (or-false _))
 
 -- the test for `and` at line i
-module _ (s S : List ℕ) (i : ℕ) (x : Name) (h : ExprAt s S i) (b : Bool) (t : b ≡ (eqb (kind_at S i) kinds.bin && eqb (op_at S i) ops.bin_and)) where
+module _ (s S : List ℕ) (i : ℕ) (x : Name) (d : Loaded s S) (h : Here S grammar.Expr i) (b : Bool) (t : b ≡ (eqb (kind_at S i) kinds.bin && eqb (op_at S i) ops.bin_and)) where
   caps_and : b ≡ true → caps_from_above (expr_at s i) x ≡ caps_any (parts_of (expr_at s i)) x
   unfolding caps_from_above caps_any parts_of is_op op_place
-  caps_and q = rw (the_op s S i h ops.bin_and b t q) (twice (caps_from_above (expr_at s (i + 1)) x) (caps_from_above (expr_at s (end_at S (i + 1))) x))
+  caps_and q = rw (the_op s S i d h ops.bin_and b t q) (twice (caps_from_above (expr_at s (i + 1)) x) (caps_from_above (expr_at s (end_at S (i + 1))) x))
     where
       twice : (a c : Bool) → (((a || c) || false) || false) ≡ (a || (c || false))
       twice true c = refl
@@ -149,7 +144,7 @@ module _ (s S : List ℕ) (i : ℕ) (x : Name) (h : ExprAt s S i) (b : Bool) (t 
   caps_other : b ≡ false → caps_from_above (expr_at s i) x ≡ compares (expr_at s i) x
   unfolding caps_from_above compares is_op op_place
   caps_other q =
-      by_kind h.loaded h.here (λ k e. (eqb k kinds.bin && eqb (op_at S i) ops.bin_and) ≡ false → caps_from_above e x ≡ compares e x)
+      by_kind d h (λ k e. (eqb k kinds.bin && eqb (op_at S i) ops.bin_and) ≡ false → caps_from_above e x ≡ compares e x)
       (λ k _ _ _. refl) (λ _. refl) (λ e. rw (op_place_lem (op_at S i) ops.bin_and (omega arith), e) refl) (λ _. refl) (λ _. refl) (λ k w _ _. refl)
       (sym t ∙ q)
 
@@ -159,36 +154,30 @@ module _ (s S : List ℕ) (x : Name) (whole : Bool) (end at : ℕ) (w : Caps s S
   caps_over h = sym (walk_over w h)
 
   module _ (h : at < end) (b : Bool) (t : b ≡ (eqb (kind_at S at) kinds.bin && eqb (op_at S at) ops.bin_and)) where
-    abbrev here : ExprAt s S at
-    here = walk_here w h
-
     pub caps_into : b ≡ true → Caps s S x whole end (at + 1)
     unfolding caps_any
-    caps_into q = walk_inside w h (λ es z. z ∙ rw (caps_and s S at x here b t q, caps_joined) refl)
+    caps_into q = walk_inside w h (λ es z. z ∙ rw (caps_and s S at x w.loaded (walk_line w h) b t q, caps_joined) refl)
 
     module _ (q : b ≡ false) (c : Bool) (e : c ≡ compares (expr_at s at) x) where
       pub caps_found : c ≡ true → true ≡ whole
       unfolding caps_any
-      caps_found f = walk_found w h (λ es z. sym (z ∙ rw (caps_other s S at x here b t q, ← e, f) refl))
+      caps_found f = walk_found w h (λ es z. sym (z ∙ rw (caps_other s S at x w.loaded (walk_line w h) b t q, ← e, f) refl))
 
       pub caps_next : (at' : ℕ) → c ≡ false → at' ≡ end_at S at → Caps s S x whole end at'
       unfolding caps_any
-      caps_next at' f g = walk_behind w h at' g (λ es z. z ∙ rw (caps_other s S at x here b t q, ← e, f) refl)
+      caps_next at' f g = walk_behind w h at' g (λ es z. z ∙ rw (caps_other s S at x w.loaded (walk_line w h) b t q, ← e, f) refl)
 
 -- ------------------------------------------------------------ clauses
 
 -- What `limits_cap` meets.
-module _ (s S : List ℕ) (i : ℕ) (h : RecordAt grammar.Clause s S i) where
-  pub clause_next : length S < 18446744073709551616 → Fits w64 (i + 1)
-  clause_next l = fits_next S i h.here.within l
-
+module _ (s S : List ℕ) (i : ℕ) (d : Loaded s S) (h : Here S grammar.Clause i) where
   pub other_clause : (x : Name) → kind_at S i ≢ kinds.limits → false ≡ limits_cap x (clause_at s i)
-  other_clause x n = sym (no_limits h.loaded h.here x n)
+  other_clause x n = sym (no_limits d h x n)
 
   module _ (q : kind_at S i ≡ kinds.limits) where
-    pub limits_expr : ExprAt s S (i + 1)
-    limits_expr = rw (add-one i) (record { loaded = h.loaded; here = row_first (limits_at h.loaded h.here q).1 })
+    pub limits_expr : Here S grammar.Expr (i + 1)
+    limits_expr = rw (add-one i) (row_first (limits_at d h q).1)
 
     pub limits_clause : (x : Name) (r : Bool) → r ≡ caps_from_above (expr_at s (i + 1)) x → r ≡ limits_cap x (clause_at s i)
     unfolding limits_cap
-    limits_clause x r f = f ∙ rw ((limits_at h.loaded h.here q).0, add-one i) refl
+    limits_clause x r f = f ∙ rw ((limits_at d h q).0, add-one i) refl

@@ -3,16 +3,13 @@ use mathlib.Core.Logic.{◌≢◌}
 use mathlib.Core.Path.{◌≡◌, refl, sym, ◌∙◌, subst}
 use mathlib.Core.List.{List}
 use mathlib.Core.Bool.{Bool, true, false, not, ◌||◌}
-use mathlib.Core.Option.{Option, none, some}
-use Prim.Native.Nat.{ℕ, suc, ◌+◌, ◌<◌}
+use Prim.Native.Nat.{ℕ, suc, ◌+◌}
 use native.Mathlib.Numerals.{add-one}
 use native.Mathlib.Omega.{arith}
-use mir.Syntax.{w64}
-use mir.Val.{Fits}
-use lib.ListN.{length, get_or}
+use lib.ListN.{get_or}
 use lib.Dec.{eqb}
 use borrow.Author.Tests.{not-true, not-false}
-use Rattle.std.specs.Prelude.{Result, Ok, Err}
+use Rattle.std.specs.Prelude.{Result, Ok, Err, Option, Some, None, is_some}
 use Rattle.grammar.specs.Grammar as grammar
 use Rattle.grammar.specs.Coded.{assign_of}
 use Rattle.grammar.specs.declared.ops.AssignOp as code
@@ -23,14 +20,14 @@ use Rattle.rules.specs.Asking.{Rule, Res, ok, refused, expect, if_some, for_each
 use Rattle.rules.specs.declared.ty.Ty.{Ty}
 use Rattle.rules.specs.Arithmetic.{any, acknowledged, addends, bounded, limits_bound, overflow_text, check_sum, check_arithmetic}
 use Rattle.rules.specs.Check.{param_types}
-use Rattle.rules.specs.Typing.{is_some, ident_of}
-use Rattle.rules.specs.Standing.{expr_at, stmt_at, stmts_at, entry_at, place_at}
+use Rattle.rules.specs.Typing.{ident_of}
+use Rattle.rules.specs.Standing.{expr_at, stmt_at, stmts_at, entry_at, place_at, Loaded, Here}
 use Rattle.rules.proofs.Parts.{stop, ◌also◌, pick}
 use Rattle.rules.proofs.Exprs.{ident_at}
 use Rattle.rules.proofs.Standing.{row_first, row_rest}
 use Rattle.rules.proofs.Records.{named, guard_at, let_at, emit_at, assign_at, do_at}
 use Rattle.refusals.specs.Answers.{Answers}
-use Rattle.lookups.specs.Lines.{EntryAt, ExprAt, RecordAt}
+use Rattle.lookups.specs.Lines.{KindAt}
 use Rattle.sheet.specs.declared.records.Records.{Records}
 use Rattle.refusals.specs.Refusal.{refusal_of, done_of}
 use Rattle.refusals.specs.declared.refusal.Refusal.TheVariants.{Overflow}
@@ -39,7 +36,6 @@ use Rattle.refusals.proofs.Answers.{gives, fits, misfits}
 use Rattle.arithmetic.specs.Tests.{names, added, adds_unbounded}
 use Rattle.rules.specs.Operators.{assign_meant}
 use Rattle.rules.proofs.Operators.{assign_told}
-use Rattle.arithmetic.proofs.Ops.{fits_next}
 use Rattle.arithmetic.proofs.Rows.{parts_of_lem}
 use Rattle.arithmetic.proofs.Bounds.{typed_names}
 use Rattle.grammar.specs.Kinds as kinds
@@ -49,7 +45,7 @@ use Rattle.refusals.specs.declared.refusal.Refusal.{Refusal}
 
 -- what is added, if anything is
 abbrev terms_of : AssignOp → (target value : Expr) → Option (List Expr)
-terms_of op T W = elim (acknowledged W) as (λ _. Option (List Expr)) [ true ↦ none | false ↦ addends op T W ]
+terms_of op T W = elim (acknowledged W) as (λ _. Option (List Expr)) [ true ↦ None | false ↦ addends op T W ]
 
 module _ (E : Entry) (ps : List (Name × Ty)) (at : ℕ) where
   abbrev judge : Option Name → Option (List Expr) → Rule Unit
@@ -58,22 +54,22 @@ module _ (E : Entry) (ps : List (Name × Ty)) (at : ℕ) where
       if_some n λ name.
       expect (is_some (get name ps) || not (any (λ t. not (bounded E t)) terms) || limits_bound E name) 45 at (overflow_text name)
 
-  judge_none : (o : Option (List Expr)) → Answers (judge none o) (ok tt)
+  judge_none : (o : Option (List Expr)) → Answers (judge None o) (ok tt)
   unfolding if_some
-  judge_none none = gives tt
-  judge_none (some ts) = gives tt
+  judge_none None = gives tt
+  judge_none (Some ts) = gives tt
 
   module _ (x : Name) where
-    judge_fine : (o : Option (List Expr)) → ((is_some (get x ps) || not (added E o)) || limits_bound E x) ≡ true → Answers (judge (some x) o) (ok tt)
+    judge_fine : (o : Option (List Expr)) → ((is_some (get x ps) || not (added E o)) || limits_bound E x) ≡ true → Answers (judge (Some x) o) (ok tt)
     unfolding if_some added
-    judge_fine none e = gives tt
-    judge_fine (some ts) e = fits _ 45 at (overflow_text x) e
+    judge_fine None e = gives tt
+    judge_fine (Some ts) e = fits _ 45 at (overflow_text x) e
 
     judge-refused : (o : Option (List Expr)) → added E o ≡ true → is_some (get x ps) ≡ false → limits_bound E x ≡ false
-        → Answers (judge (some x) o) (refused (record { number = 45; place = at; text = overflow_text x }))
+        → Answers (judge (Some x) o) (refused (record { number = 45; place = at; text = overflow_text x }))
     unfolding if_some added
-    judge-refused none e f g = absurd (let z : ◌≡◌ {A = ℕ} 0 1 = cc in omega arith)
-    judge-refused (some ts) e f g = misfits _ 45 at (overflow_text x) (rw (e, f, g) refl)
+    judge-refused None e f g = absurd (let z : ◌≡◌ {A = ℕ} 0 1 = cc in omega arith)
+    judge-refused (Some ts) e f g = misfits _ 45 at (overflow_text x) (rw (e, f, g) refl)
 
   by_judge : (op : AssignOp) (T W : Expr) (r : Res Unit) → Answers (judge (ident_of T) (terms_of op T W)) r → Answers (check_sum E ps (assign at op T W)) r
   unfolding check_sum
@@ -90,19 +86,16 @@ or_true true = refl
 or_true false = refl
 
 -- The target and the value of an assignment, a statement at line i.
-module _ (s S : List ℕ) (i : ℕ) (h : RecordAt grammar.Stmt s S i) where
-  pub stmt_next : length S < 18446744073709551616 → Fits w64 (i + 1)
-  stmt_next l = fits_next S i h.here.within l
-
+module _ (s S : List ℕ) (i : ℕ) (d : Loaded s S) (h : Here S grammar.Stmt i) where
   module _ (q : kind_at S i ≡ kinds.assign) where
-    pub target_expr : ExprAt s S (i + 1)
-    target_expr = rw (add-one i) (record { loaded = h.loaded; here = row_first (assign_at h.loaded h.here q).1 })
+    pub target_expr : Here S grammar.Expr (i + 1)
+    target_expr = rw (add-one i) (row_first (assign_at d h q).1)
 
-    pub value_expr : (j : ℕ) → j ≡ end_at S (i + 1) → ExprAt s S j
-    value_expr j f = rw (f, add-one i) (record { loaded = h.loaded; here = row_first (row_rest (assign_at h.loaded h.here q).1) })
+    pub value_expr : (j : ℕ) → j ≡ end_at S (i + 1) → Here S grammar.Expr j
+    value_expr j f = rw (f, add-one i) (row_first (row_rest (assign_at d h q).1))
 
 -- What `check_sum` meets: such a statement.
-module _ (s S : List ℕ) (E : Entry) (i : ℕ) (h : RecordAt grammar.Stmt s S i) where
+module _ (s S : List ℕ) (E : Entry) (i : ℕ) (d : Loaded s S) (h : Here S grammar.Stmt i) where
   abbrev Judged : Result Unit Refusal → Type 0
   Judged r = Answers (check_sum E (param_types E.params) (stmt_at s i)) (done_of s r)
 
@@ -110,17 +103,17 @@ module _ (s S : List ℕ) (E : Entry) (i : ℕ) (h : RecordAt grammar.Stmt s S i
   unfolding check_sum done_of
   other_stmt n =
       pick {P = λ n. n ≢ kinds.assign → kind_at S i ≡ n → Judged (Ok tt)} {i = kinds.guard} {n = 5} (kind_at S i)
-      ((λ _ q. rw (guard_at h.loaded h.here q).0 (gives tt))
-      also (λ _ q. rw (let_at h.loaded h.here q).0 (gives tt))
-      also (λ _ q. rw (emit_at h.loaded h.here q).0 (gives tt))
+      ((λ _ q. rw (guard_at d h q).0 (gives tt))
+      also (λ _ q. rw (let_at d h q).0 (gives tt))
+      also (λ _ q. rw (emit_at d h q).0 (gives tt))
       also (λ y q. absurd (y refl))
-      also (λ _ q. rw (do_at h.loaded h.here q).0 (gives tt))
+      also (λ _ q. rw (do_at d h q).0 (gives tt))
       also stop)
-      h.here.kind.0 h.here.kind.1 n refl
+      h.kind.0 h.kind.1 n refl
 
   module _ (q : kind_at S i ≡ kinds.assign) where
-    abbrev target : ExprAt s S (i + 1)
-    target = target_expr s S i h q
+    abbrev target : Here S grammar.Expr (i + 1)
+    target = target_expr s S i d h q
 
     abbrev op : AssignOp
     op = get_or assign_ops (op_at S i) Set
@@ -134,18 +127,18 @@ module _ (s S : List ℕ) (E : Entry) (i : ℕ) (h : RecordAt grammar.Stmt s S i
     the_sum : (n : Option Name) (r : Res Unit) → ident_of T ≡ n → Answers (judge E (param_types E.params) (place_at s i) n (terms_of op T W)) r
         → Answers (check_sum E (param_types E.params) (stmt_at s i)) r
     the_sum n r f a =
-        rw ((assign_at h.loaded h.here q).0, ← add-one i) (by_judge E (param_types E.params) (place_at s i) op T W r (rw f a))
+        rw ((assign_at d h q).0, ← add-one i) (by_judge E (param_types E.params) (place_at s i) op T W r (rw f a))
 
     module _ (t : Bool) (w : t ≡ eqb (kind_at S (i + 1)) kinds.id) where
       pub no_bare : t ≡ false → Answers (check_sum E (param_types E.params) (stmt_at s i)) (done_of s (Ok tt))
       unfolding done_of
       no_bare n =
-          the_sum none (ok tt) (ident_at target.loaded target.here ∙ rw (← w, n) refl)
+          the_sum None (ok tt) (ident_at d target ∙ rw (← w, n) refl)
           (judge_none E (param_types E.params) (place_at s i) (terms_of op T W))
 
       module _ (y : t ≡ true) (o : code.AssignOp) (j : ℕ) (b : Bool) (f : o ≡ assign_of (op_at S i)) (g : j ≡ end_at S (i + 1)) (a : b ≡ adds_unbounded E (assign_meant o) (expr_at s (i + 1)) (expr_at s j)) where
-        the_name : ident_of T ≡ some (name_at s S (i + 1))
-        the_name = ident_at target.loaded target.here ∙ rw (← w, y) refl
+        the_name : ident_of T ≡ Some (name_at s S (i + 1))
+        the_name = ident_at d target ∙ rw (← w, y) refl
 
         adds : added E (terms_of op T W) ≡ b
         adds = sym (a ∙ rw (f, g, assign_told (op_at S i)) (is-added E op T W))
@@ -153,7 +146,7 @@ module _ (s S : List ℕ) (E : Entry) (i : ℕ) (h : RecordAt grammar.Stmt s S i
         fine : ((is_some (get (name_at s S (i + 1)) (param_types E.params)) || not b) || limits_bound E (name_at s S (i + 1))) ≡ true → Judged (Ok tt)
         unfolding done_of
         fine m =
-            the_sum (some (name_at s S (i + 1))) (ok tt) the_name
+            the_sum (Some (name_at s S (i + 1))) (ok tt) the_name
             (judge_fine E (param_types E.params) (place_at s i) (name_at s S (i + 1)) (terms_of op T W) (rw adds m))
 
         pub adds_fine : not b ≡ true → Answers (check_sum E (param_types E.params) (stmt_at s i)) (done_of s (Ok tt))
@@ -171,28 +164,28 @@ module _ (s S : List ℕ) (E : Entry) (i : ℕ) (h : RecordAt grammar.Stmt s S i
             is_bound = rw (← u) (sym z)
 
             pub limits_fine : m ≡ true → Answers (check_sum E (param_types E.params) (stmt_at s i)) (done_of s (Ok tt))
-            limits_fine d = fine (rw (is_bound, d) (or_true (is_some (get (name_at s S (i + 1)) (param_types E.params)) || not b)))
+            limits_fine k = fine (rw (is_bound, k) (or_true (is_some (get (name_at s S (i + 1)) (param_types E.params)) || not b)))
 
             pub overflow : m ≡ false → Answers (check_sum E (param_types E.params) (stmt_at s i)) (done_of s (Err (Overflow i)))
             unfolding done_of refusal_of
-            overflow d =
-                rw (← add-one i, named target.loaded target.here.within)
-                (the_sum (some (name_at s S (i + 1))) _ the_name
-                (judge-refused E (param_types E.params) (place_at s i) (name_at s S (i + 1)) (terms_of op T W) (adds ∙ not-false b n) (is-param ∙ c) (is_bound ∙ d)))
+            overflow k =
+                rw (← add-one i, named d target.within)
+                (the_sum (Some (name_at s S (i + 1))) _ the_name
+                (judge-refused E (param_types E.params) (place_at s i) (name_at s S (i + 1)) (terms_of op T W) (adds ∙ not-false b n) (is-param ∙ c) (is_bound ∙ k)))
 
 -- ------------------------------------------------------------ check_arithmetic
 
-pub sums_start : (s S : List ℕ) (i : ℕ) (r : Records) → EntryAt s S i → r.lines.now ≡ S → r.at ≡ skip S (clause_count S i) (skip S (param_count S i) (suc i)) → r.left ≡ body_count S i
+pub sums_start : (s S : List ℕ) (i : ℕ) (r : Records) → Loaded s S → KindAt kinds.entry S i → r.lines.now ≡ S → r.at ≡ skip S (clause_count S i) (skip S (param_count S i) (suc i)) → r.left ≡ body_count S i
     → Turn grammar.Stmt stmts_at (check_sum (entry_at s i) (param_types (entry_at s i).params)) (check_arithmetic (entry_at s i) (param_types (entry_at s i).params)) s S r
 unfolding check_arithmetic
-sums_start s S i r h l e m =
-    let q = parts_of_lem s S i h in
+sums_start s S i r d h l e m =
+    let q = parts_of_lem s S i d h in
     let b : (entry_at s i).body ≡ stmts_at s r.left r.at = rw (q.is, e, m) refl in
     record {
       lines = l;
       walk = record {
-        loaded = h.loaded;
+        loaded = d;
         row = rw (e, m) q.body;
-        known = λ d a. subst (λ ss. Answers (for_each ss (check_sum (entry_at s i) (param_types (entry_at s i).params))) (done_of s d)) (sym b) a;
+        known = λ k a. subst (λ ss. Answers (for_each ss (check_sum (entry_at s i) (param_types (entry_at s i).params))) (done_of s k)) (sym b) a;
       };
     }

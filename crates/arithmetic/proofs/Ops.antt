@@ -14,11 +14,11 @@ use Rattle.sheet.specs.Scratch.{kind_at, op_at, end_at, line_count}
 use Rattle.sheet.specs.Say.{span_at}
 use Rattle.rules.specs.Ast.{BinOp, Shr, bin_ops, binary}
 use Rattle.rules.specs.Arithmetic.{acknowledged, is_op, op_place}
-use Rattle.rules.specs.Standing.{expr_at}
+use Rattle.rules.specs.Standing.{expr_at, Loaded, Here}
 use Rattle.rules.proofs.Parts.{stop, ◌also◌, pick}
 use Rattle.rules.proofs.Standing.{row_first, row_rest}
 use Rattle.rules.proofs.Exprs.{bin_at, by_kind}
-use Rattle.lookups.specs.Lines.{ExprAt}
+use Rattle.grammar.specs.Grammar as grammar
 use Rattle.grammar.specs.Grammar.{no_kind}
 use Rattle.grammar.specs.Kinds as kinds
 use Rattle.grammar.specs.Operators as ops
@@ -71,13 +71,13 @@ op_told S i o p n t e f g = rw (e, f, g) refl
 
 -- ------------------------------------------------------------ `acknowledged`
 
-pub acknowledged_at : (s S : List ℕ) (i : ℕ) (a b : Bool) → ExprAt s S i → a ≡ eqb (kind_at S i) kinds.checked → b ≡ eqb (kind_at S i) kinds.wrapping → (a || b) ≡ acknowledged (expr_at s i)
+pub acknowledged_at : (s S : List ℕ) (i : ℕ) (a b : Bool) → Loaded s S → Here S grammar.Expr i → a ≡ eqb (kind_at S i) kinds.checked → b ≡ eqb (kind_at S i) kinds.wrapping → (a || b) ≡ acknowledged (expr_at s i)
 unfolding acknowledged
-acknowledged_at s S i a b h e f =
+acknowledged_at s S i a b d h e f =
     rw (e, f)
-    (by_kind h.loaded h.here (λ k x. k < no_kind → (eqb k kinds.checked || eqb k kinds.wrapping) ≡ acknowledged x)
+    (by_kind d h (λ k x. k < no_kind → (eqb k kinds.checked || eqb k kinds.wrapping) ≡ acknowledged x)
     (λ k a b l. rw (ne_eqb k kinds.checked (omega arith), ne_eqb k kinds.wrapping (omega arith)) refl)
-    (λ l. refl) (λ l. refl) (λ l. refl) (λ l. refl) (λ k w a l. last_two k a l) h.here.kind.1)
+    (λ l. refl) (λ l. refl) (λ l. refl) (λ l. refl) (λ k w a l. last_two k a l) h.kind.1)
   where
     last_two : (k : ℕ) → kinds.checked ≤ k → k < no_kind → (eqb k kinds.checked || eqb k kinds.wrapping) ≡ true
     last_two k a l = by_cases (eqb k kinds.checked) refl
@@ -91,23 +91,19 @@ acknowledged_at s S i a b h e f =
 pub fits_next : (S : List ℕ) (i : ℕ) → i < line_count S → length S < 18446744073709551616 → Fits w64 (i + 1)
 fits_next S i w h = record { fits = omega (arith, w) }
 
-pub expr_next : (s S : List ℕ) (i : ℕ) → ExprAt s S i → length S < 18446744073709551616 → Fits w64 (i + 1)
-expr_next s S i h l = fits_next S i h.here.within l
-
 -- ------------------------------------------------------------ a `bin`
 
-module _ (s S : List ℕ) (i : ℕ) (h : ExprAt s S i) where
+module _ (s S : List ℕ) (i : ℕ) (d : Loaded s S) (h : Here S grammar.Expr i) where
   -- What is told of a `bin` at line i.
   module _ (q : kind_at S i ≡ kinds.bin) where
     pub the_bin : expr_at s i ≡ binary i (span_at s S i) (get_or bin_ops (op_at S i) Shr) (expr_at s (i + 1)) (expr_at s (end_at S (i + 1)))
-    the_bin = rw (add-one i) (bin_at h.loaded h.here q).0
+    the_bin = rw (add-one i) (bin_at d h q).0
 
-    pub bin_left : ExprAt s S (i + 1)
-    bin_left = rw (add-one i) (record { loaded = h.loaded; here = row_first (bin_at h.loaded h.here q).1 })
+    pub bin_left : Here S grammar.Expr (i + 1)
+    bin_left = rw (add-one i) (row_first (bin_at d h q).1)
 
-    pub bin_right : (j : ℕ) → j ≡ end_at S (i + 1) → ExprAt s S j
-    bin_right j f =
-        rw (f, add-one i) (record { loaded = h.loaded; here = row_first (row_rest (bin_at h.loaded h.here q).1) })
+    pub bin_right : (j : ℕ) → j ≡ end_at S (i + 1) → Here S grammar.Expr j
+    bin_right j f = rw (f, add-one i) (row_first (row_rest (bin_at d h q).1))
 
   -- ... and by the test of its operator.
   module _ (o : ℕ) (b : Bool) (t : b ≡ (eqb (kind_at S i) kinds.bin && eqb (op_at S i) o)) where
@@ -121,8 +117,8 @@ module _ (s S : List ℕ) (i : ℕ) (h : ExprAt s S i) where
     pub the_op : b ≡ true → expr_at s i ≡ binary i (span_at s S i) (get_or bin_ops o Shr) (expr_at s (i + 1)) (expr_at s (end_at S (i + 1)))
     the_op q = rw (← eqb-true (op_at S i) o (both q).1) (the_bin (is-bin q))
 
-    pub op_left : not b ≡ false → ExprAt s S (i + 1)
+    pub op_left : not b ≡ false → Here S grammar.Expr (i + 1)
     op_left q = bin_left (is-bin (not-false b q))
 
-    pub op_right : (j : ℕ) → not b ≡ false → j ≡ end_at S (i + 1) → ExprAt s S j
+    pub op_right : (j : ℕ) → not b ≡ false → j ≡ end_at S (i + 1) → Here S grammar.Expr j
     op_right j q f = bin_right (is-bin (not-false b q)) j f

@@ -3,12 +3,9 @@ use mathlib.Core.Logic.{◌≢◌}
 use mathlib.Core.Path.{◌≡◌, refl, sym, ◌∙◌}
 use mathlib.Core.List.{List}
 use mathlib.Core.Bool.{Bool, true, false, ◌&&◌}
-use Prim.Native.Nat.{ℕ, suc, ◌+◌, ◌<◌}
+use Prim.Native.Nat.{ℕ, suc, ◌+◌}
 use native.Mathlib.Numerals.{add-one}
-use mir.Syntax.{w64}
-use mir.Val.{Fits}
 use lib.Dec.{eqb}
-use lib.ListN.{length}
 use Rattle.text.specs.Text.{same}
 use Rattle.grammar.specs.Grammar as grammar
 use Rattle.sheet.specs.Scratch.{kind_at, skip, param_count, clause_count, body_count}
@@ -22,16 +19,12 @@ use Rattle.rules.specs.Standing.{clause_at, clauses_at, params_at, entry_at, Loa
 use Rattle.rules.proofs.Parts.{stop, ◌also◌, pick}
 use Rattle.rules.proofs.Rows.{clauses, iter_here, Seeking, seek_found, seek_next, among_any}
 use Rattle.rules.proofs.Records.{EntryParts, entry_at_lem, limits_at, denies_at, mints_at, after_at}
-use Rattle.lookups.specs.Lines.{EntryAt}
-use Rattle.arithmetic.proofs.Ops.{fits_next}
+use Rattle.lookups.specs.Lines.{KindAt}
 use Rattle.grammar.specs.Kinds as kinds
 
 -- the parts of an entry
-pub parts_of_lem : (s S : List ℕ) (i : ℕ) → EntryAt s S i → EntryParts s S i (param_count S i) (clause_count S i) (body_count S i)
-parts_of_lem s S i h = entry_at_lem h.loaded h.within h.kind
-
-pub entry_next : (s S : List ℕ) (i : ℕ) → EntryAt s S i → length S < 18446744073709551616 → Fits w64 (i + 1)
-entry_next s S i h l = fits_next S i h.within l
+pub parts_of_lem : (s S : List ℕ) (i : ℕ) → Loaded s S → KindAt kinds.entry S i → EntryParts s S i (param_count S i) (clause_count S i) (body_count S i)
+parts_of_lem s S i d h = entry_at_lem d h.within h.kind
 
 -- ------------------------------------------------------------ clauses
 
@@ -39,19 +32,19 @@ abbrev pub Clauses : (s S : List ℕ) → (Clause → Bool) → Bool → Records
 Clauses s S p whole r = Seeking grammar.Clause clauses_at p whole s S r
 
 -- those of an entry
-clauses_from : (s S : List ℕ) (i : ℕ) (p : Clause → Bool) (r : Records) → EntryAt s S i → r.lines.now ≡ S → r.at ≡ skip S (param_count S i) (suc i) → r.left ≡ clause_count S i
+clauses_from : (s S : List ℕ) (i : ℕ) (p : Clause → Bool) (r : Records) → Loaded s S → KindAt kinds.entry S i → r.lines.now ≡ S → r.at ≡ skip S (param_count S i) (suc i) → r.left ≡ clause_count S i
     → Clauses s S p (any p (entry_at s i).clauses) r
-clauses_from s S i p r h l e f =
-    let q = parts_of_lem s S i h in record { lines = l; walk = rw (e, f) (record { loaded = h.loaded; row = q.clauses; known = rw q.is refl }) }
+clauses_from s S i p r d h l e f =
+    let q = parts_of_lem s S i d h in record { lines = l; walk = rw (e, f) (record { loaded = d; row = q.clauses; known = rw q.is refl }) }
 
-pub limits_start : (s S : List ℕ) (i : ℕ) (x : Name) (r : Records) → EntryAt s S i → r.lines.now ≡ S → r.at ≡ skip S (param_count S i) (suc i) → r.left ≡ clause_count S i
+pub limits_start : (s S : List ℕ) (i : ℕ) (x : Name) (r : Records) → Loaded s S → KindAt kinds.entry S i → r.lines.now ≡ S → r.at ≡ skip S (param_count S i) (suc i) → r.left ≡ clause_count S i
     → Clauses s S (limits_cap x) (limits_bound (entry_at s i) x) r
 unfolding limits_bound
-limits_start s S i x r h l e f = clauses_from s S i (limits_cap x) r h l e f
+limits_start s S i x r d h l e f = clauses_from s S i (limits_cap x) r d h l e f
 
-pub mints_start : (s S : List ℕ) (i : ℕ) (r : Records) → EntryAt s S i → r.lines.now ≡ S → r.at ≡ skip S (param_count S i) (suc i) → r.left ≡ clause_count S i
+pub mints_start : (s S : List ℕ) (i : ℕ) (r : Records) → Loaded s S → KindAt kinds.entry S i → r.lines.now ≡ S → r.at ≡ skip S (param_count S i) (suc i) → r.left ≡ clause_count S i
     → Clauses s S is_mints (any is_mints (entry_at s i).clauses) r
-mints_start s S i r h l e f = clauses_from s S i is_mints r h l e f
+mints_start s S i r d h l e f = clauses_from s S i is_mints r d h l e f
 
 -- a clause by its kind
 module _ {s S : List ℕ} (d : Loaded s S) {i : ℕ} (h : Here S grammar.Clause i) where
@@ -88,16 +81,16 @@ asset_of x p = is_asset_param p && same x p.name
 abbrev pub Params : (s S : List ℕ) → Name → Bool → Records → Type 0
 Params s S x whole r = Seeking grammar.Param params_at (asset_of x) whole s S r
 
-pub assets_start : (s S : List ℕ) (i : ℕ) (x : Name) (r : Records) → EntryAt s S i → r.lines.now ≡ S → r.at ≡ i + 1 → r.left ≡ param_count S i
+pub assets_start : (s S : List ℕ) (i : ℕ) (x : Name) (r : Records) → Loaded s S → KindAt kinds.entry S i → r.lines.now ≡ S → r.at ≡ i + 1 → r.left ≡ param_count S i
     → Params s S x (among x (asset_params (entry_at s i).params)) r
 unfolding asset_params
-assets_start s S i x r h l e f =
-    let q = parts_of_lem s S i h in
+assets_start s S i x r d h l e f =
+    let q = parts_of_lem s S i d h in
     record {
       lines = l;
       walk = rw (e, f, add-one i)
           (record {
-            loaded = h.loaded;
+            loaded = d;
             row = q.params;
             known = rw q.is (among_any is_asset_param (λ p. p.name) asset_params refl (λ p ps. refl) x (params_at s (param_count S i) (suc i)));
           });

@@ -2,46 +2,44 @@
 use mathlib.Core.Path.{◌≡◌, refl, sym, ap, ◌∙◌}
 use mathlib.Core.List.{List, [], ◌∷◌, ◌++◌, append-nil, append_assoc}
 use mathlib.Core.Bool.{Bool, true, false, not, ◌&&◌}
-use mathlib.Core.Option.{Option, none, some, map}
 use Prim.Native.Nat.{ℕ, ◌+◌, ◌<◌, ◌≤◌}
 use native.Mathlib.Omega.{arith}
 use lib.Dec.{eqb}
 use borrow.Author.Tests.{not-true, not-false}
+use Rattle.std.specs.Prelude.{Option, Some, None, option_map, is_some}
 use Rattle.text.specs.Text.{same}
+use Rattle.grammar.specs.Grammar as grammar
 use Rattle.sheet.specs.Scratch.{kind_at, op_at, name_at, end_at}
 use Rattle.rules.specs.Text.{Name}
 use Rattle.rules.specs.Ast.{Expr, Exprs, nil, more, Entry}
 use Rattle.rules.specs.Arithmetic.{op_place, is_op, any, sum_terms, same_target, without, bounded}
-use Rattle.rules.specs.Typing.{is_some}
-use Rattle.rules.specs.Standing.{expr_at}
+use Rattle.rules.specs.Standing.{expr_at, Loaded, Here}
 use Rattle.rules.proofs.Exprs.{by_kind, ident_at}
 use Rattle.rules.proofs.Forest.{joined, parts_of}
-use Rattle.rules.proofs.Walks.{Walk, walk_one, walk_over, walk_found, walk_inside, walk_behind}
-use Rattle.lookups.specs.Lines.{ExprAt}
+use Rattle.rules.proofs.Walks.{Walk, walk_one, walk_over, walk_line, walk_found, walk_inside, walk_behind}
 use Rattle.arithmetic.specs.Tests.{others}
 use Rattle.arithmetic.proofs.Ops.{op_place_lem, the_op}
-use Rattle.arithmetic.proofs.Walks.{walk_here}
 use Rattle.grammar.specs.Kinds as kinds
 use Rattle.grammar.specs.Operators as ops
 
 -- ------------------------------------------------------------ same_target
 
 -- What `same_target` meets: t and u tell whether the lines a and b are an `id`.
-module _ (s S : List ℕ) (a b : ℕ) (h : ExprAt s S a) (g : ExprAt s S b) (t : Bool) (e : t ≡ eqb (kind_at S a) kinds.id) where
+module _ (s S : List ℕ) (a b : ℕ) (d : Loaded s S) (h : Here S grammar.Expr a) (g : Here S grammar.Expr b) (t : Bool) (e : t ≡ eqb (kind_at S a) kinds.id) where
   pub no_target : t ≡ false → false ≡ same_target (expr_at s a) (expr_at s b)
   unfolding same_target
-  no_target n = rw (same_target, ident_at h.loaded h.here, ← e, n) refl
+  no_target n = rw (same_target, ident_at d h, ← e, n) refl
 
   module _ (q : t ≡ true) (u : Bool) (f : u ≡ eqb (kind_at S b) kinds.id) where
     pub other_target : u ≡ false → false ≡ same_target (expr_at s a) (expr_at s b)
     unfolding same_target
     other_target n =
-        rw (same_target, ident_at h.loaded h.here, ← e, q, ident_at g.loaded g.here, ← f, n) refl
+        rw (same_target, ident_at d h, ← e, q, ident_at d g, ← f, n) refl
 
     pub both_targets : (x y : Name) (r : Bool) → u ≡ true → x ≡ name_at s S a → y ≡ name_at s S b → r ≡ same x y → r ≡ same_target (expr_at s a) (expr_at s b)
     unfolding same_target
-    both_targets x y r n c d w =
-        w ∙ rw (same_target, ident_at h.loaded h.here, ← e, q, ident_at g.loaded g.here, ← f, n, c, d) refl
+    both_targets x y r n c z w =
+        w ∙ rw (same_target, ident_at d h, ← e, q, ident_at d g, ← f, n, c, z) refl
 
 -- ------------------------------------------------------------ sum_terms
 
@@ -54,17 +52,17 @@ unfolding terms_any
 terms_one e = append-nil (sum_terms e)
 
 -- the test for a sum at line i
-module _ (s S : List ℕ) (i : ℕ) (h : ExprAt s S i) (b : Bool) (t : b ≡ (eqb (kind_at S i) kinds.bin && eqb (op_at S i) ops.bin_add)) where
+module _ (s S : List ℕ) (i : ℕ) (d : Loaded s S) (h : Here S grammar.Expr i) (b : Bool) (t : b ≡ (eqb (kind_at S i) kinds.bin && eqb (op_at S i) ops.bin_add)) where
   pub sum_terms_lem : b ≡ true → (es : Exprs) → terms_any (more (expr_at s i) es) ≡ terms_any (joined (parts_of (expr_at s i)) es)
   unfolding terms_any sum_terms parts_of is_op op_place joined
   sum_terms_lem q es =
-      rw (the_op s S i h ops.bin_add b t q)
+      rw (the_op s S i d h ops.bin_add b t q)
       (append_assoc (sum_terms (expr_at s (i + 1))) (sum_terms (expr_at s (end_at S (i + 1)))) (terms_any es))
 
   pub one_term : b ≡ false → (es : Exprs) → terms_any (more (expr_at s i) es) ≡ expr_at s i ∷ terms_any es
   unfolding terms_any sum_terms is_op op_place
   one_term q es =
-      by_kind h.loaded h.here (λ k e. (eqb k kinds.bin && eqb (op_at S i) ops.bin_add) ≡ false → sum_terms e ++ terms_any es ≡ e ∷ terms_any es)
+      by_kind d h (λ k e. (eqb k kinds.bin && eqb (op_at S i) ops.bin_add) ≡ false → sum_terms e ++ terms_any es ≡ e ∷ terms_any es)
       (λ k _ _ _. refl) (λ _. refl) (λ e. rw (sum_terms, op_place_lem (op_at S i) ops.bin_add (omega arith), e) refl) (λ _. refl) (λ _. refl) (λ k w _ _. refl)
       (sym t ∙ q)
 
@@ -78,18 +76,15 @@ module _ (s S : List ℕ) (f : List Expr → Bool) (whole : Bool) (end at : ℕ)
   sum_over h = sym (walk_over w h)
 
   module _ (h : at < end) (b : Bool) (t : b ≡ (eqb (kind_at S at) kinds.bin && eqb (op_at S at) ops.bin_add)) where
-    abbrev here : ExprAt s S at
-    here = walk_here w h
-
     pub sum_into : b ≡ true → Sum s S f whole end (at + 1)
-    sum_into q = walk_inside w h (λ es z. z ∙ ap f (sum_terms_lem s S at here b t q es))
+    sum_into q = walk_inside w h (λ es z. z ∙ ap f (sum_terms_lem s S at w.loaded (walk_line w h) b t q es))
 
     module _ (q : b ≡ false) where
       sum_found : (c : Bool) → ((ts : List Expr) → f (expr_at s at ∷ ts) ≡ c) → c ≡ whole
-      sum_found c e = walk_found w h (λ es z. sym (z ∙ ap f (one_term s S at here b t q es) ∙ e (terms_any es)))
+      sum_found c e = walk_found w h (λ es z. sym (z ∙ ap f (one_term s S at w.loaded (walk_line w h) b t q es) ∙ e (terms_any es)))
 
       sum_next : (g : List Expr → Bool) (at' : ℕ) → at' ≡ end_at S at → ((ts : List Expr) → f (expr_at s at ∷ ts) ≡ g ts) → Sum s S g whole end at'
-      sum_next g at' u e = walk_behind w h at' u (λ es z. z ∙ ap f (one_term s S at here b t q es) ∙ e (terms_any es))
+      sum_next g at' u e = walk_behind w h at' u (λ es z. z ∙ ap f (one_term s S at w.loaded (walk_line w h) b t q es) ∙ e (terms_any es))
 
 -- ------------------------------------------------------------ has_target
 
@@ -99,17 +94,16 @@ target_in target ts = is_some (without target ts)
 abbrev pub Targeted : (s S : List ℕ) → (target : Expr) → Bool → ℕ → ℕ → Type 0
 Targeted s S target whole end at = Sum s S (target_in target) whole end at
 
-pub target_start : (s S : List ℕ) (target : Expr) (end i : ℕ) → ExprAt s S i → end ≡ end_at S i → Targeted s S target (is_some (without target (sum_terms (expr_at s i)))) end i
-target_start s S target end i h e = walk_one h.loaded h.here e (rw (terms_one (expr_at s i)) refl)
+pub target_start : (s S : List ℕ) (target : Expr) (end i : ℕ) → Loaded s S → Here S grammar.Expr i → end ≡ end_at S i → Targeted s S target (is_some (without target (sum_terms (expr_at s i)))) end i
+target_start s S target end i d h e = walk_one d h e (rw (terms_one (expr_at s i)) refl)
 
-some_more : (o : Option (List Expr)) (t : Expr) → is_some (map (λ us. t ∷ us) o) ≡ is_some o
-unfolding is_some
-some_more none t = refl
-some_more (some us) t = refl
+some_more : (o : Option (List Expr)) (t : Expr) → is_some (option_map (λ us. t ∷ us) o) ≡ is_some o
+some_more None t = refl
+some_more (Some us) t = refl
 
 module _ (s S : List ℕ) (target : Expr) (whole : Bool) (end at : ℕ) (w : Targeted s S target whole end at) where
   pub target_over : end ≤ at → false ≡ whole
-  unfolding without is_some
+  unfolding without
   target_over h = sum_over s S (target_in target) whole end at w h
 
   module _ (h : at < end) (b : Bool) (t : b ≡ (eqb (kind_at S at) kinds.bin && eqb (op_at S at) ops.bin_add)) where
@@ -118,7 +112,7 @@ module _ (s S : List ℕ) (target : Expr) (whole : Bool) (end at : ℕ) (w : Tar
 
     module _ (q : b ≡ false) (c : Bool) (e : c ≡ same_target target (expr_at s at)) where
       pub target_found : c ≡ true → true ≡ whole
-      unfolding without is_some
+      unfolding without
       target_found f = sum_found s S (target_in target) whole end at w h b t q true (λ ts. rw (without, ← e, f) refl)
 
       pub target_next : (at' : ℕ) → c ≡ false → at' ≡ end_at S at → Targeted s S target whole end at'
@@ -134,9 +128,9 @@ unbounded_in E target due ts = any (λ t. not (bounded E t)) (others due target 
 abbrev pub Unbounded : (s S : List ℕ) → Entry → (target : Expr) → (due : Bool) → Bool → ℕ → ℕ → Type 0
 Unbounded s S E target due whole end at = Sum s S (unbounded_in E target due) whole end at
 
-pub unbounded_start : (s S : List ℕ) (E : Entry) (target : Expr) (own : Bool) (end i : ℕ) → ExprAt s S i → end ≡ end_at S i
+pub unbounded_start : (s S : List ℕ) (E : Entry) (target : Expr) (own : Bool) (end i : ℕ) → Loaded s S → Here S grammar.Expr i → end ≡ end_at S i
     → Unbounded s S E target own (any (λ t. not (bounded E t)) (others own target (sum_terms (expr_at s i)))) end i
-unbounded_start s S E target own end i h e = walk_one h.loaded h.here e (rw (terms_one (expr_at s i)) refl)
+unbounded_start s S E target own end i d h e = walk_one d h e (rw (terms_one (expr_at s i)) refl)
 
 -- the target is left out once
 left_out : (target t : Expr) (ts : List Expr) (due : Bool) → (due && same_target target t) ≡ true → others due target (t ∷ ts) ≡ others false target ts
@@ -150,9 +144,9 @@ unfolding others without
 stays target t ts true e = rw (others, without, e) (by_cases (without target ts))
   where
     by_cases : (o : Option (List Expr))
-        → ◌≡◌ {A = List Expr} (elim (map (λ us. t ∷ us) o) as (λ _. List Expr) [ none ↦ t ∷ ts | some us ↦ us ]) (t ∷ elim o as (λ _. List Expr) [ none ↦ ts | some us ↦ us ])
-    by_cases none = refl
-    by_cases (some us) = refl
+        → ◌≡◌ {A = List Expr} (elim (option_map (λ us. t ∷ us) o) as (λ _. List Expr) [ None ↦ t ∷ ts | Some us ↦ us ]) (t ∷ elim o as (λ _. List Expr) [ None ↦ ts | Some us ↦ us ])
+    by_cases None = refl
+    by_cases (Some us) = refl
 stays target t ts false e = refl
 
 none_left : (target : Expr) (due : Bool) → others due target [] ≡ []

@@ -5,31 +5,28 @@ use mathlib.Core.Bool.{Bool, true, false, ◌&&◌, ◌||◌, or_assoc, or-false
 use Prim.Native.Nat.{ℕ, ◌+◌, ◌<◌, ◌≤◌}
 use lib.Dec.{eqb}
 use Rattle.text.specs.Text.{same}
+use Rattle.grammar.specs.Grammar as grammar
 use Rattle.sheet.specs.Scratch.{kind_at, name_at, end_at}
 use Rattle.rules.specs.Text.{Name, among}
 use Rattle.rules.specs.Ast.{Expr, leaf, unary, binary, field, call, wrap, Exprs, more}
 use Rattle.rules.specs.Arithmetic.{acknowledged, mentions, mentions_any}
 use Rattle.rules.specs.Typing.{ident_leaf, leaf_has}
-use Rattle.rules.specs.Standing.{expr_at}
+use Rattle.rules.specs.Standing.{expr_at, Loaded, Here}
 use Rattle.rules.proofs.Lookups.{among_first}
 use Rattle.rules.proofs.Parts.{stop, ◌also◌, pick}
 use Rattle.rules.proofs.Exprs.{leaf_at, by_kind}
 use Rattle.rules.proofs.Forest.{joined, parts_of}
 use Rattle.rules.proofs.Walks.{any_joined, Walk, walk_one, walk_over, walk_line, walk_found, walk_inside, walk_behind}
-use Rattle.lookups.specs.Lines.{ExprAt}
 use Rattle.grammar.specs.Kinds as kinds
-
-pub walk_here : {s S : List ℕ} {P : Exprs → Type 0} {end at : ℕ} → Walk s S P end at → at < end → ExprAt s S at
-walk_here w h = record { loaded = w.loaded; here = walk_line w h }
 
 -- ------------------------------------------------------------ a name in an expression
 
 -- an expression that is no `checked` or `wrapping` mentions x itself or in its parts
-mentions_self : (s S : List ℕ) (i : ℕ) (x : Name) → ExprAt s S i → acknowledged (expr_at s i) ≡ false
+mentions_self : (s S : List ℕ) (i : ℕ) (x : Name) → Loaded s S → Here S grammar.Expr i → acknowledged (expr_at s i) ≡ false
     → mentions (expr_at s i) x ≡ ((eqb (kind_at S i) kinds.id && same (name_at s S i) x) || mentions_any (parts_of (expr_at s i)) x)
 unfolding mentions mentions_any parts_of leaf_has ident_leaf among acknowledged
-mentions_self s S i x h =
-    by_kind h.loaded h.here (λ k e. acknowledged e ≡ false → mentions e x ≡ ((eqb k kinds.id && same (name_at s S i) x) || mentions_any (parts_of e) x))
+mentions_self s S i x d h =
+    by_kind d h (λ k e. acknowledged e ≡ false → mentions e x ≡ ((eqb k kinds.id && same (name_at s S i) x) || mentions_any (parts_of e) x))
     (λ k a b _.
     pick {P = λ k. leaf_has (x ∷ []) (leaf_at k (name_at s S i)) ≡ ((eqb k kinds.id && same (name_at s S i) x) || false)} {i = kinds.int} {n = 8} k
     (refl also among_first (name_at s S i) x [] true also refl also refl also refl also refl also refl also refl also stop) a b)
@@ -48,9 +45,9 @@ mentions_wrap (wrap l s w e) x q = refl
 abbrev pub Mention : (s S : List ℕ) → Name → Bool → ℕ → ℕ → Type 0
 Mention s S x whole end at = Walk s S (λ es. whole ≡ mentions_any es x) end at
 
-pub mention_start : (s S : List ℕ) (x : Name) (end i : ℕ) → ExprAt s S i → end ≡ end_at S i → Mention s S x (mentions (expr_at s i) x) end i
+pub mention_start : (s S : List ℕ) (x : Name) (end i : ℕ) → Loaded s S → Here S grammar.Expr i → end ≡ end_at S i → Mention s S x (mentions (expr_at s i) x) end i
 unfolding mentions_any
-mention_start s S x end i h e = walk_one h.loaded h.here e (sym (or-false _))
+mention_start s S x end i d h e = walk_one d h e (sym (or-false _))
 
 module _ (s S : List ℕ) (x : Name) (whole : Bool) (end at : ℕ) (w : Mention s S x whole end at) where
   pub mention_over : end ≤ at → false ≡ whole
@@ -67,7 +64,7 @@ module _ (s S : List ℕ) (x : Name) (whole : Bool) (end at : ℕ) (w : Mention 
       self : (es : Exprs) → mentions_any (more (expr_at s at) es) x ≡ (b || mentions_any (joined (parts_of (expr_at s at)) es) x)
       unfolding mentions_any
       self es =
-          rw (mentions_self s S at x (walk_here w h) (sym e ∙ l), any_joined (λ e. mentions e x) (λ es. mentions_any es x) refl (λ e es. refl), ← t, or_assoc) refl
+          rw (mentions_self s S at x w.loaded (walk_line w h) (sym e ∙ l), any_joined (λ e. mentions e x) (λ es. mentions_any es x) refl (λ e es. refl), ← t, or_assoc) refl
 
       pub mention_found : b ≡ true → true ≡ whole
       mention_found f = walk_found w h (λ es z. sym (z ∙ self es ∙ rw f refl))

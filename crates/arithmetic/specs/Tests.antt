@@ -1,6 +1,5 @@
 -- Tests of the code that the rules have no name for.
-use Rattle.std.specs.Prelude.{Bool, true, false, not, ◌&&◌, ◌||◌, List, map}
-use Rattle.std.proofs.Math.Option.{Option, none, some}
+use Rattle.std.specs.Prelude.{Bool, true, false, not, ◌&&◌, ◌||◌, List, map, Option, Some, None}
 use Rattle.rules.specs.Text.{Name, among}
 use Rattle.rules.specs.Ast.{Lt, Gt, Le, Ge, AssignOp, Expr, leaf, unary, binary, field, call, wrap, Param, Entry}
 use Rattle.rules.specs.Arithmetic.{any, is_op, acknowledged, upper_bounds, without, addends, is_mints, asset_params, bounded}
@@ -24,14 +23,14 @@ amount_bounded entry x = among x (asset_params entry.params) || (any is_mints en
 
 -- the terms, where own without the first that is the target
 unfoldable pub others : (own : Bool) → (target : Expr) → List Expr → List Expr
-others true target ts = elim (without target ts) [ none ↦ ts | some us ↦ us ]
+others true target ts = elim (without target ts) [ None ↦ ts | Some us ↦ us ]
 others false target ts = ts
 
 -- one of the terms is unbounded
 unfoldable pub added : Entry → Option (List Expr) → Bool
-added entry none = false
-added entry (some terms) = any (λ t. not (bounded entry t)) terms
+added entry None = false
+added entry (Some terms) = any (λ t. not (bounded entry t)) terms
 
 -- an assignment adds something unbounded to its target
 unfoldable pub adds_unbounded : Entry → AssignOp → (target value : Expr) → Bool
-adds_unbounded entry op target value = added entry (elim (acknowledged value) [ true ↦ none | false ↦ addends op target value ])
+adds_unbounded entry op target value = added entry (elim (acknowledged value) [ true ↦ None | false ↦ addends op target value ])

@@ -2,11 +2,11 @@
 ghost use Rattle.std.specs.Prelude.{◌&&◌, ◌≡◌, eqb};
 ghost use Rattle.text.specs.Text.{same};
 ghost use Rattle.sheet.specs.Scratch.{kind_at, name_at};
-ghost use Rattle.grammar.specs.Grammar.{Clause};
+ghost use Rattle.grammar.specs.Grammar.{Clause, Expr};
 ghost use Rattle.rules.specs.Arithmetic.{caps_from_above, limits_bound, limits_cap, upper_bounds};
 ghost use Rattle.rules.specs.Arithmetic.{mentions as mentions_of, subtracts as subtracts_of};
-ghost use Rattle.rules.specs.Standing.{clause_at, entry_at, expr_at};
-ghost use Rattle.lookups.specs.Lines.{EntryAt, ExprAt, RecordAt};
+ghost use Rattle.rules.specs.Standing.{Here, clause_at, entry_at, expr_at};
+ghost use Rattle.lookups.specs.Lines.{KindAt};
 ghost use Rattle.arithmetic.specs.Tests.{compares as compares_of};
 ghost use Rattle.grammar.specs.Kinds as kinds;
 
@@ -28,7 +28,7 @@ fn is_named(sheet: &LoadedSheet<'_>, i: usize, x: &[u8]) -> bool
 
 // Whether the name x stands in the expression at line i, outside of `checked` and `wrapping`.
 fn mentions(sheet: &LoadedSheet<'_>, i: usize, x: &[u8]) -> bool
-    requires { ExprAt sheet.now.bytes.now sheet.now.lines.now i }
+    requires { Here sheet.now.lines.now Expr i }
     ensures { result ≡ mentions_of (expr_at sheet.now.bytes.now i) x.now }
 {
     let stop = sheet.end(i);
@@ -49,7 +49,7 @@ fn mentions(sheet: &LoadedSheet<'_>, i: usize, x: &[u8]) -> bool
 
 // Whether line i takes away what mentions x from what doesn't.
 fn subtracts(sheet: &LoadedSheet<'_>, i: usize, x: &[u8]) -> bool
-    requires { ExprAt sheet.now.bytes.now sheet.now.lines.now i }
+    requires { Here sheet.now.lines.now Expr i }
     ensures { result ≡ subtracts_of (expr_at sheet.now.bytes.now i) x.now }
 {
     if !is_op(sheet.lines, i, BinOp::Sub) {
@@ -62,8 +62,8 @@ fn subtracts(sheet: &LoadedSheet<'_>, i: usize, x: &[u8]) -> bool
 }
 
 fn upper_bounds(sheet: &LoadedSheet<'_>, small: usize, large: usize, x: &[u8]) -> bool
-    requires small_at { ExprAt sheet.now.bytes.now sheet.now.lines.now small }
-    requires large_at { ExprAt sheet.now.bytes.now sheet.now.lines.now large }
+    requires small_at { Here sheet.now.lines.now Expr small }
+    requires large_at { Here sheet.now.lines.now Expr large }
     ensures { result ≡ upper_bounds (expr_at sheet.now.bytes.now small) (expr_at sheet.now.bytes.now large) x.now }
 {
     if mentions(sheet, small, x) {
@@ -74,7 +74,7 @@ fn upper_bounds(sheet: &LoadedSheet<'_>, small: usize, large: usize, x: &[u8]) -
 
 // Whether line i is a comparison that caps x.
 fn compares(sheet: &LoadedSheet<'_>, i: usize, x: &[u8]) -> bool
-    requires { ExprAt sheet.now.bytes.now sheet.now.lines.now i }
+    requires { Here sheet.now.lines.now Expr i }
     ensures { result ≡ compares_of (expr_at sheet.now.bytes.now i) x.now }
 {
     if !sheet.is(i, Kind::Bin) {
@@ -89,7 +89,7 @@ fn compares(sheet: &LoadedSheet<'_>, i: usize, x: &[u8]) -> bool
 }
 
 fn caps_from_above(sheet: &LoadedSheet<'_>, i: usize, x: &[u8]) -> bool
-    requires { ExprAt sheet.now.bytes.now sheet.now.lines.now i }
+    requires { Here sheet.now.lines.now Expr i }
     ensures { result ≡ caps_from_above (expr_at sheet.now.bytes.now i) x.now }
 {
     let stop = sheet.end(i);
@@ -110,7 +110,7 @@ fn caps_from_above(sheet: &LoadedSheet<'_>, i: usize, x: &[u8]) -> bool
 
 // Whether the clause at line i is a `limits` that caps x.
 fn limits_cap(sheet: &LoadedSheet<'_>, i: usize, x: &[u8]) -> bool
-    requires { RecordAt Clause sheet.now.bytes.now sheet.now.lines.now i }
+    requires { Here sheet.now.lines.now Clause i }
     ensures { result ≡ limits_cap x.now (clause_at sheet.now.bytes.now i) }
 {
     if !sheet.is(i, Kind::Limits) {
@@ -120,7 +120,7 @@ fn limits_cap(sheet: &LoadedSheet<'_>, i: usize, x: &[u8]) -> bool
 }
 
 pub fn limits_bound(sheet: &LoadedSheet<'_>, entry: usize, x: &[u8]) -> bool
-    requires { EntryAt sheet.now.bytes.now sheet.now.lines.now entry }
+    requires { KindAt kinds.entry sheet.now.lines.now entry }
     ensures { result ≡ limits_bound (entry_at sheet.now.bytes.now entry) x.now }
 {
     let first = clauses_line(sheet.lines, entry);

@@ -1,16 +1,16 @@
 // The terms of a sum, and which of them are bounded.
-ghost use Rattle.std.specs.Prelude.{◌&&◌, not, ◌≡◌};
+ghost use Rattle.std.specs.Prelude.{◌&&◌, not, ◌≡◌, is_some};
 ghost use Rattle.text.specs.Text.{same};
-ghost use Rattle.grammar.specs.Grammar.{Param};
+ghost use Rattle.grammar.specs.Grammar.{Expr, Param};
 ghost use Rattle.rules.specs.Arithmetic.{any, asset_params, is_mints, same_target, sum_terms, without};
 ghost use Rattle.rules.specs.Arithmetic.{bounded as bounded_of};
 ghost use Rattle.rules.specs.Model.{is_asset_param};
-ghost use Rattle.rules.specs.Standing.{entry_at, expr_at, param_at};
+ghost use Rattle.rules.specs.Standing.{Here, entry_at, expr_at, param_at};
 ghost use Rattle.rules.specs.Text.{among};
-ghost use Rattle.rules.specs.Typing.{is_some};
-ghost use Rattle.lookups.specs.Lines.{EntryAt, ExprAt, RecordAt};
+ghost use Rattle.lookups.specs.Lines.{KindAt};
 ghost use Rattle.arithmetic.specs.Tests.{adds_unbounded, amount_bounded, names, others};
 ghost use Rattle.rules.specs.Operators.{assign_meant};
+ghost use Rattle.grammar.specs.Kinds as kinds;
 
 use crate::lines::{acknowledged, is_op};
 use grammar::{AssignOp, BinOp, Kind};
@@ -20,7 +20,7 @@ use text::is_word;
 
 // Whether an entry has a parameter of the name x.
 pub fn is_param(sheet: &LoadedSheet<'_>, entry: usize, x: &[u8]) -> bool
-    requires { EntryAt sheet.now.bytes.now sheet.now.lines.now entry }
+    requires { KindAt kinds.entry sheet.now.lines.now entry }
     ensures { result ≡ among x.now (names (entry_at sheet.now.bytes.now entry).params) }
 {
     last_named(
@@ -35,7 +35,7 @@ pub fn is_param(sheet: &LoadedSheet<'_>, entry: usize, x: &[u8]) -> bool
 
 // Whether the parameter at line i is a Q_Asset of the name x.
 fn is_asset(sheet: &LoadedSheet<'_>, i: usize, x: &[u8]) -> bool
-    requires { RecordAt Param sheet.now.bytes.now sheet.now.lines.now i }
+    requires { Here sheet.now.lines.now Param i }
     ensures { result ≡ (is_asset_param (param_at sheet.now.bytes.now i) && same x.now (param_at sheet.now.bytes.now i).name) }
 {
     if !is_word(x, sheet.name(i)) {
@@ -46,7 +46,7 @@ fn is_asset(sheet: &LoadedSheet<'_>, i: usize, x: &[u8]) -> bool
 
 // Whether one of an entry's parameters is such a one.
 fn is_asset_param(sheet: &LoadedSheet<'_>, entry: usize, x: &[u8]) -> bool
-    requires { EntryAt sheet.now.bytes.now sheet.now.lines.now entry }
+    requires { KindAt kinds.entry sheet.now.lines.now entry }
     ensures { result ≡ among x.now (asset_params (entry_at sheet.now.bytes.now entry).params) }
 {
     for at in sheet.records(entry + 1, param_count(sheet.lines, entry)) {
@@ -59,7 +59,7 @@ fn is_asset_param(sheet: &LoadedSheet<'_>, entry: usize, x: &[u8]) -> bool
 
 // Whether an entry has a `mints` clause.
 fn has_mints(sheet: &LoadedSheet<'_>, entry: usize) -> bool
-    requires { EntryAt sheet.now.bytes.now sheet.now.lines.now entry }
+    requires { KindAt kinds.entry sheet.now.lines.now entry }
     ensures { result ≡ any is_mints (entry_at sheet.now.bytes.now entry).clauses }
 {
     let first = clauses_line(sheet.lines, entry);
@@ -73,7 +73,7 @@ fn has_mints(sheet: &LoadedSheet<'_>, entry: usize) -> bool
 
 // Whether `x.amount` is bounded in an entry.
 fn amount_bounded(sheet: &LoadedSheet<'_>, entry: usize, x: &[u8]) -> bool
-    requires { EntryAt sheet.now.bytes.now sheet.now.lines.now entry }
+    requires { KindAt kinds.entry sheet.now.lines.now entry }
     ensures { result ≡ amount_bounded (entry_at sheet.now.bytes.now entry) x.now }
 {
     if is_asset_param(sheet, entry, x) {
@@ -87,8 +87,8 @@ fn amount_bounded(sheet: &LoadedSheet<'_>, entry: usize, x: &[u8]) -> bool
 
 // Whether the term at line i is bounded in an entry.
 fn bounded(sheet: &LoadedSheet<'_>, entry: usize, i: usize) -> bool
-    requires entry_at { EntryAt sheet.now.bytes.now sheet.now.lines.now entry }
-    requires expr_at { ExprAt sheet.now.bytes.now sheet.now.lines.now i }
+    requires entry_at { KindAt kinds.entry sheet.now.lines.now entry }
+    requires expr_at { Here sheet.now.lines.now Expr i }
     ensures { result ≡ bounded_of (entry_at sheet.now.bytes.now entry) (expr_at sheet.now.bytes.now i) }
 {
     if sheet.is(i, Kind::Int) {
@@ -108,8 +108,8 @@ fn bounded(sheet: &LoadedSheet<'_>, entry: usize, i: usize) -> bool
 
 // Whether the lines a and b are the same bare name.
 fn same_target(sheet: &LoadedSheet<'_>, a: usize, b: usize) -> bool
-    requires left_at { ExprAt sheet.now.bytes.now sheet.now.lines.now a }
-    requires right_at { ExprAt sheet.now.bytes.now sheet.now.lines.now b }
+    requires left_at { Here sheet.now.lines.now Expr a }
+    requires right_at { Here sheet.now.lines.now Expr b }
     ensures { result ≡ same_target (expr_at sheet.now.bytes.now a) (expr_at sheet.now.bytes.now b) }
 {
     if !sheet.is(a, Kind::Id) {
@@ -123,8 +123,8 @@ fn same_target(sheet: &LoadedSheet<'_>, a: usize, b: usize) -> bool
 
 // Whether the target is a term of the sum at line value.
 fn has_target(sheet: &LoadedSheet<'_>, target: usize, value: usize) -> bool
-    requires target_at { ExprAt sheet.now.bytes.now sheet.now.lines.now target }
-    requires value_at { ExprAt sheet.now.bytes.now sheet.now.lines.now value }
+    requires target_at { Here sheet.now.lines.now Expr target }
+    requires value_at { Here sheet.now.lines.now Expr value }
     ensures { result ≡ is_some (without (expr_at sheet.now.bytes.now target) (sum_terms (expr_at sheet.now.bytes.now value))) }
 {
     let stop = sheet.end(value);
@@ -151,9 +151,9 @@ fn has_unbounded(
     value: usize,
     own: bool,
 ) -> bool
-    requires entry_at { EntryAt sheet.now.bytes.now sheet.now.lines.now entry }
-    requires target_at { ExprAt sheet.now.bytes.now sheet.now.lines.now target }
-    requires value_at { ExprAt sheet.now.bytes.now sheet.now.lines.now value }
+    requires entry_at { KindAt kinds.entry sheet.now.lines.now entry }
+    requires target_at { Here sheet.now.lines.now Expr target }
+    requires value_at { Here sheet.now.lines.now Expr value }
     ensures { result ≡ any (λ t. not (bounded_of (entry_at sheet.now.bytes.now entry) t)) (others own (expr_at sheet.now.bytes.now target) (sum_terms (expr_at sheet.now.bytes.now value))) }
 {
     let stop = sheet.end(value);
@@ -186,9 +186,9 @@ pub fn adds_unbounded(
     target: usize,
     value: usize,
 ) -> bool
-    requires entry_at { EntryAt sheet.now.bytes.now sheet.now.lines.now entry }
-    requires target_at { ExprAt sheet.now.bytes.now sheet.now.lines.now target }
-    requires value_at { ExprAt sheet.now.bytes.now sheet.now.lines.now value }
+    requires entry_at { KindAt kinds.entry sheet.now.lines.now entry }
+    requires target_at { Here sheet.now.lines.now Expr target }
+    requires value_at { Here sheet.now.lines.now Expr value }
     ensures { result ≡ adds_unbounded (entry_at sheet.now.bytes.now entry) (assign_meant op) (expr_at sheet.now.bytes.now target) (expr_at sheet.now.bytes.now value) }
 {
     if acknowledged(sheet, value) {

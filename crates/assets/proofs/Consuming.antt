@@ -2,16 +2,14 @@
 use mathlib.Core.Logic.{◌≢◌}
 use mathlib.Core.Path.{◌≡◌, refl, sym, ap, ◌∙◌}
 use mathlib.Core.List.{List, [], ◌∷◌, ◌++◌, map}
-use mathlib.Core.Option
-use mathlib.Core.Option.{Option, none, some}
 use Prim.Native.Nat.{ℕ, zero, suc, ◌+◌, ◌≤◌}
 use native.Mathlib.Numerals.{add-one}
 use native.Mathlib.Omega.{arith}
-use lib.ListN.{length, get_elem?}
+use lib.ListN.{length}
 use mathlib.Core.Bool.{Bool, true, false, ◌||◌}
 use borrow.Author.Tests.{ne_eqb, eqb-true, eqb-false}
 use lib.Dec.{eqb}
-use Rattle.std.specs.Prelude.{Result, Ok, Err}
+use Rattle.std.specs.Prelude.{Result, Ok, Err, Option, Some, None, option_map, slice_get}
 use Rattle.text.proofs.Tests.{or_parts}
 use mir.Val.{Fits}
 use mir.Syntax.{w64}
@@ -25,12 +23,11 @@ use Rattle.rules.specs.Kept.{Table, kept}
 use Rattle.rules.specs.Typing.{Call, call_of}
 use Rattle.rules.specs.Assets.{no_asset_call, no_asset_calls, consumed_asset_call, asset_calls_consumed}
 use Rattle.rules.specs.Check.{clause_assets}
-use Rattle.rules.specs.Standing.{trees_from, nodes_at, expr_at, exprs_at, stmt_at, clause_at, Row}
+use Rattle.rules.specs.Standing.{trees_from, nodes_at, expr_at, exprs_at, stmt_at, clause_at, Loaded, Here, Row}
 use Rattle.rules.proofs.Exprs.{call_at_lem, is-call_at}
 use Rattle.rules.proofs.Records.{exprs_list, nodes_join, guard_at, let_at, emit_at, assign_at, do_at, limits_at, denies_at, mints_at, after_at}
 use Rattle.rules.proofs.Standing.{row_first, row_rest, row_take}
 use Rattle.refusals.specs.Answers.{Answers}
-use Rattle.lookups.specs.Lines.{RecordAt, RecordsAt}
 use Rattle.refusals.specs.Refusal.{refusal_of, done_of}
 use Rattle.refusals.specs.declared.refusal.Refusal.{Refusal}
 use Rattle.rules.proofs.Rows.{exprs}
@@ -58,26 +55,26 @@ consumes = record { is = λ e r a. by_cases r (call_of e) (no_asset_call e) a }
     by_cases : (r : Res Unit) (o : Option Call) (p : Rule Unit)
         → Answers (if_some_else o (λ c. no_asset_call c.callee >> for_each (list c.args) no_asset_call) p) r
         → Answers (if_some_else o (λ c. no_asset_call c.callee >> no_asset_calls c.args) p) r
-    by_cases r none p a = a
-    by_cases r (some c) p a = rw (each_walked c.args) a
+    by_cases r None p a = a
+    by_cases r (Some c) p a = rw (each_walked c.args) a
 
 pub does : Calls (λ e. asset_calls_consumed (do' e)) consumed_asset_call
 unfolding asset_calls_consumed
 does = record { is = λ e r a. a }
 
 -- What meets the expression at line i.
-module _ {rule f : Expr → Rule Unit} (c : Calls rule f) (s S : List ℕ) (i : ℕ) (h : RecordAt grammar.Expr s S i) where
+module _ {rule f : Expr → Rule Unit} (c : Calls rule f) (s S : List ℕ) (i : ℕ) (d : Loaded s S) (h : Here S grammar.Expr i) where
   pub other_walked : (r : Result Unit Refusal) → kind_at S i ≢ kinds.call → Answers (no_asset_call (expr_at s i)) (done_of s r) → Answers (rule (expr_at s i)) (done_of s r)
   unfolding if_some_else
-  other_walked r q a = c.is (expr_at s i) _ (rw (is-call_at h.loaded h.here, ne_eqb (kind_at S i) kinds.call q) a)
+  other_walked r q a = c.is (expr_at s i) _ (rw (is-call_at d h, ne_eqb (kind_at S i) kinds.call q) a)
 
   module _ (q : kind_at S i ≡ kinds.call) where
     called : (r : Res Unit) → Answers (no_asset_call (expr_at s (suc i)) >> for_each (list (exprs_at s (call_arg_count S i) (end_at S (suc i)))) f) r → Answers (rule (expr_at s i)) r
     unfolding if_some_else
-    called r a = c.is (expr_at s i) r (rw (is-call_at h.loaded h.here, q) a)
+    called r a = c.is (expr_at s i) r (rw (is-call_at d h, q) a)
 
-    pub call-args : (m j : ℕ) → m ≡ call_arg_count S i → j ≡ end_at S (i + 1) → RecordsAt grammar.Expr s S m j
-    call-args m j x y = rw (x, y, add-one) (record { loaded = h.loaded; row = row_rest (call_at_lem h.loaded h.here q).1 })
+    pub call-args : (m j : ℕ) → m ≡ call_arg_count S i → j ≡ end_at S (i + 1) → Row S grammar.Expr m j
+    call-args m j x y = rw (x, y, add-one) (row_rest (call_at_lem d h q).1)
 
     module _ (r : Result Unit Refusal) (a : Answers (no_asset_call (expr_at s (i + 1))) (done_of s r)) where
       pub callee_refused : (why : Refusal) → r ≡ Err why → Answers (rule (expr_at s i)) (done_of s (Err why))
@@ -91,58 +88,58 @@ module _ {rule f : Expr → Rule Unit} (c : Calls rule f) (s S : List ℕ) (i : 
 -- ------------------------------------------------------------ statements
 
 -- the one expression behind line i
-one_behind : (s S : List ℕ) (i : ℕ) {σ : grammar.Sort} → RecordAt σ s S i → Row S grammar.Expr 1 (suc i) → RecordAt grammar.Expr s S (i + 1)
-one_behind s S i h r = record { loaded = h.loaded; here = rw add-one (row_first r) }
+one_behind : (S : List ℕ) (i : ℕ) → Row S grammar.Expr 1 (suc i) → Here S grammar.Expr (i + 1)
+one_behind S i r = rw add-one (row_first r)
 
 two_walked : (a b : Expr) (T : Table) → kept (for_each (a ∷ b ∷ []) no_asset_call) T ≡ kept (no_asset_call a >> no_asset_call b) T
 unfolding for_each ◌>>◌
 two_walked a b T = kept_behind (no_asset_call a) (λ _. no_asset_call b >> ret tt) (λ _. no_asset_call b) T (λ _. kept_unit (no_asset_call b))
 
 -- What `asset_calls_consumed` meets, by the statement's kind.
-module _ (s S : List ℕ) (i : ℕ) (h : RecordAt grammar.Stmt s S i) where
-  pub let_value : kind_at S i ≡ kinds.let' → RecordAt grammar.Expr s S (i + 1)
-  let_value q = one_behind s S i h (let_at h.loaded h.here q).1
+module _ (s S : List ℕ) (i : ℕ) (d : Loaded s S) (h : Here S grammar.Stmt i) where
+  pub let_value : kind_at S i ≡ kinds.let' → Here S grammar.Expr (i + 1)
+  let_value q = one_behind S i (let_at d h q).1
 
   pub let_walked : (r : Result Unit Refusal) → kind_at S i ≡ kinds.let' → Answers (consumed_asset_call (expr_at s (i + 1))) (done_of s r) → Answers (asset_calls_consumed (stmt_at s i)) (done_of s r)
   unfolding asset_calls_consumed
-  let_walked r q a = rw ((let_at h.loaded h.here q).0, ← add-one i) a
+  let_walked r q a = rw ((let_at d h q).0, ← add-one i) a
 
   module _ (m : ℕ) (c : m ≡ emit_arg_count S i) (q : kind_at S i ≡ kinds.emit) where
-    pub emit-args : RecordsAt grammar.Expr s S m (i + 1)
-    emit-args = rw (c, add-one) (record { loaded = h.loaded; row = (emit_at h.loaded h.here q).1 })
+    pub emit-args : Row S grammar.Expr m (i + 1)
+    emit-args = rw (c, add-one) (emit_at d h q).1
 
     pub emit_walked : (r : Result Unit Refusal) → Answers (for_each (list (exprs_at s m (i + 1))) no_asset_call) (done_of s r) → Answers (asset_calls_consumed (stmt_at s i)) (done_of s r)
     unfolding asset_calls_consumed
-    emit_walked r a = rw ((emit_at h.loaded h.here q).0, ← c, ← add-one i) a
+    emit_walked r a = rw ((emit_at d h q).0, ← c, ← add-one i) a
 
-  pub assign_sides : kind_at S i ≡ kinds.assign → RecordsAt grammar.Expr s S 2 (i + 1)
-  assign_sides q = rw add-one (record { loaded = h.loaded; row = (assign_at h.loaded h.here q).1 })
+  pub assign_sides : kind_at S i ≡ kinds.assign → Row S grammar.Expr 2 (i + 1)
+  assign_sides q = rw add-one (assign_at d h q).1
 
   pub assign_walked : (r : Result Unit Refusal) → kind_at S i ≡ kinds.assign → Answers (for_each (list (exprs_at s 2 (i + 1))) no_asset_call) (done_of s r) → Answers (asset_calls_consumed (stmt_at s i)) (done_of s r)
   unfolding asset_calls_consumed
   assign_walked r q a =
-      let p = assign_at h.loaded h.here q in
+      let p = assign_at d h q in
       let two : list (exprs_at s 2 (suc i)) ≡ expr_at s (suc i) ∷ expr_at s (end_at S (suc i)) ∷ [] =
-      exprs.first h.loaded 1 (row_first p.1).within
-      ∙ ap (λ es. expr_at s (suc i) ∷ es) (exprs.first h.loaded 0 (row_first (row_rest p.1)).within ∙ ap (λ es. expr_at s (end_at S (suc i)) ∷ es) (exprs.empty s _)) in
+      exprs.first d 1 (row_first p.1).within
+      ∙ ap (λ es. expr_at s (suc i) ∷ es) (exprs.first d 0 (row_first (row_rest p.1)).within ∙ ap (λ es. expr_at s (end_at S (suc i)) ∷ es) (exprs.empty s _)) in
       rw p.0 (record { answers = λ T. sym (two_walked _ _ T) ∙ (rw (add-one, two) at a).answers T })
 
-  pub do_value : kind_at S i ≡ kinds.do' → RecordAt grammar.Expr s S (i + 1)
-  do_value q = one_behind s S i h (do_at h.loaded h.here q).1
+  pub do_value : kind_at S i ≡ kinds.do' → Here S grammar.Expr (i + 1)
+  do_value q = one_behind S i (do_at d h q).1
 
   pub do_walked : (r : Result Unit Refusal) → kind_at S i ≡ kinds.do' → Answers (asset_calls_consumed (do' (expr_at s (i + 1)))) (done_of s r) → Answers (asset_calls_consumed (stmt_at s i)) (done_of s r)
-  do_walked r q a = rw ((do_at h.loaded h.here q).0, ← add-one i) a
+  do_walked r q a = rw ((do_at d h q).0, ← add-one i) a
 
-  module _ (a : kind_at S i ≢ kinds.let') (b : kind_at S i ≢ kinds.emit) (c : kind_at S i ≢ kinds.assign) (d : kind_at S i ≢ kinds.do') where
+  module _ (a : kind_at S i ≢ kinds.let') (b : kind_at S i ≢ kinds.emit) (c : kind_at S i ≢ kinds.assign) (e : kind_at S i ≢ kinds.do') where
     guards : kind_at S i ≡ kinds.guard
-    guards = omega (arith, h.here.kind.0, h.here.kind.1)
+    guards = omega (arith, h.kind.0, h.kind.1)
 
-    pub guard_value : RecordAt grammar.Expr s S (i + 1)
-    guard_value = one_behind s S i h (guard_at h.loaded h.here guards).1
+    pub guard_value : Here S grammar.Expr (i + 1)
+    guard_value = one_behind S i (guard_at d h guards).1
 
     pub guard_walked : (r : Result Unit Refusal) → Answers (no_asset_call (expr_at s (i + 1))) (done_of s r) → Answers (asset_calls_consumed (stmt_at s i)) (done_of s r)
     unfolding asset_calls_consumed
-    guard_walked r x = rw ((guard_at h.loaded h.here guards).0, ← add-one i) x
+    guard_walked r x = rw ((guard_at d h guards).0, ← add-one i) x
 
 -- ------------------------------------------------------------ clauses
 
@@ -161,7 +158,7 @@ exprs_nodes s k i = sym (exprs_list (take_nodes k (trees_from s i)))
 
 -- of two rows of at most one expression each
 after_walked : (f : Expr → Rule Unit) (ns ms : List Node) → length ns ≤ 1 → length ms ≤ 1 → (T : Table)
-    → kept (for_each (map expr_of (ns ++ ms)) f) T ≡ kept (if_some (Option.map expr_of (get_elem? ns 0)) f >> if_some (Option.map expr_of (get_elem? ms 0)) f) T
+    → kept (for_each (map expr_of (ns ++ ms)) f) T ≡ kept (if_some (option_map expr_of (slice_get ns 0)) f >> if_some (option_map expr_of (slice_get ms 0)) f) T
 unfolding for_each if_some ◌>>◌ ◌>>=◌
 after_walked f [] [] a b T = refl
 after_walked f [] (m ∷ []) a b T = kept_unit (f (expr_of m)) T
@@ -172,24 +169,24 @@ after_walked f (n ∷ []) (m ∷ m' ∷ ms) a b T = absurd (omega arith)
 after_walked f (n ∷ n' ∷ ns) ms a b T = absurd (omega arith)
 
 -- What `clause_assets` meets, by the clause's kind.
-module _ (s S : List ℕ) (i : ℕ) (h : RecordAt grammar.Clause s S i) where
+module _ (s S : List ℕ) (i : ℕ) (d : Loaded s S) (h : Here S grammar.Clause i) where
   module _ (a b : ℕ) (x : a ≡ target_count S i) (y : b ≡ from_count S i) (q : kind_at S i ≡ kinds.after) where
     pub after-sum : Fits w64 (a + b)
-    after-sum = let p = after_at h.loaded h.here q in omega (arith, x, y, p.3, p.4)
+    after-sum = let p = after_at d h q in omega (arith, x, y, p.3, p.4)
 
-    pub after_exprs : RecordsAt grammar.Expr s S (a + b) (i + 1)
-    after_exprs = rw (x, y, add-one) (record { loaded = h.loaded; row = (after_at h.loaded h.here q).1 })
+    pub after_exprs : Row S grammar.Expr (a + b) (i + 1)
+    after_exprs = rw (x, y, add-one) (after_at d h q).1
 
     pub after_both : (r : Result Unit Refusal) → Answers (for_each (list (exprs_at s (a + b) (i + 1))) no_asset_call) (done_of s r) → Answers (clause_assets (clause_at s i)) (done_of s r)
     unfolding clause_assets
     after_both r g =
-        let p = after_at h.loaded h.here q in
+        let p = after_at d h q in
         let m = target_count S i in
         let n = from_count S i in
         let ts = nodes_at s m (suc i) in
         let us = nodes_at s n (skip S m (suc i)) in
         let both : list (exprs_at s (m + n) (suc i)) ≡ map expr_of (ts ++ us) =
-        exprs_nodes s (m + n) (suc i) ∙ ap (map expr_of) (nodes_join n h.loaded (row_take m (omega arith) p.1)) in
+        exprs_nodes s (m + n) (suc i) ∙ ap (map expr_of) (nodes_join n d (row_take m (omega arith) p.1)) in
         let u : length ts ≤ 1 = omega (arith, nodes_few s m (suc i), p.3) in
         let v : length us ≤ 1 = omega (arith, nodes_few s n (skip S m (suc i)), p.4) in
         rw p.0 (record { answers = λ T. sym (after_walked no_asset_call ts us u v T) ∙ (rw (x, y, add-one, both) at g).answers T })
@@ -203,11 +200,11 @@ module _ (s S : List ℕ) (i : ℕ) (h : RecordAt grammar.Clause s S i) where
         where
           by_cases : (t : Bool) → a ≡ t → (t || b) ≡ true
               → Row S grammar.Expr 1 (suc i) × ((r : Res Unit) → Answers (no_asset_call (expr_at s (suc i))) r → Answers (clause_assets (clause_at s i)) r)
-          by_cases true q y = let p = limits_at h.loaded h.here (eqb-true (kind_at S i) kinds.limits (sym u ∙ q)) in (p.1, λ r x. rw p.0 x)
-          by_cases false q y = let p = denies_at h.loaded h.here (eqb-true (kind_at S i) kinds.denies (sym v ∙ y)) in (p.1, λ r x. rw p.0 x)
+          by_cases true q y = let p = limits_at d h (eqb-true (kind_at S i) kinds.limits (sym u ∙ q)) in (p.1, λ r x. rw p.0 x)
+          by_cases false q y = let p = denies_at d h (eqb-true (kind_at S i) kinds.denies (sym v ∙ y)) in (p.1, λ r x. rw p.0 x)
 
-      pub condition_here : RecordAt grammar.Expr s S (i + 1)
-      condition_here = one_behind s S i h condition.0
+      pub condition_here : Here S grammar.Expr (i + 1)
+      condition_here = one_behind S i condition.0
 
       pub condition_walked : (r : Result Unit Refusal) → Answers (no_asset_call (expr_at s (i + 1))) (done_of s r) → Answers (clause_assets (clause_at s i)) (done_of s r)
       condition_walked r x = condition.1 _ (rw add-one at x)
@@ -215,10 +212,10 @@ module _ (s S : List ℕ) (i : ℕ) (h : RecordAt grammar.Clause s S i) where
     -- a clause with no expression
     pub bare_walked : (a || b) ≡ false → kind_at S i ≢ kinds.after → Answers (clause_assets (clause_at s i)) (done_of s (Ok tt))
     unfolding clause_assets done_of
-    bare_walked c n = rw (mints_at h.loaded h.here only).0 (gives tt)
+    bare_walked c n = rw (mints_at d h only).0 (gives tt)
       where
         no : (a ≡ false) × (b ≡ false)
         no = or_parts a b c
 
         only : kind_at S i ≡ kinds.mints
-        only = omega (arith, n, eqb-false (kind_at S i) kinds.limits (sym u ∙ no.0), eqb-false (kind_at S i) kinds.denies (sym v ∙ no.1), h.here.kind.0, h.here.kind.1)
+        only = omega (arith, n, eqb-false (kind_at S i) kinds.limits (sym u ∙ no.0), eqb-false (kind_at S i) kinds.denies (sym v ∙ no.1), h.kind.0, h.kind.1)

@@ -4,9 +4,8 @@ ghost use Rattle.rules.specs.Asking.{for_each};
 ghost use Rattle.rules.specs.Assets.{asset_calls_consumed, consumed_asset_call};
 ghost use Rattle.rules.specs.Ast.{do', list};
 ghost use Rattle.rules.specs.Check.{clause_assets};
-ghost use Rattle.rules.specs.Standing.{clause_at, clauses_at, expr_at, exprs_at, stmt_at, stmts_at};
+ghost use Rattle.rules.specs.Standing.{Here, Row, clause_at, clauses_at, expr_at, exprs_at, stmt_at, stmts_at};
 ghost use Rattle.refusals.specs.Answers.{Answers};
-ghost use Rattle.lookups.specs.Lines.{RecordAt, RecordsAt};
 ghost use Rattle.refusals.specs.Refusal.{done_of};
 
 use crate::made::{no_asset_call, no_asset_calls};
@@ -16,7 +15,7 @@ use sheet::{LoadedSheet, call_arg_count, emit_arg_count, from_count, target_coun
 
 // The expression at line i is bound or passed: it may itself make an asset.
 fn consumed_asset_call(sheet: &LoadedSheet<'_>, i: usize) -> Result<(), Refusal>
-    requires { RecordAt Expr sheet.now.bytes.now sheet.now.lines.now i }
+    requires { Here sheet.now.lines.now Expr i }
     ensures { Answers (consumed_asset_call (expr_at sheet.now.bytes.now i)) (done_of sheet.now.bytes.now result) }
 {
     if !sheet.is(i, Kind::Call) {
@@ -28,7 +27,7 @@ fn consumed_asset_call(sheet: &LoadedSheet<'_>, i: usize) -> Result<(), Refusal>
 
 // Each of count expressions, the first at line from.
 fn consumed_asset_calls(sheet: &LoadedSheet<'_>, from: usize, count: usize) -> Result<(), Refusal>
-    requires { RecordsAt Expr sheet.now.bytes.now sheet.now.lines.now count from }
+    requires { Row sheet.now.lines.now Expr count from }
     ensures { Answers (for_each (list (exprs_at sheet.now.bytes.now count from)) consumed_asset_call) (done_of sheet.now.bytes.now result) }
 {
     for at in sheet.records(from, count) {
@@ -39,7 +38,7 @@ fn consumed_asset_calls(sheet: &LoadedSheet<'_>, from: usize, count: usize) -> R
 
 // The expression at line i is a statement.
 fn do_consumed(sheet: &LoadedSheet<'_>, i: usize) -> Result<(), Refusal>
-    requires { RecordAt Expr sheet.now.bytes.now sheet.now.lines.now i }
+    requires { Here sheet.now.lines.now Expr i }
     ensures { Answers (asset_calls_consumed (do' (expr_at sheet.now.bytes.now i))) (done_of sheet.now.bytes.now result) }
 {
     if !sheet.is(i, Kind::Call) {
@@ -50,7 +49,7 @@ fn do_consumed(sheet: &LoadedSheet<'_>, i: usize) -> Result<(), Refusal>
 }
 
 pub fn asset_calls_consumed(sheet: &LoadedSheet<'_>, i: usize) -> Result<(), Refusal>
-    requires { RecordAt Stmt sheet.now.bytes.now sheet.now.lines.now i }
+    requires { Here sheet.now.lines.now Stmt i }
     ensures { Answers (asset_calls_consumed (stmt_at sheet.now.bytes.now i)) (done_of sheet.now.bytes.now result) }
 {
     if sheet.is(i, Kind::Let) {
@@ -70,7 +69,7 @@ pub fn asset_calls_consumed(sheet: &LoadedSheet<'_>, i: usize) -> Result<(), Ref
 
 // An `after` has at most a target and a `from`.
 fn clause_assets(sheet: &LoadedSheet<'_>, i: usize) -> Result<(), Refusal>
-    requires { RecordAt Clause sheet.now.bytes.now sheet.now.lines.now i }
+    requires { Here sheet.now.lines.now Clause i }
     ensures { Answers (clause_assets (clause_at sheet.now.bytes.now i)) (done_of sheet.now.bytes.now result) }
 {
     if sheet.is(i, Kind::Limits) | sheet.is(i, Kind::Denies) {
@@ -87,7 +86,7 @@ fn clause_assets(sheet: &LoadedSheet<'_>, i: usize) -> Result<(), Refusal>
 }
 
 pub fn clauses_assets(sheet: &LoadedSheet<'_>, from: usize, count: usize) -> Result<(), Refusal>
-    requires { RecordsAt Clause sheet.now.bytes.now sheet.now.lines.now count from }
+    requires { Row sheet.now.lines.now Clause count from }
     ensures { Answers (for_each (clauses_at sheet.now.bytes.now count from) clause_assets) (done_of sheet.now.bytes.now result) }
 {
     for at in sheet.records(from, count) {
@@ -97,7 +96,7 @@ pub fn clauses_assets(sheet: &LoadedSheet<'_>, from: usize, count: usize) -> Res
 }
 
 pub fn body_assets(sheet: &LoadedSheet<'_>, from: usize, count: usize) -> Result<(), Refusal>
-    requires { RecordsAt Stmt sheet.now.bytes.now sheet.now.lines.now count from }
+    requires { Row sheet.now.lines.now Stmt count from }
     ensures { Answers (for_each (stmts_at sheet.now.bytes.now count from) asset_calls_consumed) (done_of sheet.now.bytes.now result) }
 {
     for at in sheet.records(from, count) {

@@ -4,9 +4,8 @@ ghost use Rattle.grammar.specs.Grammar.{Expr};
 ghost use Rattle.rules.specs.Asking.{for_each};
 ghost use Rattle.rules.specs.Assets.{makes_asset, no_asset_call};
 ghost use Rattle.rules.specs.Ast.{list};
-ghost use Rattle.rules.specs.Standing.{expr_at, exprs_at};
+ghost use Rattle.rules.specs.Standing.{Here, Row, expr_at, exprs_at};
 ghost use Rattle.refusals.specs.Answers.{Answers};
-ghost use Rattle.lookups.specs.Lines.{RecordAt, RecordsAt};
 ghost use Rattle.refusals.specs.Refusal.{done_of};
 ghost use Rattle.assets.specs.Made.{is_asset_call};
 
@@ -17,7 +16,7 @@ use text::is_word;
 
 // Whether a call of the callee at line i makes an asset.
 fn makes_asset(sheet: &LoadedSheet<'_>, i: usize) -> bool
-    requires { RecordAt Expr sheet.now.bytes.now sheet.now.lines.now i }
+    requires { Here sheet.now.lines.now Expr i }
     ensures { result ≡ makes_asset (expr_at sheet.now.bytes.now i) }
 {
     let word = sheet.name(i);
@@ -26,7 +25,7 @@ fn makes_asset(sheet: &LoadedSheet<'_>, i: usize) -> bool
 }
 
 fn is_asset_call(sheet: &LoadedSheet<'_>, i: usize) -> bool
-    requires { RecordAt Expr sheet.now.bytes.now sheet.now.lines.now i }
+    requires { Here sheet.now.lines.now Expr i }
     ensures { result ≡ is_asset_call (expr_at sheet.now.bytes.now i) }
 {
     if !sheet.is(i, Kind::Call) {
@@ -37,7 +36,7 @@ fn is_asset_call(sheet: &LoadedSheet<'_>, i: usize) -> bool
 
 // The lines of an expression stand in the order in which its parts are visited.
 pub fn no_asset_call(sheet: &LoadedSheet<'_>, i: usize) -> Result<(), Refusal>
-    requires { RecordAt Expr sheet.now.bytes.now sheet.now.lines.now i }
+    requires { Here sheet.now.lines.now Expr i }
     ensures { Answers (no_asset_call (expr_at sheet.now.bytes.now i)) (done_of sheet.now.bytes.now result) }
 {
     for at in i..sheet.end(i) {
@@ -50,7 +49,7 @@ pub fn no_asset_call(sheet: &LoadedSheet<'_>, i: usize) -> Result<(), Refusal>
 
 // Each of count expressions, the first at line from.
 pub fn no_asset_calls(sheet: &LoadedSheet<'_>, from: usize, count: usize) -> Result<(), Refusal>
-    requires { RecordsAt Expr sheet.now.bytes.now sheet.now.lines.now count from }
+    requires { Row sheet.now.lines.now Expr count from }
     ensures { Answers (for_each (list (exprs_at sheet.now.bytes.now count from)) no_asset_call) (done_of sheet.now.bytes.now result) }
 {
     for at in sheet.records(from, count) {

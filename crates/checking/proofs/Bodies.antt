@@ -3,7 +3,6 @@ use mathlib.Core.Logic.{◌≢◌}
 use mathlib.Core.Path.{◌≡◌, refl, sym, ap, ◌∙◌}
 use mathlib.Core.List.{List, [], ◌∷◌, ◌++◌, append-nil, map-append}
 use mathlib.Core.Bool.{Bool, true, false, not}
-use mathlib.Core.Option.{Option, none, some}
 use Prim.Native.Nat.{ℕ, suc, ◌+◌, ◌-◌, ◌≤◌}
 use native.Mathlib.Numerals.{add-one}
 use native.Mathlib.Omega.{arith}
@@ -11,7 +10,7 @@ use lib.Dec.{eqb}
 use lib.ListN.{length, get_or}
 use lib.Seq.{get_or-set_same}
 use borrow.Author.Tests.{eq-eqb, ne_eqb, eqb-true, eqb-false}
-use Rattle.std.specs.Prelude.{Result, Ok, Err}
+use Rattle.std.specs.Prelude.{Result, Ok, Err, Option, Some, None}
 use Rattle.grammar.specs.Grammar as grammar
 use Rattle.sheet.specs.Scratch.{kind_at, name_at, end_at, skip, emit_arg_count}
 use Rattle.sheet.specs.Tree.{Node, node}
@@ -31,7 +30,8 @@ use Rattle.rules.proofs.AnyTable.{from_table, first_time}
 use Rattle.rules.proofs.Binding.{kept-length, then_ok, then_refused, kept_assoc, refused_behind}
 use Rattle.rules.proofs.Parts.{stop as end', ◌also◌, pick}
 use Rattle.rules.proofs.Records.{guard_at, let_at, emit_at, assign_at, do_at, no_stmts, stmts_next}
-use Rattle.rules.proofs.Standing.{Stands, stands, row_first, row_nth, row_take, skip_next, nodes_last}
+use Rattle.rules.proofs.Rows.{row_some}
+use Rattle.rules.proofs.Standing.{Stands, stands, row_first, nodes_last, row_rest}
 use Rattle.refusals.proofs.Answers.{fits, misfits}
 use denote.Enum.Bare.{sameb}
 use Rattle.rules.specs.contracts.ty.Ty.{the_type}
@@ -42,68 +42,69 @@ use Rattle.refusals.specs.Refusal.{refusal_of, done_of}
 use Rattle.refusals.specs.declared.refusal.Refusal.{Refusal}
 use Rattle.refusals.specs.declared.refusal.Refusal.TheVariants.{CollectionLocal}
 use Rattle.env.specs.Answers.{typed_of}
-use Rattle.env.specs.Force.{params_in, env_of, local_of, named_end, lets, ends_in, InForce}
+use Rattle.env.specs.Force.{params_in, env_of, local_of, named_end, lets, ends_in, InForce, bind_next}
+use Rattle.env.proofs.Bound.{bound_in_force}
 use Rattle.env.proofs.Mentioned.{not_stale_at}
 use Rattle.env.specs.declared.env.Env.{Env}
 use Rattle.typing.specs.Asks.{Asks, Types, Does}
-use Rattle.typing.proofs.Asking.{asks_line, of_expr}
+use Rattle.typing.proofs.Asking.{asks_line}
 use Rattle.typing.proofs.Calls.{did, stopped, does_length}
 use Rattle.typing.proofs.Operators.{gave}
 use Rattle.typing.proofs.Doing.{does_then, does_cut, does_nothing}
-use Rattle.statements.specs.Checked.{StmtIn}
+use Rattle.statements.specs.Checked.{StmtIn, StmtOf}
 use Rattle.emits.specs.Emit.{EmitIn, emit_rule}
-use Rattle.checking.specs.Walk.{with_locals, no_let, a_let, ReadyTyped, stmt_rule, BodyStmt, StmtOf, Binds, StmtDoes, BodyAt}
+use Rattle.checking.specs.Walk.{no_let, a_let, RoomTyped, stmt_rule, BodyStmt, Binds, StmtDoes, BodyAt}
 use Rattle.checking.proofs.Locals.{lets-append, OnTyped, on_typed}
 use Rattle.grammar.specs.Kinds as kinds
 
 -- ------------------------------------------------------------ a statement
 
 -- the table has the type that was answered, where no bound `let` ends behind the line
-marked_by : (s S : List ℕ) (env : Env) (T : Table) (i : ℕ) (t : Ty) (U : Table) → Asks s S env T i → env.next ≤ i
-    → kept (ty_of (env_of s T env) (expr_at s i)) T ≡ record { res = ok t; table = U } → ty_of_mark (get_or U i 0) ≡ some t
+marked_by : (s S : List ℕ) (env : Env) (T : Table) (i : ℕ) (t : Ty) (U : Table) → Loaded s S → InForce S env → Asks S T i → env.next ≤ i
+    → kept (ty_of (env_of s T env) (expr_at s i)) T ≡ record { res = ok t; table = U } → ty_of_mark (get_or U i 0) ≡ Some t
 unfolding code_r
-marked_by s S env T i t U h l e = by_cases (ty_of_mark (get_or T i 0)) refl
+marked_by s S env T i t U loaded force h l e = by_cases (ty_of_mark (get_or T i 0)) refl
   where
     here : line (expr_at s i) ≡ i
-    here = asks_line s S env T i h
+    here = asks_line s S env T i loaded force h
 
-    by_cases : (o : Option Ty) → ty_of_mark (get_or T i 0) ≡ o → ty_of_mark (get_or U i 0) ≡ some t
-    by_cases (some u) q =
-        let f = sym e ∙ from_table (env_of s T env) (expr_at s i) T u (not_stale_at s S env T i (of_expr s S env T i h) l) (rw here q) in
+    by_cases : (o : Option Ty) → ty_of_mark (get_or T i 0) ≡ o → ty_of_mark (get_or U i 0) ≡ Some t
+    by_cases (Some u) q =
+        let f = sym e ∙ from_table (env_of s T env) (expr_at s i) T u (not_stale_at s S env T i loaded force h.here l) (rw here q) in
         let z : ◌≡◌ {A = Res Ty} (ok t) (ok u) = ap (λ o. o.res) f in
         let y : t ≡ u = cc in
         let w : U ≡ T = ap (λ o. o.table) f in
         rw (w, y) q
-    by_cases none q =
+    by_cases None q =
         let f = first_time (env_of s T env) (expr_at s i) T (rw here q) in
         let X = (kept (typing (env_of s T env) (expr_at s i)) T).table in
         let r : (kept (typing (env_of s T env) (expr_at s i)) T).res ≡ ok t = sym (ap (λ o. o.res) f) ∙ ap (λ o. o.res) e in
         let m : get_or U i 0 ≡ code t =
         ap (λ o. get_or o.table i 0) (sym e ∙ f)
-        ∙ rw (here, r) (get_or-set_same X i (code t) 0 (rw (kept-length (typing (env_of s T env) (expr_at s i)) T) (omega (arith, h.here.within, h.ready.room)))) in
+        ∙ rw (here, r) (get_or-set_same X i (code t) 0 (rw (kept-length (typing (env_of s T env) (expr_at s i)) T) (omega (arith, h.here.within, h.room)))) in
         rw m (code_tells t)
 
-module _ (s S : List ℕ) (env : Env) (T : Table) (i : ℕ) (h : StmtOf kinds.let' s S env T i) where
+module _ (s S : List ℕ) (env : Env) (T : Table) (i : ℕ) (loaded : Loaded s S) (force : InForce S env) (h : StmtOf kinds.let' S T i) where
   let_is : (stmt_at s i ≡ bind (name_at s S i) (expr_at s (suc i))) × Row S grammar.Expr 1 (suc i) × (skip S 1 (suc i) ≡ end_at S i)
-  let_is = let_at h.stmt.ready.ready.force.loaded h.stmt.here h.kind
+  let_is = let_at loaded h.stmt.here h.kind
 
-  pub let_asks : Asks s S env T (i + 1)
-  let_asks = record { ready = h.stmt.ready.ready; here = rw (add-one i) (row_first let_is.1) }
+  pub let_asks : Asks S T (i + 1)
+  let_asks = record { room = h.stmt.room; here = rw (add-one i) (row_first let_is.1) }
 
   module _ (a : Result Ty Refusal) (U : Table) (y : Types s (ty_of (env_of s T env) (expr_at s (i + 1))) T a U) where
     module _ (c : Ty) (e : a ≡ Ok c) (b : Bool) (f : b ≡ sameb the_type c Collection) where
       typed : kept (ty_of (env_of s T env) (expr_at s (suc i))) T ≡ record { res = ok c; table = U }
       typed = rw (← add-one i) (gave s _ T a U y c e)
 
-      pub let_bound : b ≡ false → StmtDoes s S (env_of s T env) i T (Ok tt) U
+      pub let_bound : env.next ≡ i → b ≡ false → StmtDoes s S (env_of s T env) i T (Ok tt) U
       unfolding stmt_rule check_local done_of
-      let_bound q =
+      let_bound n q =
           let k : kept (check_local (expr_at s (suc i)) c) U ≡ record { res = ok tt; table = U } =
           (fits (not (eq_ty c Collection)) _ _ _ (rw (← told_ty c Collection b f, q) refl)).answers U in
           record {
             does = record { gives = rw let_is.0 (then_ok _ (check_local (expr_at s (suc i))) T U c _ typed k) };
             binds = λ z w.
-                record { type = c; typed = typed; fits = k; marked = marked_by s S env T (suc i) c U (rw (add-one i) at let_asks) (omega (arith, h.stmt.next)) typed };
+                record { type = c; typed = typed; fits = k; marked = marked_by s S env T (suc i) c U loaded force (rw (add-one i) at let_asks) (omega (arith, n)) typed };
           }
 
       pub let_collection : b ≡ true → StmtDoes s S (env_of s T env) i T (Err (CollectionLocal (i + 1))) U
@@ -128,62 +129,59 @@ module _ (s S : List ℕ) (env : Env) (T : Table) (i : ℕ) (h : StmtOf kinds.le
 other : {s S : List ℕ} {Γ : typing.Env} {i : ℕ} {T U : Table} {r : Result Unit Refusal} → kind_at S i ≢ kinds.let' → Does s (stmt_rule Γ (stmt_at s i)) T r U → StmtDoes s S Γ i T r U
 other n d = record { does = d; binds = λ z w. absurd (n w) }
 
-module _ (s S : List ℕ) (env : Env) (T : Table) (i : ℕ) (h : StmtOf kinds.do' s S env T i) where
+module _ (s S : List ℕ) (env : Env) (T : Table) (i : ℕ) (loaded : Loaded s S) (force : InForce S env) (typed : RoomTyped s S env T) (h : Here S grammar.Stmt i) (q : kind_at S i ≡ kinds.do') where
   do_is : (stmt_at s i ≡ do' (expr_at s (suc i))) × Row S grammar.Expr 1 (suc i) × (skip S 1 (suc i) ≡ end_at S i)
-  do_is = do_at h.stmt.ready.ready.force.loaded h.stmt.here h.kind
+  do_is = do_at loaded h q
 
-  pub do_types : StmtIn s S env T i
-  do_types = record { ready = h.stmt.ready.ready; here = h.stmt.here }
+  pub do_types : StmtIn S T i
+  do_types = record { room = typed.room; here = h }
 
   module _ (d : Result Unit Refusal) (U : Table) (a : Does s (check_stmt_types (env_of s T env) (stmt_at s i)) T d U) where
     pub do_no : (x : Refusal) → d ≡ Err x → StmtDoes s S (env_of s T env) i T (Err x) U
     unfolding stmt_rule
-    do_no x e = other (omega (arith, h.kind)) (rw do_is.0 (does_cut s _ _ T d U (rw do_is.0 at a) x e))
+    do_no x e = other (omega (arith, q)) (rw do_is.0 (does_cut s _ _ T d U (rw do_is.0 at a) x e))
 
     module _ (e : d ≡ Ok tt) where
       on : OnTyped s S env T U
-      on = on_typed s S env T U _ tt h.stmt.ready (did s _ T d U a.gives e)
+      on = on_typed s S env T U _ tt typed (did s _ T d U a.gives e)
 
-      pub do_asks : Asks s S env U (i + 1)
-      do_asks = record { ready = on.on.ready; here = rw (add-one i) (row_first do_is.1) }
+      pub do_asks : Asks S U (i + 1)
+      do_asks = record { room = on.on.room; here = rw (add-one i) (row_first do_is.1) }
 
       pub do_ok : (r : Result Unit Refusal) (W : Table) → Does s (refuse_name_recipient (env_of s U env) (expr_at s (i + 1))) U r W → StmtDoes s S (env_of s T env) i T r W
       unfolding stmt_rule
       do_ok r W k =
-          other (omega (arith, h.kind))
+          other (omega (arith, q))
           (rw do_is.0 (does_then s _ _ T d U (rw do_is.0 at a) e r W (rw (← on.on.same, ← add-one i) k)))
 
-module _ (s S : List ℕ) (env : Env) (T : Table) (i : ℕ) (h : BodyStmt s S env T i) where
-  bd : Loaded s S
-  bd = h.ready.ready.force.loaded
-
-  pub guard_asks : kind_at S i ≡ kinds.guard → Asks s S env T (i + 1)
-  guard_asks q = record { ready = h.ready.ready; here = rw (add-one i) (row_first (guard_at bd h.here q).1) }
+module _ (s S : List ℕ) (env : Env) (T : Table) (i : ℕ) (loaded : Loaded s S) (force : InForce S env) (h : BodyStmt s S env T i) where
+  pub guard_asks : kind_at S i ≡ kinds.guard → Asks S T (i + 1)
+  guard_asks q = record { room = h.typed.room; here = rw (add-one i) (row_first (guard_at loaded h.here q).1) }
 
   pub guard_does : (r : Result Unit Refusal) (U : Table) → kind_at S i ≡ kinds.guard → Does s (expect_predicate (env_of s T env) (expr_at s (i + 1))) T r U → StmtDoes s S (env_of s T env) i T r U
   unfolding stmt_rule
-  guard_does r U q a = other (omega (arith, q)) (rw ((guard_at bd h.here q).0, ← add-one i) a)
+  guard_does r U q a = other (omega (arith, q)) (rw ((guard_at loaded h.here q).0, ← add-one i) a)
 
-  pub stmt_of_lem : (m : ℕ) → kind_at S i ≡ m → StmtOf m s S env T i
-  stmt_of_lem m q = record { stmt = h; kind = q }
+  pub stmt_let : kind_at S i ≡ kinds.let' → StmtOf kinds.let' S T i
+  stmt_let q = record { stmt = record { room = h.typed.room; here = h.here }; kind = q }
 
-  pub stmt_do : kind_at S i ≢ kinds.guard → kind_at S i ≢ kinds.let' → kind_at S i ≢ kinds.emit → kind_at S i ≢ kinds.assign → StmtOf kinds.do' s S env T i
-  stmt_do a b c d = record { stmt = h; kind = omega (arith, h.here.kind.0, h.here.kind.1) }
+  pub stmt_do : kind_at S i ≢ kinds.guard → kind_at S i ≢ kinds.let' → kind_at S i ≢ kinds.emit → kind_at S i ≢ kinds.assign → kind_at S i ≡ kinds.do'
+  stmt_do a b c d = omega (arith, h.here.kind.0, h.here.kind.1)
 
-  pub emit_in : kind_at S i ≡ kinds.emit → EmitIn s S env T i
-  emit_in q = record { ready = h.ready.ready; within = h.here.within; kind = q }
+  pub emit_in : kind_at S i ≡ kinds.emit → EmitIn S T i
+  emit_in q = record { room = h.typed.room; within = h.here.within; kind = q }
 
   pub emit_does : (r : Result Unit Refusal) (U : Table) → kind_at S i ≡ kinds.emit → Does s (emit_rule (env_of s T env) (name_at s S i) (list (exprs_at s (emit_arg_count S i) (suc i)))) T r U → StmtDoes s S (env_of s T env) i T r U
   unfolding stmt_rule
-  emit_does r U q a = other (omega (arith, q)) (rw (emit_at bd h.here q).0 a)
+  emit_does r U q a = other (omega (arith, q)) (rw (emit_at loaded h.here q).0 a)
 
-  pub assign_in : kind_at S i ≡ kinds.assign → StmtIn s S env T i
-  assign_in q = record { ready = h.ready.ready; here = h.here }
+  pub assign_in : kind_at S i ≡ kinds.assign → StmtIn S T i
+  assign_in q = record { room = h.typed.room; here = h.here }
 
   pub assign_does : (r : Result Unit Refusal) (U : Table) → kind_at S i ≡ kinds.assign → Does s (check_stmt_types (env_of s T env) (stmt_at s i)) T r U → StmtDoes s S (env_of s T env) i T r U
   unfolding stmt_rule
   assign_does r U q a =
-      let t = (assign_at bd h.here q).0 in
+      let t = (assign_at loaded h.here q).0 in
       other (omega (arith, q)) (rw t (rw t at a))
 
 -- ------------------------------------------------------------ statements one behind another
@@ -227,28 +225,31 @@ is_other {s} {S} {i} d h n =
     h.kind.0 h.kind.1 refl
 
 -- one statement more is behind: what its `let` adds
-module _ (s S : List ℕ) (T : Table) (params count body total at left : ℕ) (h : BodyAt s S T params count body total at left) (n : left ≢ 0) where
-  abbrev env : Env
-  env = with_locals params count body (total - left) at
+module _ (s S : List ℕ) (env : Env) (T : Table) (left : ℕ) (loaded : Loaded s S) (force : InForce S env) (h : BodyAt s S env T left) (n : left ≢ 0) where
+  abbrev at : ℕ
+  at = env.next
 
   abbrev grown : Env
-  grown = with_locals params count body (suc (total - left)) (end_at S at)
+  grown = bind_next S env
 
-  d : Loaded s S
-  d = h.ready.ready.force.loaded
+  rest : Row S grammar.Stmt (suc (left - 1)) at
+  rest = row_some (omega arith) h.row
 
   here : Here S grammar.Stmt at
-  here = rw h.here (row_nth (total - left) (omega arith) h.row)
+  here = row_first rest
 
   st : Stands s S at
-  st = stands d at here.within
+  st = stands loaded at here.within
 
-  lets_next : lets s (suc (total - left)) body ≡ lets s (total - left) body ++ of_kind kinds.let' (node_at s at ∷ [])
-  unfolding lets
+  force_grown : InForce S grown
+  force_grown = bound_in_force S env force here
+
+  lets_next : lets s (suc env.bound) env.body ≡ lets s env.bound env.body ++ of_kind kinds.let' (node_at s at ∷ [])
+  unfolding lets bind_next
   lets_next =
-      ap (of_kind kinds.let') (nodes_last (total - left) d (row_take (suc (total - left)) (omega (arith, h.few)) h.row))
-      ∙ of_kind-append kinds.let' (nodes_at s (total - left) body) (node_at s (skip S (total - left) body) ∷ [])
-      ∙ rw h.here refl
+      ap (of_kind kinds.let') (nodes_last env.bound loaded force_grown.locals)
+      ∙ of_kind-append kinds.let' (nodes_at s env.bound env.body) (node_at s (skip S env.bound env.body) ∷ [])
+      ∙ rw force.next refl
 
   kind_here : node_kind (node_at s at) ≡ kind_at S at
   unfolding node_kind
@@ -263,69 +264,54 @@ module _ (s S : List ℕ) (T : Table) (params count body total at left : ℕ) (h
   unfolding of_kind
   let_here q = rw (of_kind, let z : eqb (node_kind (node_at s at)) kinds.let' ≡ true = rw kind_here (eq-eqb (kind_at S at) kinds.let' q) in z) refl
 
-  force_grown : InForce s S grown
-  unfolding with_locals
-  force_grown =
-      record {
-        loaded = d;
-        params = h.ready.ready.force.params;
-        locals = row_take (suc (total - left)) (omega (arith, h.few)) h.row;
-        next = ap (end_at S) h.here ∙ sym (skip_next S (total - left) body);
-      }
-
   -- what is in force on U with the statement behind
   pub record Grown (U : Table) (Γ : typing.Env) : Type 0 where
-    pub ready : ReadyTyped s S grown U
+    pub typed : RoomTyped s S grown U
     pub is : env_of s U grown ≡ Γ
 
   module _ (U : Table) (o : OnTyped s S env T U) where
     still : kind_at S at ≢ kinds.let' → Grown U (env_of s T env)
-    unfolding with_locals env_of params_in ends_in
+    unfolding bind_next env_of params_in ends_in
     still q =
         record {
-          ready =
-              record {
-                ready = record { force = force_grown; room = o.on.ready.room };
-                typed = rw (lets_next, no_let_here q, append-nil) o.typed;
-              };
+          typed = record { room = o.on.room; typed = rw (lets_next, no_let_here q, append-nil) o.typed };
           is = rw (lets_next, no_let_here q, append-nil) o.on.same;
         }
 
     bound-now : (q : kind_at S at ≡ kinds.let') (b : Binds s (env_of s T env) T at U) → Grown U (bound (env_of s T env) (name_at s S at) b.type (line_after (expr_at s (suc at))))
-    unfolding with_locals env_of params_in ends_in bound local_of named_end ty_from
+    unfolding bind_next env_of params_in ends_in bound local_of named_end ty_from
     bound-now q b =
         record {
-          ready =
+          typed =
               record {
-                ready = record { force = force_grown; room = o.on.ready.room };
+                room = o.on.room;
                 typed =
                     rw (lets_next, let_here q) (lets-append o.typed (rw st.here (a_let {t = node at st.line st.parts} (b.type, b.marked) no_let)));
               };
           is =
               let was = ap (λ (Γ : typing.Env). Γ.locals) o.on.same in
               let type-is : ty_from (get_or U (suc at) 0) ≡ b.type = rw (ty_from, b.marked) refl in
-              rw (lets_next, let_here q, map-append (local_of U) (lets s (total - left) body) (node_at s at ∷ []), map-append (named_end s) (lets s (total - left) body) (node_at s at ∷ []), was, st.here, st.spells.name, type-is) refl;
+              rw (lets_next, let_here q, map-append (local_of U) (lets s env.bound env.body) (node_at s at ∷ []), map-append (named_end s) (lets s env.bound env.body) (node_at s at ∷ []), was, st.here, st.spells.name, type-is) refl;
         }
 
   -- ------------------------------------------------------------ check_body
 
-  pub body_few : left ≤ total
-  body_few = h.few
+  pub body_stmt : BodyStmt s S env T at
+  body_stmt = record { typed = h.typed; here = here; next = refl }
 
-  pub body_stmt : (k : ℕ) (Γ : Env) → Γ ≡ with_locals params count body k at → k ≡ total - left → BodyStmt s S Γ T at
-  unfolding with_locals
-  body_stmt k Γ e q = rw (e, q) (record { ready = h.ready; here = here; next = refl })
+  pub body_here : Here S grammar.Stmt at
+  body_here = here
+
+  pub body_some : 1 ≤ left
+  body_some = omega arith
 
   -- `check_body` from this statement on, in which the rest is checked
   stmts_are : stmts_at s left at ≡ stmt_at s at ∷ stmts_at s (left - 1) (end_at S at)
-  stmts_are = ap (λ k. stmts_at s k at) (let y : left ≡ suc (left - 1) = omega arith in y) ∙ stmts_next d (left - 1) here.within
+  stmts_are = ap (λ k. stmts_at s k at) (let y : left ≡ suc (left - 1) = omega arith in y) ∙ stmts_next loaded (left - 1) here.within
 
-  module _ (k : ℕ) (Γ : Env) (e : Γ ≡ with_locals params count body k at) (q : k ≡ total - left) (o : Result Unit Refusal) (U : Table) (a : StmtDoes s S (env_of s T Γ) at T o U) where
-    does : StmtDoes s S (env_of s T env) at T o U
-    does = rw (← (e ∙ ap (λ m. with_locals params count body m at) q)) a
-
+  module _ (o : Result Unit Refusal) (U : Table) (does : StmtDoes s S (env_of s T env) at T o U) where
     let_is_here : kind_at S at ≡ kinds.let' → stmt_at s at ≡ bind (name_at s S at) (expr_at s (suc at))
-    let_is_here w = (let_at d here w).0
+    let_is_here w = (let_at loaded here w).0
 
     pub body_no : (x : Refusal) → o ≡ Err x → Does s (check_body (env_of s T env) (stmts_at s left at)) T (Err x) U
     unfolding check_body stmt_rule ◌>>◌ done_of
@@ -336,11 +322,11 @@ module _ (s S : List ℕ) (T : Table) (params count body total at left : ℕ) (h
             let i = let_is_here (eqb-true (kind_at S at) kinds.let' w) in
             record { gives = rw i (refused_behind (ty_of (env_of s T env) (expr_at s (suc at))) (check_local (expr_at s (suc at))) (λ ty. check_body (bound (env_of s T env) (name_at s S at) ty (line_after (expr_at s (suc at)))) (stmts_at s (left - 1) (end_at S at))) T U (refusal_of s x) (rw i at (stopped s (stmt_rule (env_of s T env) (stmt_at s at)) T o U does.does.gives x z))) }
         by_cases false w =
-            record { gives = step_other (env_of s T env) (stmt_at s at) (stmts_at s (left - 1) (end_at S at)) T (is_other d here (eqb-false (kind_at S at) kinds.let' w)) ∙ (does_cut s (stmt_rule (env_of s T env) (stmt_at s at)) (check_body (env_of s T env) (stmts_at s (left - 1) (end_at S at))) T o U does.does x z).gives }
+            record { gives = step_other (env_of s T env) (stmt_at s at) (stmts_at s (left - 1) (end_at S at)) T (is_other loaded here (eqb-false (kind_at S at) kinds.let' w)) ∙ (does_cut s (stmt_rule (env_of s T env) (stmt_at s at)) (check_body (env_of s T env) (stmts_at s (left - 1) (end_at S at))) T o U does.does x z).gives }
 
     module _ (f : o ≡ Ok tt) where
       onw : OnTyped s S env T U
-      onw = on_typed s S env T U _ tt h.ready (did s _ T o U does.does.gives f)
+      onw = on_typed s S env T U _ tt h.typed (did s _ T o U does.does.gives f)
 
       -- what is in force behind the statement, and that the rest is checked with it
       record Behind : Type 0 where
@@ -368,25 +354,17 @@ module _ (s S : List ℕ) (T : Table) (params count body total at left : ℕ) (h
                 with' = env_of s T env;
                 grows = still U onw no;
                 steps = λ r W k.
-                    record { gives = rw stmts_are (step_other (env_of s T env) (stmt_at s at) (stmts_at s (left - 1) (end_at S at)) T (is_other d here no) ∙ (does_then s (stmt_rule (env_of s T env) (stmt_at s at)) (check_body (env_of s T env) (stmts_at s (left - 1) (end_at S at))) T o U does.does f r W k).gives) };
+                    record { gives = rw stmts_are (step_other (env_of s T env) (stmt_at s at) (stmts_at s (left - 1) (end_at S at)) T (is_other loaded here no) ∙ (does_then s (stmt_rule (env_of s T env) (stmt_at s at)) (check_body (env_of s T env) (stmts_at s (left - 1) (end_at S at))) T o U does.does f r W k).gives) };
               }
 
-      pub body_rest : (m : ℕ) → m ≡ end_at S at → BodyAt s S U params count body total m (left - 1)
-      body_rest m em =
-          let z : total - (left - 1) ≡ suc (total - left) = omega (arith, h.few) in
-          record {
-            few = omega (arith, h.few);
-            row = h.row;
-            here = rw z (em ∙ ap (end_at S) h.here ∙ sym (skip_next S (total - left) body));
-            ready = rw (z, em) behind.grows.ready;
-          }
+      pub body_rest : BodyAt s S grown U (left - 1)
+      unfolding bind_next
+      body_rest = record { typed = behind.grows.typed; row = row_rest rest }
 
-      pub body_ok : (m : ℕ) (r : Result Unit Refusal) (W : Table) → m ≡ end_at S at
-          → Does s (check_body (env_of s U (with_locals params count body (total - (left - 1)) m)) (stmts_at s (left - 1) m)) U r W
+      pub body_ok : (r : Result Unit Refusal) (W : Table) → Does s (check_body (env_of s U grown) (stmts_at s (left - 1) grown.next)) U r W
           → Does s (check_body (env_of s T env) (stmts_at s left at)) T r W
-      body_ok m r W em k =
-          let z : suc (total - left) ≡ total - (left - 1) = omega (arith, h.few) in
-          behind.steps r W (rw (← behind.grows.is, ← em, z) k)
+      unfolding bind_next
+      body_ok r W k = behind.steps r W (rw (← behind.grows.is) k)
 
 pub body_none : (s S : List ℕ) (T : Table) (Γ : typing.Env) (left at : ℕ) → left ≡ 0 → Does s (check_body Γ (stmts_at s left at)) T (Ok tt) T
 unfolding check_body
@@ -396,4 +374,4 @@ pub stmt_length : (s S : List ℕ) (Γ : typing.Env) (i : ℕ) (T : Table) (r : 
 stmt_length s S Γ i T r U a = does_length s _ T r U a.does
 
 -- what `check_stmt` asks of its calls, and that they keep the length of the table
-pub ruleset stmt_needs = (tested, stmt_of_lem, stmt_do, emit_in, assign_in, stmt_length, does_length)
+pub ruleset stmt_needs = (tested, stmt_let, stmt_do, emit_in, assign_in, stmt_length, does_length)

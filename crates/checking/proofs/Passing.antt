@@ -1,9 +1,8 @@
 -- What `check` does with the items of a kind: what each return and each call needs. Assumes nothing.
 use mathlib.Core.List.{◌++◌, List, [], ◌∷◌, map}
-use mathlib.Core.Logic.{◌≢◌}
+use mathlib.Core.Logic.{◌≢◌, ◌⊎◌, inl, inr}
 use mathlib.Core.Path.{◌≡◌, refl, sym, ap, ◌∙◌}
-use mathlib.Core.Bool.{Bool, true, false}
-use Prim.Native.Nat.{ℕ, suc, ◌+◌, ◌<◌}
+use Prim.Native.Nat.{ℕ, suc, ◌+◌, ◌<◌, ◌≤◌}
 use native.Mathlib.Numerals.{add-one}
 use native.Mathlib.Omega.{arith}
 use lib.ListN.{length}
@@ -11,12 +10,13 @@ use denote.Ref.{MutBor}
 use Rattle.std.specs.Prelude.{Result, Ok, Err}
 use Rattle.grammar.specs.Grammar as grammar
 use Rattle.grammar.specs.Kinds as kinds
+use Rattle.sheet.specs.Line.{most_lines}
 use Rattle.sheet.specs.Records.{Steps}
 use Rattle.sheet.specs.declared.records.Records.{Records}
-use Rattle.sheet.specs.Scratch.{kind_at, end_at, skip, item_count, field_count, param_count, genesis_count}
+use Rattle.sheet.specs.Scratch.{kind_at, end_at, skip, item_count, field_count, param_count, genesis_count, line_count}
 use Rattle.sheet.specs.Tree.{take_nodes}
 use Rattle.rules.specs.Ast.{Param, Expr, Field, Stmt, Event, Entry, nodes, field_of, stmt_of, item_of, event_of, entry_of}
-use Rattle.rules.specs.Standing.{field_at, stmt_at, stmts_at, param_at, next, node_at, nodes_at, expr_at, params_at, event_at, entry_at, model_in, Loaded, Here, Row, stop}
+use Rattle.rules.specs.Standing.{field_at, stmt_at, stmts_at, param_at, next, node_at, nodes_at, expr_at, params_at, event_at, entry_at, model_in, Loaded, Here, Row, stop as none'}
 use Rattle.rules.proofs.Rows.{Listed, params, stmts}
 use Rattle.rules.proofs.Standing.{row_nth, Stands, stands, nodes_next, row_first}
 use Rattle.rules.specs.Asking.{Rule, ◌>>=◌, for_each}
@@ -31,16 +31,17 @@ use Rattle.rules.proofs.Binding.{kept_unit, each_append}
 use Rattle.refusals.specs.Answers.{Answers}
 use Rattle.refusals.specs.Refusal.{done_of}
 use Rattle.refusals.specs.declared.refusal.Refusal.{Refusal}
-use Rattle.lookups.specs.Lines.{RecordAt, FewLines}
 use Rattle.lookups.proofs.Fields.{items_at}
 use Rattle.lookups.specs.Found.{of_kind}
-use Rattle.env.specs.Force.{env_of, params_in, lets, ends_in, Ready}
+use Rattle.lookups.specs.Lines.{KindAt}
+use Rattle.env.specs.Force.{env_of, params_in, lets, ends_in, new, in_genesis}
+use Rattle.sheet.specs.declared.loaded_sheet.LoadedSheet.{LoadedSheet}
 use Rattle.env.specs.declared.env.Env.{Env}
 use Rattle.typing.proofs.Doing.{does_nothing, does_then, does_cut, asks_none}
 use Rattle.typing.specs.Asks.{Asks, Does}
 use Rattle.statements.specs.Checked.{StmtIn}
 use Rattle.checking.specs.Each.{Step, Post, Gives, GivesOf, its_kind, other_kind, GivesEach, over, refused, onward}
-use Rattle.checking.specs.Walk.{KindIn, with_params, SheetIn, EntryIn, ItemIn}
+use Rattle.checking.specs.Walk.{KindIn, SheetIn, EntryIn, ScopeIn}
 use Rattle.checking.proofs.Each.{EachLeft, each_here, each_refused, each_onward, DoesEach, does_at, each_does}
 
 -- ------------------------------------------------------------ parts of a model
@@ -65,9 +66,9 @@ of_entry xs = record { fields = []; events = []; entries = xs; invariants = []; 
 
 -- ------------------------------------------------------------ the model of an item
 
-module _ {s S : List ℕ} (d : Loaded s S) {i : ℕ} (h : Here S grammar.Item i) where
+module _ {s S : List ℕ} (d : Loaded s S) {i : ℕ} (h : i < line_count S) where
   abbrev it : Stands s S i
-  it = stands d i h.within
+  it = stands d i h
 
   kind_is : {k : ℕ} → kind_at S i ≡ k → it.line.kind ≡ k
   kind_is e = sym it.says.kind ∙ e
@@ -79,7 +80,7 @@ module _ {s S : List ℕ} (d : Loaded s S) {i : ℕ} (h : Here S grammar.Item i)
   unfolding item_model item_of
   state_model e =
       let p = parts it.line kinds.state it.parted (kind_is e) in
-      let g = group d h.within grammar.Field p.0 p.1 in
+      let g = group d h grammar.Field p.0 p.1 in
       rw g.3 (rw (it.here, kind_is e, g.0) refl, g.2)
 
   event_model : kind_at S i ≡ kinds.event → its ≡ of_event (event_at s i ∷ [])
@@ -90,7 +91,7 @@ module _ {s S : List ℕ} (d : Loaded s S) {i : ℕ} (h : Here S grammar.Item i)
   unfolding item_model item_of expr_at
   invariant-model e =
       let p = parts it.line kinds.invariant it.parted (kind_is e) in
-      let g = group d h.within grammar.Expr 1 p in
+      let g = group d h grammar.Expr 1 p in
       let n : nodes it.parts ≡ node_at s (suc i) ∷ [] = g.0 ∙ nodes_next d 0 (suc i) (row_first g.2).within ∙ rw (no_nodes s (end_at S (suc i))) refl in
       (rw (it.here, kind_is e, n) refl, g.2)
 
@@ -98,7 +99,7 @@ module _ {s S : List ℕ} (d : Loaded s S) {i : ℕ} (h : Here S grammar.Item i)
   unfolding item_model item_of
   genesis_model e =
       let p = parts it.line kinds.genesis it.parted (kind_is e) in
-      let g = group d h.within grammar.Stmt p.0 p.1 in
+      let g = group d h grammar.Stmt p.0 p.1 in
       rw g.3 (rw (it.here, kind_is e, g.0) refl, g.2)
 
   entry_model : kind_at S i ≡ kinds.entry → its ≡ of_entry (entry_at s i ∷ [])
@@ -116,85 +117,45 @@ pub record PartOf {A : Type 0} (get : Model → List A) (k : ℕ) : Type 0 where
   both : (a b : Model) → get (joined a b) ≡ get a ++ get b
   other : {s S : List ℕ} → Loaded s S → {i : ℕ} → Here S grammar.Item i → kind_at S i ≢ k → get (model_here s i) ≡ []
 
--- by the kind of an item
-by_kind : {S : List ℕ} {i : ℕ} {P : Type 0} → Here S grammar.Item i → (kind_at S i ≡ kinds.state → P) → (kind_at S i ≡ kinds.event → P) → (kind_at S i ≡ kinds.invariant → P) → (kind_at S i ≡ kinds.genesis → P) → (kind_at S i ≡ kinds.entry → P) → P
-by_kind {S} {i} {P} h a b c d e =
-    pick {P = λ k. kind_at S i ≡ k → P} {i = kinds.state} {n = 5} (kind_at S i) (a also b also c also d also e also end') h.kind.0 h.kind.1 refl
+-- an item of kind j has the part, or its model lists none
+abbrev HasOrNone : {A B : Type 0} → (Model → List A) → (k j : ℕ) → (List B → Model) → Type 0
+HasOrNone {A} {B} get k j of = (j ≡ k) ⊎ ((xs : List B) → get (of xs) ≡ [])
+
+lists_none : {A B : Type 0} (get : Model → List A) {k j : ℕ} {of : List B → Model} → HasOrNone get k j of → {n : ℕ} → n ≢ k → n ≡ j → {m : Model} (xs : List B) → m ≡ of xs → get m ≡ []
+lists_none get (inl e) n q xs f = absurd (n (q ∙ e))
+lists_none get (inr f) n q xs e = ap get e ∙ f xs
+
+others : {A : Type 0} (get : Model → List A) {k : ℕ} → HasOrNone get k kinds.state of_state → HasOrNone get k kinds.event of_event → HasOrNone get k kinds.invariant of_invariant → HasOrNone get k kinds.genesis of_genesis → HasOrNone get k kinds.entry of_entry
+    → {s S : List ℕ} → Loaded s S → {i : ℕ} → Here S grammar.Item i → kind_at S i ≢ k → get (model_here s i) ≡ []
+others get {k = k} f e v g y {s} {S} d {i} h n =
+    pick {P = λ j. kind_at S i ≡ j → get (model_here s i) ≡ []} {i = kinds.state} {n = 5} (kind_at S i)
+    ((λ q. lists_none get f n q _ (state_model d h.within q).0)
+    also (λ q. lists_none get e n q _ (event_model d h.within q))
+    also (λ q. lists_none get v n q _ (invariant-model d h.within q).0)
+    also (λ q. lists_none get g n q _ (genesis_model d h.within q).0)
+    also (λ q. lists_none get y n q _ (entry_model d h.within q))
+    also end')
+    h.kind.0 h.kind.1 refl
 
 pub the_fields : PartOf (λ (m : Model). m.fields) kinds.state
 unfolding joined
-the_fields =
-    record {
-      none = refl;
-      both = λ a b. refl;
-      other = λ d h n.
-          by_kind h
-          (λ e. absurd (n e))
-          (λ e. rw (event_model d h e) refl)
-          (λ e. rw ((invariant-model d h e).0) refl)
-          (λ e. rw ((genesis_model d h e).0) refl)
-          (λ e. rw (entry_model d h e) refl);
-    }
+the_fields = record { none = refl; both = λ a b. refl; other = others (λ (m : Model). m.fields) (inl refl) (inr (λ x. refl)) (inr (λ x. refl)) (inr (λ x. refl)) (inr (λ x. refl)) }
 
 pub the_events : PartOf (λ (m : Model). m.events) kinds.event
 unfolding joined
-the_events =
-    record {
-      none = refl;
-      both = λ a b. refl;
-      other = λ d h n.
-          by_kind h
-          (λ e. rw ((state_model d h e).0) refl)
-          (λ e. absurd (n e))
-          (λ e. rw ((invariant-model d h e).0) refl)
-          (λ e. rw ((genesis_model d h e).0) refl)
-          (λ e. rw (entry_model d h e) refl);
-    }
+the_events = record { none = refl; both = λ a b. refl; other = others (λ (m : Model). m.events) (inr (λ x. refl)) (inl refl) (inr (λ x. refl)) (inr (λ x. refl)) (inr (λ x. refl)) }
 
 pub the_invariants : PartOf (λ (m : Model). m.invariants) kinds.invariant
 unfolding joined
-the_invariants =
-    record {
-      none = refl;
-      both = λ a b. refl;
-      other = λ d h n.
-          by_kind h
-          (λ e. rw ((state_model d h e).0) refl)
-          (λ e. rw (event_model d h e) refl)
-          (λ e. absurd (n e))
-          (λ e. rw ((genesis_model d h e).0) refl)
-          (λ e. rw (entry_model d h e) refl);
-    }
+the_invariants = record { none = refl; both = λ a b. refl; other = others (λ (m : Model). m.invariants) (inr (λ x. refl)) (inr (λ x. refl)) (inl refl) (inr (λ x. refl)) (inr (λ x. refl)) }
 
 pub the_genesis : PartOf (λ (m : Model). m.genesis) kinds.genesis
 unfolding joined
-the_genesis =
-    record {
-      none = refl;
-      both = λ a b. refl;
-      other = λ d h n.
-          by_kind h
-          (λ e. rw ((state_model d h e).0) refl)
-          (λ e. rw (event_model d h e) refl)
-          (λ e. rw ((invariant-model d h e).0) refl)
-          (λ e. absurd (n e))
-          (λ e. rw (entry_model d h e) refl);
-    }
+the_genesis = record { none = refl; both = λ a b. refl; other = others (λ (m : Model). m.genesis) (inr (λ x. refl)) (inr (λ x. refl)) (inr (λ x. refl)) (inl refl) (inr (λ x. refl)) }
 
 pub the_entries : PartOf (λ (m : Model). m.entries) kinds.entry
 unfolding joined
-the_entries =
-    record {
-      none = refl;
-      both = λ a b. refl;
-      other = λ d h n.
-          by_kind h
-          (λ e. rw ((state_model d h e).0) refl)
-          (λ e. rw (event_model d h e) refl)
-          (λ e. rw ((invariant-model d h e).0) refl)
-          (λ e. rw ((genesis_model d h e).0) refl)
-          (λ e. absurd (n e));
-    }
+the_entries = record { none = refl; both = λ a b. refl; other = others (λ (m : Model). m.entries) (inr (λ x. refl)) (inr (λ x. refl)) (inr (λ x. refl)) (inr (λ x. refl)) (inl refl) }
 
 one : {A : Type 0} (f : A → Rule Unit) (a : A) (T : Table) → kept (for_each (a ∷ []) f) T ≡ kept (f a) T
 unfolding for_each
@@ -224,74 +185,77 @@ module _ {A : Type 0} {get : Model → List A} {k : ℕ} (part : PartOf get k) (
   pub model_does : {T : Table} {r : Result Unit Refusal} {U : Table} → GivesEach (GivesOf k S (Gives post)) S (item_count S 0) 1 T r U → Does s (for_each (get (model_in s)) rule) T r U
   model_does g = rw (items_at d).0 (items_do (items_at d).1 g)
 
--- no parameters and no locals are in force
-bare_ready : (s S : List ℕ) (T : Table) (g : Bool) → SheetIn s S T → Ready s S (with_params 0 0 g) T
-unfolding with_params skip
-bare_ready s S T g h = record { force = record { loaded = h.loaded; params = stop; locals = stop; next = refl }; room = h.room }
-
-new_env : (s : List ℕ) (T : Table) → env_of s T (with_params 0 0 false) ≡ typing.new (model_in s) []
-unfolding with_params env_of params_in lets nodes_at take_nodes nodes of_kind ends_in typing.new param_types
+new_env : (s : List ℕ) (T : Table) → env_of s T (new 0 0) ≡ typing.new (model_in s) []
+unfolding new env_of params_in lets nodes_at take_nodes nodes of_kind ends_in typing.new param_types
 new_env s T = refl
 
-genesis_env : (s : List ℕ) (T : Table) → env_of s T (with_params 0 0 true) ≡ typing.in_genesis (typing.new (model_in s) [])
-unfolding with_params env_of params_in lets nodes_at take_nodes nodes of_kind ends_in typing.new typing.in_genesis param_types
+genesis_env : (s : List ℕ) (T : Table) → env_of s T (in_genesis (new 0 0)) ≡ typing.in_genesis (typing.new (model_in s) [])
+unfolding new in_genesis env_of params_in lets nodes_at take_nodes nodes of_kind ends_in typing.new typing.in_genesis param_types
 genesis_env s T = refl
 
 -- ------------------------------------------------------------ an item
 
-pub sheet_as : {s S : List ℕ} {T : Table} → SheetIn s S T → (U : Table) → length U ≡ length T → SheetIn s S U
-sheet_as h U e = record { loaded = h.loaded; few = h.few; room = rw e h.room }
+pub sheet_as : {S : List ℕ} {T : Table} → SheetIn S T → (U : Table) → length U ≡ length T → SheetIn S U
+sheet_as h U e = record { few = h.few; room = rw e h.room }
 
-pub item_in : (k : ℕ) (s S : List ℕ) (T : Table) (i : ℕ) → SheetIn s S T → (U : Table) → length U ≡ length T → Here S grammar.Item i → kind_at S i ≡ k → ItemIn k s S U i
-item_in k s S T i h U e a q = record { sheet = sheet_as h U e; here = a; kind = q }
+pub kind_here : (k : ℕ) (S : List ℕ) (i : ℕ) → Here S grammar.Item i → kind_at S i ≡ k → KindAt k S i
+kind_here k S i a q = record { within = a.within; kind = q }
 
-pub entry_in : (s S : List ℕ) (T : Table) (i : ℕ) → SheetIn s S T → (U : Table) → length U ≡ length T → Here S grammar.Item i → kind_at S i ≡ kinds.entry → EntryIn s S U i
-entry_in s S T i h U e a q = record { sheet = sheet_as h U e; within = a.within; kind = q }
+pub entry_in : (S : List ℕ) (T : Table) (i : ℕ) → SheetIn S T → (U : Table) → length U ≡ length T → Here S grammar.Item i → kind_at S i ≡ kinds.entry → EntryIn S U i
+entry_in S T i h U e a q = record { sheet = sheet_as h U e; within = a.within; kind = q }
 
--- what a step may ask at each item of a kind
-pub ruleset items_in = (item_in, entry_in)
+-- ... with this in force
+pub scope_in : (k : ℕ) (this env : Env) (q b : LoadedSheet) (T : Table) (i : ℕ) → line_count q.lines.now ≤ length T → b ≡ q → env ≡ this → (U : Table) → length U ≡ length T → Here b.lines.now grammar.Item i → kind_at b.lines.now i ≡ k
+    → ScopeIn k this b.lines.now env U i
+scope_in k this env q b T i h e f U l a g = record { item = record { room = rw (e, l) h; within = a.within; kind = g }; is = f }
+
+pub no_params : (S : List ℕ) (i : ℕ) → Row S grammar.Param 0 i
+no_params S i = none'
+
+-- what a scope without parameters and a step at each item of a kind may ask
+pub ruleset items_in = (no_params, kind_here, entry_in, scope_in)
 
 fields : Listed field_at (λ s m i. map field_of (nodes_at s m i))
 unfolding field_at
 fields = record { empty = λ s i. rw (no_nodes s i) refl; first = λ d m {i} w. rw (nodes_next d m i w) refl }
 
-module _ (s S : List ℕ) (T : Table) (i : ℕ) (h : ItemIn kinds.state s S T i) (m : ℕ) (em : m ≡ field_count S i) where
+module _ (s S : List ℕ) (T : Table) (i : ℕ) (loaded : Loaded s S) (h : KindIn kinds.state S T i) (m : ℕ) (em : m ≡ field_count S i) where
   state_is : (model_here s i ≡ of_state (map field_of (nodes_at s m (i + 1)))) × Row S grammar.Field m (i + 1)
-  state_is = rw (em, add-one i) (state_model h.sheet.loaded h.here h.kind)
+  state_is = rw (em, add-one i) (state_model loaded h.within h.kind)
 
-  pub field_in : (env : Env) (g : Bool) → env ≡ with_params 0 0 g → (U : Table) (k : ℕ) → length U ≡ length T → k < m → KindIn kinds.field s S env U (skip S k (i + 1))
-  field_in env g f U k e l =
+  pub field_in : (U : Table) (k : ℕ) → length U ≡ length T → k < m → KindIn kinds.field S U (skip S k (i + 1))
+  field_in U k e l =
       let x = row_nth k l state_is.1 in
-      record { ready = rw f (bare_ready s S U g (sheet_as h.sheet U e)); within = x.within; kind = omega (arith, x.kind.0, x.kind.1) }
+      record { room = rw e h.room; within = x.within; kind = omega (arith, x.kind.0, x.kind.1) }
 
-  pub fields_do : (env : Env) → env ≡ with_params 0 0 false → (r : Result Unit Refusal) (U : Table) {post : Post} → GivesEach (Gives post) S m (i + 1) T r U
+  pub fields_do : (env : Env) → env ≡ new 0 0 → (r : Result Unit Refusal) (U : Table) {post : Post} → GivesEach (Gives post) S m (i + 1) T r U
       → DoesEach post s (λ T' j. check_field (env_of s T' env) (field_at s j))
       → Does s (for_each (model_here s i).fields (check_field (typing.new (model_in s) []))) T r U
   fields_do env f r U g q =
-      rw state_is.0 (each_does fields (check_field (typing.new (model_in s) [])) h.sheet.loaded (λ j T' x V p. rw (f, new_env s T') at (does_at (λ T' j. check_field (env_of s T' env) (field_at s j)) q j T' x V p)) state_is.1 g)
+      rw state_is.0 (each_does fields (check_field (typing.new (model_in s) [])) loaded (λ j T' x V p. rw (f, new_env s T') at (does_at (λ T' j. check_field (env_of s T' env) (field_at s j)) q j T' x V p)) state_is.1 g)
 
-module _ (s S : List ℕ) (T : Table) (i : ℕ) (h : ItemIn kinds.genesis s S T i) (m : ℕ) (em : m ≡ genesis_count S i) where
+module _ (s S : List ℕ) (T : Table) (i : ℕ) (loaded : Loaded s S) (h : KindIn kinds.genesis S T i) (m : ℕ) (em : m ≡ genesis_count S i) where
   genesis_is : (model_here s i ≡ of_genesis (stmts_at s m (i + 1))) × Row S grammar.Stmt m (i + 1)
   unfolding stmts_at
-  genesis_is = rw (em, add-one i) (genesis_model h.sheet.loaded h.here h.kind)
+  genesis_is = rw (em, add-one i) (genesis_model loaded h.within h.kind)
 
-  pub stmt_in : (env : Env) (g : Bool) → env ≡ with_params 0 0 g → (U : Table) (k : ℕ) → length U ≡ length T → k < m → StmtIn s S env U (skip S k (i + 1))
-  stmt_in env g f U k e l = record { ready = rw f (bare_ready s S U g (sheet_as h.sheet U e)); here = row_nth k l genesis_is.1 }
+  pub stmt_in : (U : Table) (k : ℕ) → length U ≡ length T → k < m → StmtIn S U (skip S k (i + 1))
+  stmt_in U k e l = record { room = rw e h.room; here = row_nth k l genesis_is.1 }
 
-  pub stmts_do : (env : Env) → env ≡ with_params 0 0 true → (r : Result Unit Refusal) (U : Table) {post : Post} → GivesEach (Gives post) S m (i + 1) T r U
+  pub stmts_do : (env : Env) → env ≡ in_genesis (new 0 0) → (r : Result Unit Refusal) (U : Table) {post : Post} → GivesEach (Gives post) S m (i + 1) T r U
       → DoesEach post s (λ T' j. check_genesis (env_of s T' env) (stmt_at s j))
       → Does s (for_each (model_here s i).genesis (check_genesis (typing.in_genesis (typing.new (model_in s) [])))) T r U
   stmts_do env f r U g q =
-      rw genesis_is.0 (each_does stmts (check_genesis (typing.in_genesis (typing.new (model_in s) []))) h.sheet.loaded (λ j T' x V p. rw (f, genesis_env s T') at (does_at (λ T' j. check_genesis (env_of s T' env) (stmt_at s j)) q j T' x V p)) genesis_is.1 g)
+      rw genesis_is.0 (each_does stmts (check_genesis (typing.in_genesis (typing.new (model_in s) []))) loaded (λ j T' x V p. rw (f, genesis_env s T') at (does_at (λ T' j. check_genesis (env_of s T' env) (stmt_at s j)) q j T' x V p)) genesis_is.1 g)
 
-module _ (s S : List ℕ) (T : Table) (i : ℕ) (h : ItemIn kinds.invariant s S T i) where
+module _ (s S : List ℕ) (T : Table) (i : ℕ) (loaded : Loaded s S) (h : KindIn kinds.invariant S T i) where
   invariant-is : (model_here s i ≡ of_invariant (expr_at s (suc i) ∷ [])) × Row S grammar.Expr 1 (suc i)
-  invariant-is = invariant-model h.sheet.loaded h.here h.kind
+  invariant-is = invariant-model loaded h.within h.kind
 
-  pub invariant-asks : (env : Env) (g : Bool) → env ≡ with_params 0 0 g → Asks s S env T (i + 1)
-  invariant-asks env g f = rw f (record { ready = bare_ready s S T g h.sheet; here = rw (add-one i) (row_first invariant-is.1) })
+  pub invariant-asks : Asks S T (i + 1)
+  invariant-asks = record { room = h.room; here = rw (add-one i) (row_first invariant-is.1) }
 
-  pub invariant-does : (env : Env) → env ≡ with_params 0 0 false → (r : Result Unit Refusal) (U : Table) → Does s (expect_predicate (env_of s T env) (expr_at s (i + 1))) T r U
+  pub invariant-does : (env : Env) → env ≡ new 0 0 → (r : Result Unit Refusal) (U : Table) → Does s (expect_predicate (env_of s T env) (expr_at s (i + 1))) T r U
       → Does s (for_each (model_here s i).invariants (expect_predicate (typing.new (model_in s) []))) T r U
   invariant-does env f r U a =
       record { gives = rw invariant-is.0 (one (expect_predicate (typing.new (model_in s) [])) (expr_at s (suc i)) T ∙ rw (← new_env s T, ← f, ← add-one i) a.gives) }
@@ -305,34 +269,34 @@ module _ {s S : List ℕ} {T : Table} {m : ℕ} (i : ℕ) (d : Loaded s S) (w : 
   params_do =
       each_does params rule d (λ j T' x V p. does_at {s = s} (λ _ j. rule (param_at s j)) (λ shown j x left q. rw (same shown j x left q) (asks_none s _ shown.now x (answers shown j x left q))) j T' x V p) w g
 
-module _ (s S : List ℕ) (T : Table) (i : ℕ) (m : ℕ) (em : m ≡ param_count S i) where
-  module _ (h : ItemIn kinds.event s S T i) where
+module _ (s S : List ℕ) (i : ℕ) (m : ℕ) (em : m ≡ param_count S i) where
+  module _ (loaded : Loaded s S) (h : KindAt kinds.event S i) where
     pub event_is : ((event_at s i).params ≡ params_at s m (i + 1)) × Row S grammar.Param m (i + 1)
-    event_is = let l = event_at_lem h.sheet.loaded h.here.within h.kind in rw (em, add-one i) (ap (λ (x : Event). x.params) l.0, l.1)
+    event_is = let l = event_at_lem loaded h.within h.kind in rw (em, add-one i) (ap (λ (x : Event). x.params) l.0, l.1)
 
-    pub event_param : (k : ℕ) → k < m → RecordAt grammar.Param s S (skip S k (i + 1))
-    event_param k l = record { loaded = h.sheet.loaded; here = row_nth k l event_is.1 }
+    pub event_param : (k : ℕ) → k < m → Here S grammar.Param (skip S k (i + 1))
+    event_param k l = row_nth k l event_is.1
 
-    pub event_does : (r : Result Unit Refusal) (U : Table) → Does s (for_each (params_at s m (i + 1)) check_event_param) T r U
+    pub event_does : (T : Table) (r : Result Unit Refusal) (U : Table) → Does s (for_each (params_at s m (i + 1)) check_event_param) T r U
         → Does s (for_each (model_here s i).events (λ e. for_each e.params check_event_param)) T r U
-    event_does r U a =
-        record { gives = rw (event_model h.sheet.loaded h.here h.kind) (one (λ x. for_each x.params check_event_param) (event_at s i) T ∙ rw event_is.0 a.gives) }
+    event_does T r U a =
+        record { gives = rw (event_model loaded h.within h.kind) (one (λ x. for_each x.params check_event_param) (event_at s i) T ∙ rw event_is.0 a.gives) }
 
-  module _ (h : ItemIn kinds.entry s S T i) where
+  module _ (loaded : Loaded s S) (h : KindAt kinds.entry S i) where
     pub entry_is : ((entry_at s i).params ≡ params_at s m (i + 1)) × Row S grammar.Param m (i + 1)
-    entry_is = let l = entry_at_lem h.sheet.loaded h.here.within h.kind in rw (em, add-one i) (ap (λ (x : Entry). x.params) l.is, l.params)
+    entry_is = let l = entry_at_lem loaded h.within h.kind in rw (em, add-one i) (ap (λ (x : Entry). x.params) l.is, l.params)
 
-    pub entry_param : (k : ℕ) → k < m → RecordAt grammar.Param s S (skip S k (i + 1))
-    entry_param k l = record { loaded = h.sheet.loaded; here = row_nth k l entry_is.1 }
+    pub entry_param : (k : ℕ) → k < m → Here S grammar.Param (skip S k (i + 1))
+    entry_param k l = row_nth k l entry_is.1
 
-    pub entry_params_do : (r : Result Unit Refusal) (U : Table) → Does s (for_each (params_at s m (i + 1)) check_entry_param) T r U
+    pub entry_params_do : (T : Table) (r : Result Unit Refusal) (U : Table) → Does s (for_each (params_at s m (i + 1)) check_entry_param) T r U
         → Does s (for_each (model_here s i).entries (λ e. for_each e.params check_entry_param)) T r U
-    entry_params_do r U a =
-        record { gives = rw (entry_model h.sheet.loaded h.here h.kind) (one (λ x. for_each x.params check_entry_param) (entry_at s i) T ∙ rw entry_is.0 a.gives) }
+    entry_params_do T r U a =
+        record { gives = rw (entry_model loaded h.within h.kind) (one (λ x. for_each x.params check_entry_param) (entry_at s i) T ∙ rw entry_is.0 a.gives) }
 
 pub entry_does : {s S : List ℕ} → Loaded s S → {i : ℕ} {T : Table} {r : Result Unit Refusal} {U : Table} → Here S grammar.Item i → kind_at S i ≡ kinds.entry
     → Does s (check_entry (model_in s) (entry_at s i)) T r U → Does s (for_each (model_here s i).entries (check_entry (model_in s))) T r U
-entry_does {s} d {i} {T} h e a = record { gives = rw (entry_model d h e) (one (check_entry (model_in s)) (entry_at s i) T ∙ a.gives) }
+entry_does {s} d {i} {T} h e a = record { gives = rw (entry_model d h.within e) (one (check_entry (model_in s)) (entry_at s i) T ∙ a.gives) }
 
 -- ------------------------------------------------------------ check_items, check
 
@@ -351,11 +315,17 @@ module _ {k : ℕ} {s S : List ℕ} (d : Loaded s S) {P : Step} {T₀ : Table} {
     pub items_refused : (x : Refusal) → o ≡ Err x → GivesEach (GivesOf k S P) S (item_count S 0) 1 T₀ (Err x) U
     items_refused x f = each_refused w h o U x (its_kind z p) f
 
-pub few_lines : (s S : List ℕ) (T : Table) → SheetIn s S T → FewLines s S
-few_lines s S T h = record { loaded = h.loaded; few = h.few }
+pub few_lines : (S : List ℕ) (T : Table) → SheetIn S T → line_count S ≤ most_lines
+few_lines S T h = h.few
+
+pub sheet_room : (S : List ℕ) (T : Table) → SheetIn S T → (U : Table) → length U ≡ length T → line_count S ≤ length U
+sheet_room S T h U e = rw e h.room
+
+pub room_as : (S : List ℕ) (T : Table) → line_count S ≤ length T → (U : Table) → length U ≡ length T → line_count S ≤ length U
+room_as S T h U e = rw e h
 
 -- what `before_entries` and `check` ask of their calls
-pub ruleset sheet_needs = (sheet_as, few_lines)
+pub ruleset sheet_needs = (sheet_as, few_lines, sheet_room, room_as)
 
 -- a rule behind another, and one that refuses
 pub behind : {s : List ℕ} {p q : Rule Unit} {T U W : Table} {d r : Result Unit Refusal} → Does s p T d U → d ≡ Ok tt → Does s q U r W → Does s (p >>= λ _. q) T r W

@@ -1,8 +1,7 @@
 -- What the code of `check` asks and promises, and the rules of parts of it.
-use Rattle.std.proofs.Math.Option.{some}
-use Rattle.std.specs.Prelude.{ℕ, suc, ◌-◌, ◌<◌, ◌≤◌, Bool, false, List, [], ◌∷◌, ◌≡◌, length, get_or, Result, Ok}
+use Rattle.std.specs.Prelude.{ℕ, suc, ◌<◌, ◌≤◌, List, [], ◌∷◌, ◌≡◌, length, get_or, Result, Ok, Some}
 use Rattle.grammar.specs.Grammar as grammar
-use Rattle.sheet.specs.Scratch.{kind_at, skip, line_count}
+use Rattle.sheet.specs.Scratch.{kind_at, line_count, param_count}
 use Rattle.sheet.specs.Tree.{Node, node}
 use Rattle.rules.specs.Text.{Name}
 use Rattle.rules.specs.Ast.{Type', Entry, Stmt, guard, bind, emit, assign, do'}
@@ -16,8 +15,8 @@ use Rattle.rules.specs.Arithmetic.{check_arithmetic}
 use Rattle.rules.specs.Typing as typing
 use Rattle.rules.specs.Statements.{check_stmt_types, expect_predicate, refuse_name_recipient}
 use Rattle.rules.specs.Check.{clause_predicate, clause_assets, param_types, check_body, check_local}
-use Rattle.rules.specs.Standing.{expr_at, stmt_at, Loaded, Here, Row}
-use Rattle.env.specs.Force.{lets, Ready}
+use Rattle.rules.specs.Standing.{expr_at, stmt_at, Here, Row}
+use Rattle.env.specs.Force.{lets, new}
 use Rattle.env.specs.declared.env.Env.{Env}
 use Rattle.typing.specs.Asks.{Does}
 use Rattle.emits.specs.Emit.{emit_rule}
@@ -27,44 +26,35 @@ use Rattle.refusals.specs.declared.refusal.Refusal.{Refusal}
 
 -- ------------------------------------------------------------ what is in force
 
--- parameters and no locals
-unfoldable pub with_params : ℕ → ℕ → Bool → Env
-with_params params count genesis = record { params = params; count = count; body = 0; bound = 0; next = 0; genesis = genesis }
-
--- parameters, and the `let`s among the first `bound` statements, behind which line `next` is
-unfoldable pub with_locals : (params count body bound next : ℕ) → Env
-with_locals params count body bound next = record { params = params; count = count; body = body; bound = bound; next = next; genesis = false }
-
 -- the values of `let`s have types in the table
 abbrev pub LetTyped : Table → Node → Type 0
-LetTyped T (node i l ps) = (t : Ty) × (ty_of_mark (get_or T (suc i) 0) ≡ some t)
+LetTyped T (node i l ps) = (t : Ty) × (ty_of_mark (get_or T (suc i) 0) ≡ Some t)
 
 pub data LetsTyped (T : Table) : List Node → Type 0 where
   no_let : LetsTyped T []
   a_let : {t : Node} {ts : List Node} → LetTyped T t → LetsTyped T ts → LetsTyped T (t ∷ ts)
 
--- what is in force, and the bound `let`s have types
-pub record ReadyTyped (s S : List ℕ) (env : Env) (T : Table) : Type 0 where
-  pub ready : Ready s S env T
+-- the table has a byte a line, and there the types of the bound `let`s
+pub record RoomTyped (s S : List ℕ) (env : Env) (T : Table) : Type 0 where
+  pub room : line_count S ≤ length T
   pub typed : LetsTyped T (lets s env.bound env.body)
 
--- a sheet that is read, its lines, and a table with a byte for each
-pub record SheetIn (s S : List ℕ) (T : Table) : Type 0 where
-  pub loaded : Loaded s S
+-- a sheet has at most 1,024 lines, and the table has a byte a line
+pub record SheetIn (S : List ℕ) (T : Table) : Type 0 where
   pub few : line_count S ≤ most_lines
   pub room : line_count S ≤ length T
 
 -- ------------------------------------------------------------ fields, clauses, and statements of genesis
 
 -- a record of kind k
-pub record KindIn (k : ℕ) (s S : List ℕ) (env : Env) (T : Table) (i : ℕ) : Type 0 where
-  pub ready : Ready s S env T
+pub record KindIn (k : ℕ) (S : List ℕ) (T : Table) (i : ℕ) : Type 0 where
+  pub room : line_count S ≤ length T
   pub within : i < line_count S
   pub kind : kind_at S i ≡ k
 
 -- a clause
-pub record ClauseIn (s S : List ℕ) (env : Env) (T : Table) (i : ℕ) : Type 0 where
-  pub ready : Ready s S env T
+pub record ClauseIn (S : List ℕ) (T : Table) (i : ℕ) : Type 0 where
+  pub room : line_count S ≤ length T
   pub here : Here S grammar.Clause i
 
 -- what a field declares
@@ -85,32 +75,25 @@ stmt_rule Γ (do' e) = check_stmt_types Γ (do' e) >>= λ _. refuse_name_recipie
 
 -- a statement, directly behind those that are bound
 pub record BodyStmt (s S : List ℕ) (env : Env) (T : Table) (i : ℕ) : Type 0 where
-  pub ready : ReadyTyped s S env T
+  pub typed : RoomTyped s S env T
   pub here : Here S grammar.Stmt i
   pub next : env.next ≡ i
-
--- ... of kind k
-pub record StmtOf (k : ℕ) (s S : List ℕ) (env : Env) (T : Table) (i : ℕ) : Type 0 where
-  pub stmt : BodyStmt s S env T i
-  pub kind : kind_at S i ≡ k
 
 -- the value of the `let` at line i has a type, which may be bound, and the table has it
 pub record Binds (s : List ℕ) (Γ : typing.Env) (T : Table) (i : ℕ) (U : Table) : Type 0 where
   pub type : Ty
   pub typed : kept (typing.ty_of Γ (expr_at s (suc i))) T ≡ record { res = ok type; table = U }
   pub fits : kept (check_local (expr_at s (suc i)) type) U ≡ record { res = ok tt; table = U }
-  pub marked : ty_of_mark (get_or U (suc i) 0) ≡ some type
+  pub marked : ty_of_mark (get_or U (suc i) 0) ≡ Some type
 
 pub record StmtDoes (s S : List ℕ) (Γ : typing.Env) (i : ℕ) (T : Table) (r : Result Unit Refusal) (U : Table) : Type 0 where
   pub does : Does s (stmt_rule Γ (stmt_at s i)) T r U
   pub binds : r ≡ Ok tt → kind_at S i ≡ kinds.let' → Binds s Γ T i U
 
--- the last `left` of `total` statements, the first of them at line at
-pub record BodyAt (s S : List ℕ) (T : Table) (params count body total at left : ℕ) : Type 0 where
-  pub few : left ≤ total
-  pub row : Row S grammar.Stmt total body
-  pub here : at ≡ skip S (total - left) body
-  pub ready : ReadyTyped s S (with_locals params count body (total - left) at) T
+-- `left` statements, the first of them directly behind those that are bound
+pub record BodyAt (s S : List ℕ) (env : Env) (T : Table) (left : ℕ) : Type 0 where
+  pub typed : RoomTyped s S env T
+  pub row : Row S grammar.Stmt left env.next
 
 -- ------------------------------------------------------------ entries and items
 
@@ -130,13 +113,17 @@ uses_rule entry = do
   for_each entry.body asset_calls_consumed
   check_arithmetic entry (param_types entry.params)
 
-pub record EntryIn (s S : List ℕ) (T : Table) (i : ℕ) : Type 0 where
-  pub sheet : SheetIn s S T
+pub record EntryIn (S : List ℕ) (T : Table) (i : ℕ) : Type 0 where
+  pub sheet : SheetIn S T
   pub within : i < line_count S
   pub kind : kind_at S i ≡ kinds.entry
 
--- an item of kind k
-pub record ItemIn (k : ℕ) (s S : List ℕ) (T : Table) (i : ℕ) : Type 0 where
-  pub sheet : SheetIn s S T
-  pub here : Here S grammar.Item i
-  pub kind : kind_at S i ≡ k
+-- the entry at line i, with its parameters in force
+pub record EntryScope (S : List ℕ) (env : Env) (T : Table) (i : ℕ) : Type 0 where
+  pub entry : KindIn kinds.entry S T i
+  pub is : env ≡ new (suc i) (param_count S i)
+
+-- an item of kind k, where this is in force
+pub record ScopeIn (k : ℕ) (this : Env) (S : List ℕ) (env : Env) (T : Table) (i : ℕ) : Type 0 where
+  pub item : KindIn k S T i
+  pub is : env ≡ this

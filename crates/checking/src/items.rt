@@ -1,5 +1,5 @@
 // `check`: its rules over the items.
-ghost use Rattle.std.specs.Prelude.{[]};
+ghost use Rattle.std.specs.Prelude.{[], ◌≤◌, length};
 ghost use Rattle.rules.specs.Ast.{item_of};
 ghost use Rattle.rules.specs.Asking.{for_each};
 ghost use Rattle.rules.specs.Check.{before_entries, check_field, check_event_param, check_entry_param};
@@ -8,18 +8,21 @@ ghost use Rattle.rules.specs.Model.{item_model};
 ghost use Rattle.rules.specs.Standing.{model_in, node_at};
 ghost use Rattle.rules.specs.Statements.{expect_predicate};
 ghost use Rattle.rules.specs.Typing as typing;
-ghost use Rattle.sheet.specs.Scratch.{item_count};
+ghost use Rattle.sheet.specs.Scratch.{item_count, line_count};
+ghost use Rattle.lookups.specs.Lines.{KindAt};
 ghost use Rattle.typing.specs.Asks.{Does};
 ghost use Rattle.checking.specs.Each.{Gives, GivesEach, GivesOf, TakesItems};
-ghost use Rattle.checking.specs.Walk.{ItemIn, SheetIn};
+ghost use Rattle.env.specs.Force.{in_genesis, new};
+ghost use Rattle.checking.specs.Walk.{ScopeIn, SheetIn};
 ghost use Rattle.grammar.specs.Kinds as kinds;
 ghost use Rattle.grammar.specs.Coded.{kind_number};
 
-use crate::entry::{check_entry, with_params};
+use crate::entry::check_entry;
 use crate::records::{
     check_entry_param, check_event_param, check_field, check_genesis, check_records,
 };
 use declarations::guardian_fields;
+use env::Scope;
 use grammar::Kind;
 use key_kinds::check_key_kinds;
 use refusals::Refusal;
@@ -45,37 +48,37 @@ fn check_items<F: Fn(&mut [u8], usize) -> Result<(), Refusal>>(
 }
 
 // The fields of the state at line i.
-fn state_fields(sheet: &LoadedSheet<'_>, table: &mut [u8], i: usize) -> Result<(), Refusal>
-    requires { ItemIn kinds.state sheet.now.bytes.now sheet.now.lines.now table.old i }
-    ensures { Does sheet.now.bytes.now (for_each (item_model (item_of (node_at sheet.now.bytes.now i))).fields (check_field (typing.new (model_in sheet.now.bytes.now) []))) table.old result table.new }
+fn state_fields(scope: &Scope<'_>, table: &mut [u8], i: usize) -> Result<(), Refusal>
+    requires { ScopeIn kinds.state (new 0 0) scope.now.sheet.lines.now scope.now.env table.old i }
+    ensures { let s = scope.now.sheet.bytes.now in Does s (for_each (item_model (item_of (node_at s i))).fields (check_field (typing.new (model_in s) []))) table.old result table.new }
 {
-    let env = with_params(0, 0, false);
     check_records(
-        sheet,
+        &scope.sheet,
         table,
         i + 1,
-        field_count(sheet.lines, i),
-        |table, at| { check_field(sheet, env, table, at) },
+        field_count(scope.sheet.lines, i),
+        |table, at| { check_field(scope, table, at) },
     )
 }
 
-// The fields of all states.
+// The fields of all states. Here and in the passes below, the walk goes over the scope's own sheet, of which its steps speak.
 #[tactic(auto, using(crate::proofs::Passing::items_in))]
 fn check_fields(sheet: &LoadedSheet<'_>, table: &mut [u8]) -> Result<(), Refusal>
-    requires { SheetIn sheet.now.bytes.now sheet.now.lines.now table.old }
+    requires { line_count sheet.now.lines.now ≤ length table.old }
     ensures { Does sheet.now.bytes.now (for_each (model_in sheet.now.bytes.now).fields (check_field (typing.new (model_in sheet.now.bytes.now) []))) table.old result table.new }
 {
+    let scope = Scope::new(sheet, 0, 0);
     check_items(
-        sheet,
+        &scope.sheet,
         table,
         Kind::State,
-        |table, i| state_fields(sheet, table, i),
+        |table, i| state_fields(&scope, table, i),
     )
 }
 
 // The parameters of the event at line i.
 fn event_params(sheet: &LoadedSheet<'_>, table: &mut [u8], i: usize) -> Result<(), Refusal>
-    requires { ItemIn kinds.event sheet.now.bytes.now sheet.now.lines.now table.old i }
+    requires { KindAt kinds.event sheet.now.lines.now i }
     ensures { Does sheet.now.bytes.now (for_each (item_model (item_of (node_at sheet.now.bytes.now i))).events (λ e. for_each e.params check_event_param)) table.old result table.new }
 {
     check_records(sheet, table, i + 1, param_count(sheet.lines, i), |_, at| {
@@ -86,7 +89,6 @@ fn event_params(sheet: &LoadedSheet<'_>, table: &mut [u8], i: usize) -> Result<(
 // The parameters of all events.
 #[tactic(auto, using(crate::proofs::Passing::items_in))]
 fn check_events(sheet: &LoadedSheet<'_>, table: &mut [u8]) -> Result<(), Refusal>
-    requires { SheetIn sheet.now.bytes.now sheet.now.lines.now table.old }
     ensures { Does sheet.now.bytes.now (for_each (model_in sheet.now.bytes.now).events (λ e. for_each e.params check_event_param)) table.old result table.new }
 {
     check_items(
@@ -99,7 +101,7 @@ fn check_events(sheet: &LoadedSheet<'_>, table: &mut [u8]) -> Result<(), Refusal
 
 // The parameters of the entry at line i.
 fn entry_params(sheet: &LoadedSheet<'_>, table: &mut [u8], i: usize) -> Result<(), Refusal>
-    requires { ItemIn kinds.entry sheet.now.bytes.now sheet.now.lines.now table.old i }
+    requires { KindAt kinds.entry sheet.now.lines.now i }
     ensures { Does sheet.now.bytes.now (for_each (item_model (item_of (node_at sheet.now.bytes.now i))).entries (λ e. for_each e.params check_entry_param)) table.old result table.new }
 {
     check_records(sheet, table, i + 1, param_count(sheet.lines, i), |_, at| {
@@ -110,7 +112,6 @@ fn entry_params(sheet: &LoadedSheet<'_>, table: &mut [u8], i: usize) -> Result<(
 // The parameters of all entries.
 #[tactic(auto, using(crate::proofs::Passing::items_in))]
 fn check_params(sheet: &LoadedSheet<'_>, table: &mut [u8]) -> Result<(), Refusal>
-    requires { SheetIn sheet.now.bytes.now sheet.now.lines.now table.old }
     ensures { Does sheet.now.bytes.now (for_each (model_in sheet.now.bytes.now).entries (λ e. for_each e.params check_entry_param)) table.old result table.new }
 {
     check_items(
@@ -122,60 +123,61 @@ fn check_params(sheet: &LoadedSheet<'_>, table: &mut [u8]) -> Result<(), Refusal
 }
 
 // The condition of the invariant at line i.
-fn check_invariant(sheet: &LoadedSheet<'_>, table: &mut [u8], i: usize) -> Result<(), Refusal>
-    requires { ItemIn kinds.invariant sheet.now.bytes.now sheet.now.lines.now table.old i }
-    ensures { Does sheet.now.bytes.now (for_each (item_model (item_of (node_at sheet.now.bytes.now i))).invariants (expect_predicate (typing.new (model_in sheet.now.bytes.now) []))) table.old result table.new }
+fn check_invariant(scope: &Scope<'_>, table: &mut [u8], i: usize) -> Result<(), Refusal>
+    requires { ScopeIn kinds.invariant (new 0 0) scope.now.sheet.lines.now scope.now.env table.old i }
+    ensures { let s = scope.now.sheet.bytes.now in Does s (for_each (item_model (item_of (node_at s i))).invariants (expect_predicate (typing.new (model_in s) []))) table.old result table.new }
 {
-    expect_predicate(sheet, with_params(0, 0, false), table, i + 1)
+    expect_predicate(scope, table, i + 1)
 }
 
 // All invariants.
 #[tactic(auto, using(crate::proofs::Passing::items_in))]
 fn check_invariants(sheet: &LoadedSheet<'_>, table: &mut [u8]) -> Result<(), Refusal>
-    requires { SheetIn sheet.now.bytes.now sheet.now.lines.now table.old }
+    requires { line_count sheet.now.lines.now ≤ length table.old }
     ensures { Does sheet.now.bytes.now (for_each (model_in sheet.now.bytes.now).invariants (expect_predicate (typing.new (model_in sheet.now.bytes.now) []))) table.old result table.new }
 {
+    let scope = Scope::new(sheet, 0, 0);
     check_items(
-        sheet,
+        &scope.sheet,
         table,
         Kind::Invariant,
-        |table, i| check_invariant(sheet, table, i),
+        |table, i| check_invariant(&scope, table, i),
     )
 }
 
 // The statements of the genesis at line i.
-fn genesis_stmts(sheet: &LoadedSheet<'_>, table: &mut [u8], i: usize) -> Result<(), Refusal>
-    requires { ItemIn kinds.genesis sheet.now.bytes.now sheet.now.lines.now table.old i }
-    ensures { Does sheet.now.bytes.now (for_each (item_model (item_of (node_at sheet.now.bytes.now i))).genesis (check_genesis_of (typing.in_genesis (typing.new (model_in sheet.now.bytes.now) [])))) table.old result table.new }
+fn genesis_stmts(scope: &Scope<'_>, table: &mut [u8], i: usize) -> Result<(), Refusal>
+    requires { ScopeIn kinds.genesis (in_genesis (new 0 0)) scope.now.sheet.lines.now scope.now.env table.old i }
+    ensures { let s = scope.now.sheet.bytes.now in Does s (for_each (item_model (item_of (node_at s i))).genesis (check_genesis_of (typing.in_genesis (typing.new (model_in s) [])))) table.old result table.new }
 {
-    let env = with_params(0, 0, true);
     check_records(
-        sheet,
+        &scope.sheet,
         table,
         i + 1,
-        genesis_count(sheet.lines, i),
-        |table, at| { check_genesis(sheet, env, table, at) },
+        genesis_count(scope.sheet.lines, i),
+        |table, at| { check_genesis(scope, table, at) },
     )
 }
 
 // The statements of genesis.
 #[tactic(auto, using(crate::proofs::Passing::items_in))]
 fn check_genesis_stmts(sheet: &LoadedSheet<'_>, table: &mut [u8]) -> Result<(), Refusal>
-    requires { SheetIn sheet.now.bytes.now sheet.now.lines.now table.old }
+    requires { line_count sheet.now.lines.now ≤ length table.old }
     ensures { Does sheet.now.bytes.now (for_each (model_in sheet.now.bytes.now).genesis (check_genesis_of (typing.in_genesis (typing.new (model_in sheet.now.bytes.now) [])))) table.old result table.new }
 {
+    let scope = Scope::new(sheet, 0, 0).in_genesis();
     check_items(
-        sheet,
+        &scope.sheet,
         table,
         Kind::Genesis,
-        |table, i| genesis_stmts(sheet, table, i),
+        |table, i| genesis_stmts(&scope, table, i),
     )
 }
 
 // All entries.
 #[tactic(auto, using(crate::proofs::Passing::items_in))]
 fn check_entries(sheet: &LoadedSheet<'_>, table: &mut [u8]) -> Result<(), Refusal>
-    requires { SheetIn sheet.now.bytes.now sheet.now.lines.now table.old }
+    requires { SheetIn sheet.now.lines.now table.old }
     ensures { Does sheet.now.bytes.now (for_each (model_in sheet.now.bytes.now).entries (check_entry_of (model_in sheet.now.bytes.now))) table.old result table.new }
 {
     check_items(
@@ -189,7 +191,7 @@ fn check_entries(sheet: &LoadedSheet<'_>, table: &mut [u8]) -> Result<(), Refusa
 // What comes before the first entry.
 #[tactic(auto, using(crate::proofs::Passing::sheet_needs))]
 pub fn before_entries(sheet: &LoadedSheet<'_>, table: &mut [u8]) -> Result<(), Refusal>
-    requires { SheetIn sheet.now.bytes.now sheet.now.lines.now table.old }
+    requires { line_count sheet.now.lines.now ≤ length table.old }
     ensures { Does sheet.now.bytes.now (before_entries (model_in sheet.now.bytes.now)) table.old result table.new }
 {
     check_fields(sheet, table)?;
@@ -203,7 +205,7 @@ pub fn before_entries(sheet: &LoadedSheet<'_>, table: &mut [u8]) -> Result<(), R
 // guardian sets with a bad size among the fields the Rust may name any; the first in the sheet is named here.
 #[tactic(auto, using(crate::proofs::Passing::sheet_needs))]
 pub fn check(sheet: &LoadedSheet<'_>, table: &mut [u8]) -> Result<(), Refusal>
-    requires { SheetIn sheet.now.bytes.now sheet.now.lines.now table.old }
+    requires { SheetIn sheet.now.lines.now table.old }
     ensures { Does sheet.now.bytes.now (check_of (model_in sheet.now.bytes.now)) table.old result table.new }
 {
     before_entries(sheet, table)?;

@@ -3,33 +3,30 @@ use mathlib.Core.Logic.{◌≢◌}
 use mathlib.Core.Path.{◌≡◌, refl, sym, ap, ◌∙◌}
 use mathlib.Core.List.{List, [], ◌∷◌, ◌++◌, map}
 use mathlib.Core.Bool.{Bool, true, false, true≢false, not}
-use mathlib.Core.Option
-use mathlib.Core.Option.{Option as Maybe, none, some}
 use Prim.Native.Nat.{ℕ, suc, ◌+◌, ◌<◌}
 use native.Mathlib.Numerals.{add-one}
 use native.Mathlib.Omega.{arith}
 use mir.Syntax.{w64}
 use mir.Val.{Fits}
 use lib.ListN.{length}
-use Rattle.std.specs.Prelude.{Option, Some, None, is_some as found, Result, Ok, Err}
+use Rattle.std.specs.Option.{option_or}
+use Rattle.std.specs.Prelude.{Option, Some, None, is_some, Result, Ok, Err, option_map}
 use Rattle.grammar.specs.Grammar as grammar
-use Rattle.sheet.specs.Scratch.{kind_at, name_at, end_at, field_count, item_count}
+use Rattle.sheet.specs.Scratch.{kind_at, name_at, end_at, line_count, field_count, item_count}
 use Rattle.sheet.specs.Records.{Steps}
 use Rattle.sheet.specs.declared.records.Records.{Records}
-use Rattle.rules.specs.Text.{Name, Piece, last_named, or_else}
+use Rattle.rules.specs.Text.{Name, Piece, last_named}
 use Rattle.rules.specs.Ast.{Field, field_of, item_of}
 use Rattle.rules.specs.Asking.{Res, ok, Rule, ◌>>=◌, ◌>>◌, expect, provided, for_each}
 use Rattle.rules.specs.Declarations.{guardian_fits, guardian_bound}
 use Rattle.rules.specs.Model.{joined, build, field_named, values}
 use Rattle.rules.specs.Standing.{node_name, node_at, nodes_at, type_at, field_at, model_in, Loaded, Here, Row}
-use Rattle.rules.specs.Typing.{is_some}
 use Rattle.rules.proofs.Lookups.{or_none, last_append}
 use Rattle.rules.proofs.Records.{field_at_lem}
 use Rattle.rules.proofs.Rows.{records, list_none, row_over, IterWalk, iter_start}
 use Rattle.rules.proofs.Standing.{row_first, row_rest}
 use Rattle.refusals.specs.Answers.{Answers}
-use Rattle.lookups.specs.Found.{found_field, item_fields, model_at, Stretch, Last, ItemAt, FieldsNamed}
-use Rattle.lookups.specs.Lines.{TypeAt, RecordsAt}
+use Rattle.lookups.specs.Found.{found_field, item_fields, model_at, Stretch, Last, FieldsNamed}
 use Rattle.refusals.specs.Refusal.{done_of}
 use Rattle.refusals.specs.declared.refusal.Refusal.{Refusal}
 use Rattle.refusals.proofs.Answers.{gives, then_fine, then_refused}
@@ -37,50 +34,46 @@ use Rattle.lookups.proofs.Fields.{last_map, as_field, field-name, all_kind, item
 use Rattle.declarations.specs.Bounds.{bound_if_last, bounds_of, fields_left, FieldsLeft, FieldBefore, ItemBefore}
 use Rattle.grammar.specs.Kinds as kinds
 
-next_fits : (S : List ℕ) (σ : grammar.Sort) (m i : ℕ) → Row S σ (suc m) i → length S < 18446744073709551616 → Fits w64 (i + 1)
+pub next_fits : (S : List ℕ) (σ : grammar.Sort) (m i : ℕ) → Row S σ (suc m) i → length S < 18446744073709551616 → Fits w64 (i + 1)
 next_fits S σ m i r h = record { fits = omega (arith, (row_first r).within) }
 
 -- ------------------------------------------------------------ a later field of the name
 
-some_or_lem : {A : Type 0} (o : Maybe A) (a : A) → is_some (or_else o (some a)) ≡ true
-unfolding is_some or_else
-some_or_lem none a = refl
-some_or_lem (some b) a = refl
+some_or_lem : {A : Type 0} (o : Option A) (a : A) → is_some (option_or o (Some a)) ≡ true
+some_or_lem None a = refl
+some_or_lem (Some b) a = refl
 
-module _ (s S : List ℕ) (x : Name) (u v : Records) (h : FieldsLeft s S u v) where
-  pub left_fields : Stretch s S u.left u.at
-  left_fields = record { loaded = h.loaded; sort = grammar.Field; row = h.fields }
+pub left_fields : (S : List ℕ) (m i : ℕ) → Row S grammar.Field m i → Stretch S m i
+left_fields S m i h = record { sort = grammar.Field; row = h }
 
-  pub left_items : RecordsAt grammar.Item s S v.left v.at
-  left_items = record { loaded = h.loaded; row = h.items }
-
+module _ (s S : List ℕ) (x : Name) (u v : Records) (d : Loaded s S) (h : FieldsLeft S u v) where
   module _ (f : Option ℕ) (l : Last s S kinds.field x u.left u.at f) where
     in_item : last_named (λ y. y.name) x (map field_of (nodes_at s u.left u.at)) ≡ found_field s f
     in_item =
         last_map field_of (λ y. y.name) node_name x field-name (nodes_at s u.left u.at)
-        ∙ sym (as_field s f ∙ ap (Option.map field_of) (l.found ∙ ap (last_named node_name x) (all_kind kinds.field (λ a b. omega (arith, b.kind.0, b.kind.1)) h.loaded h.fields)))
+        ∙ sym (as_field s f ∙ ap (option_map field_of) (l.found ∙ ap (last_named node_name x) (all_kind kinds.field (λ a b. omega (arith, b.kind.0, b.kind.1)) d h.fields)))
 
-    by_search : last_named (λ y. y.name) x (fields_left s u v) ≡ or_else (field_named (model_at s v.left v.at) x) (found_field s f)
+    by_search : last_named (λ y. y.name) x (fields_left s u v) ≡ option_or (field_named (model_at s v.left v.at) x) (found_field s f)
     unfolding fields_left field_named
     by_search =
         sym (or_none _)
-        ∙ last_append (λ y. y.name) x (map field_of (nodes_at s u.left u.at)) (model_at s v.left v.at).fields none
+        ∙ last_append (λ y. y.name) x (map field_of (nodes_at s u.left u.at)) (model_at s v.left v.at).fields None
         ∙ rw (or_none, in_item) refl
 
-    pub later_here : found f ≡ true → true ≡ is_some (last_named (λ y. y.name) x (fields_left s u v))
+    pub later_here : is_some f ≡ true → true ≡ is_some (last_named (λ y. y.name) x (fields_left s u v))
     unfolding found_field
     later_here e = rw by_search (by_cases f e)
       where
-        by_cases : (f : Option ℕ) → found f ≡ true → true ≡ is_some (or_else (field_named (model_at s v.left v.at) x) (found_field s f))
+        by_cases : (f : Option ℕ) → is_some f ≡ true → true ≡ is_some (option_or (field_named (model_at s v.left v.at) x) (found_field s f))
         by_cases (Some k) e = sym (some_or_lem (field_named (model_at s v.left v.at) x) (field_at s k))
         by_cases None e = absurd (true≢false (sym e))
 
-    module _ (e : found f ≡ false) (r : Option ℕ) (t : FieldsNamed s S x v.left v.at r) where
-      pub later_there : (b : Bool) → b ≡ found r → b ≡ is_some (last_named (λ y. y.name) x (fields_left s u v))
-      unfolding found_field or_else is_some
+    module _ (e : is_some f ≡ false) (r : Option ℕ) (t : FieldsNamed s S x v.left v.at r) where
+      pub later_there : (b : Bool) → b ≡ is_some r → b ≡ is_some (last_named (λ y. y.name) x (fields_left s u v))
+      unfolding found_field
       later_there b q = q ∙ rw (by_search, ← t.found) (by_cases f r e)
         where
-          by_cases : (f r : Option ℕ) → found f ≡ false → found r ≡ is_some (or_else (found_field s r) (found_field s f))
+          by_cases : (f r : Option ℕ) → is_some f ≡ false → is_some r ≡ is_some (option_or (found_field s r) (found_field s f))
           by_cases (Some k) r e = absurd (true≢false e)
           by_cases None (Some k) e = refl
           by_cases None None e = refl
@@ -92,7 +85,10 @@ unfolding provided
 provided_fine true p a = a
 provided_fine false p a = gives tt
 
-module _ (s S : List ℕ) (i : ℕ) (u v : Records) (b : FieldBefore s S i u v) where
+pub field_rest : (S : List ℕ) (i : ℕ) (u v : Records) → FieldBefore S i u v → FieldsLeft S u v
+field_rest S i u v b = record { fields = rw b.behind (row_rest b.fields); items = b.items }
+
+module _ (s S : List ℕ) (i : ℕ) (u v : Records) (d : Loaded s S) (b : FieldBefore S i u v) where
   abbrev here : Here S grammar.Field i
   here = row_first b.fields
 
@@ -100,23 +96,17 @@ module _ (s S : List ℕ) (i : ℕ) (u v : Records) (b : FieldBefore s S i u v) 
   of_kind_lem = omega (arith, here.kind.0, here.kind.1)
 
   field_type : Here S grammar.Ty (suc i)
-  field_type = (field_at_lem b.loaded here.within of_kind_lem).1
+  field_type = (field_at_lem d here.within of_kind_lem).1
 
-  pub field_typed : TypeAt s S (i + 1)
-  field_typed = rw (add-one i) (record { loaded = b.loaded; here = field_type })
-
-  pub field_fits : length S < 18446744073709551616 → Fits w64 (i + 1)
-  field_fits = next_fits S grammar.Field u.left i b.fields
-
-  pub field_rest : FieldsLeft s S u v
-  field_rest = record { loaded = b.loaded; fields = rw b.behind (row_rest b.fields); items = b.items }
+  pub field_typed : Here S grammar.Ty (i + 1)
+  field_typed = rw (add-one i) field_type
 
   module _ (r : Result Unit Refusal) (a : Answers (guardian_bound (type_at s (i + 1))) (done_of s r)) where
     abbrev later : List Field
     later = fields_left s u v
 
     own : Answers (guardian_bound (field_at s i).ty) (done_of s r)
-    own = rw ((field_at_lem b.loaded here.within of_kind_lem).0, ← add-one i) a
+    own = rw ((field_at_lem d here.within of_kind_lem).0, ← add-one i) a
 
     pub field_fine : r ≡ Ok tt → Answers (bound_if_last (field_at s i) later) (done_of s (Ok tt))
     unfolding bound_if_last done_of
@@ -124,7 +114,7 @@ module _ (s S : List ℕ) (i : ℕ) (u v : Records) (b : FieldBefore s S i u v) 
 
     module _ (why : Refusal) (e : r ≡ Err why) (x : Name) (c : Bool) (y : x ≡ name_at s S i) (q : c ≡ is_some (last_named (λ g. g.name) x later)) where
       told : is_some (last_named (λ g. g.name) (field_at s i).name later) ≡ c
-      told = rw (q, (field_at_lem b.loaded here.within of_kind_lem).0, y) refl
+      told = rw (q, (field_at_lem d here.within of_kind_lem).0, y) refl
 
       pub field_passed : c ≡ true → Answers (bound_if_last (field_at s i) later) (done_of s (Ok tt))
       unfolding bound_if_last provided done_of
@@ -149,12 +139,12 @@ bound_then f fs p q = by_cases (not (is_some (last_named (λ g. g.name) f.name f
     by_cases false b at ps = refl
 
 first_bound : (f : Field) (fs : List Field) → for_each (values (f ∷ fs)) bound ≡ (bound_if_last f fs >> for_each (values fs) bound)
-unfolding bound_if_last values for_each provided is_some ◌>>◌ ◌>>=◌
+unfolding bound_if_last values for_each provided ◌>>◌ ◌>>=◌
 first_bound f fs = by_cases (last_named (λ g. g.name) f.name fs)
   where
-    by_cases : (o : Maybe Field) → for_each (elim o as (λ _. List Field) [ some g ↦ values fs | none ↦ f ∷ values fs ]) bound ≡ (provided (not (is_some o)) (bound f) >> for_each (values fs) bound)
-    by_cases (some g) = refl
-    by_cases none = refl
+    by_cases : (o : Option Field) → for_each (elim o as (λ _. List Field) [ Some g ↦ values fs | None ↦ f ∷ values fs ]) bound ≡ (provided (not (is_some o)) (bound f) >> for_each (values fs) bound)
+    by_cases (Some g) = refl
+    by_cases None = refl
 
 -- the walk over fields is the walk over some, then over the later ones
 walk : (fs gs : List Field) → for_each (values (fs ++ gs)) bound ≡ (bounds_of fs gs >> for_each (values gs) bound)
@@ -177,29 +167,27 @@ pub record Enough (p q : Rule Unit) : Type 0 where
 
 -- what is left of the bounds of the item's fields: those of the fields that r goes over
 pub record BoundsGoing (s S : List ℕ) (item : ℕ) (q r : Records) : Type 0 where
+  pub loaded : Loaded s S
   pub lines : r.lines.now ≡ S
-  pub fields : FieldsLeft s S r q
+  pub fields : FieldsLeft S r q
   pub rest : Enough (bounds_of (map field_of (item_fields (node_at s item))) (model_at s q.left q.at).fields) (bounds_of (map field_of (nodes_at s r.left r.at)) (model_at s q.left q.at).fields)
 
-module _ (s S : List ℕ) (item : ℕ) (q : Records) (b : ItemBefore s S item q) where
-  pub item_fits : length S < 18446744073709551616 → Fits w64 (item + 1)
-  item_fits = next_fits S grammar.Item q.left item b.items
-
-module _ (s S : List ℕ) (item : ℕ) (q : Records) (b : ItemBefore s S item q) where
-  item_at : ItemAt s S item
-  item_at = record { loaded = b.loaded; here = row_first b.items }
+module _ (s S : List ℕ) (item : ℕ) (q : Records) (d : Loaded s S) (b : ItemBefore S item q) where
+  within : item < line_count S
+  within = (row_first b.items).within
 
   pub no_bounds : kind_at S item ≢ kinds.state → Answers (bounds_of (map field_of (item_fields (node_at s item))) (model_at s q.left q.at).fields) (done_of s (Ok tt))
   unfolding bounds_of done_of
-  no_bounds f = rw (not_state s S item item_at f) (gives tt)
+  no_bounds f = rw (not_state s S item d within f) (gives tt)
 
   pub bounds_start : (left : ℕ) (r : Records) → kind_at S item ≡ kinds.state → left ≡ field_count S item → r.at ≡ item + 1 → r.left ≡ left → r.lines.now ≡ S → BoundsGoing s S item q r
   bounds_start left r f c y l n =
-      let o = of_state s S item item_at r.left r.at f (l ∙ c) y in
+      let o = of_state s S item d within r.left r.at f (l ∙ c) y in
       record {
+        loaded = d;
         lines = n;
-        fields = record { loaded = b.loaded; fields = o.1; items = rw b.behind (row_rest b.items) };
-        rest = record { answer = λ d a. rw o.0 a };
+        fields = record { fields = o.1; items = rw b.behind (row_rest b.items) };
+        rest = record { answer = λ k a. rw o.0 a };
       }
 
 module _ (s S : List ℕ) (item : ℕ) (q r : Records) (g : BoundsGoing s S item q r) where
@@ -211,8 +199,8 @@ module _ (s S : List ℕ) (item : ℕ) (q r : Records) (g : BoundsGoing s S item
   bounds_over e = g.rest.answer (ok tt) (rw (list_none records s r.left r.at (omega (arith, e))) (gives tt))
 
   module _ (i : ℕ) (t : Records) (h : Steps r i t) where
-    pub bounds_field : FieldBefore s S i t q
-    bounds_field = record { loaded = g.fields.loaded; fields = rw (← h.left, h.here) g.fields.fields; items = g.fields.items; behind = behind_is g.lines h }
+    pub bounds_field : FieldBefore S i t q
+    bounds_field = record { fields = rw (← h.left, h.here) g.fields.fields; items = g.fields.items; behind = behind_is g.lines h }
 
     module _ (d : Result Unit Refusal) (a : Answers (bound_if_last (field_at s i) (fields_left s t q)) (done_of s d)) where
       abbrev others : Rule Unit
@@ -222,7 +210,7 @@ module _ (s S : List ℕ) (item : ℕ) (q r : Records) (g : BoundsGoing s S item
       unfolding bounds_of fields_left field_at
       split =
           rw (h.left, ← h.here, behind_is g.lines h)
-          (ap (λ ts. bounds_of (map field_of ts) (model_at s q.left q.at).fields) (records.first g.fields.loaded t.left (row_first bounds_field.fields).within))
+          (ap (λ ts. bounds_of (map field_of ts) (model_at s q.left q.at).fields) (records.first g.loaded t.left (row_first bounds_field.fields).within))
 
       pub bounds_refused : (why : Refusal) → d ≡ Err why → Answers its (done_of s (Err why))
       unfolding done_of
@@ -232,8 +220,9 @@ module _ (s S : List ℕ) (item : ℕ) (q r : Records) (g : BoundsGoing s S item
       unfolding done_of
       bounds_turn e =
           record {
+            loaded = g.loaded;
             lines = h.lines ∙ g.lines;
-            fields = field_rest s S i t q bounds_field;
+            fields = field_rest S i t q bounds_field;
             rest = record { answer = λ y b. g.rest.answer y (rw split (then_fine _ others tt y (rw e at a) b)) };
           }
 
@@ -255,8 +244,8 @@ module _ (s S : List ℕ) (r : Records) (g : WalkGoing s S r) where
   walk_over q = (row_over records g.walk (omega (arith, q))).answer (ok tt) (gives tt)
 
   module _ (i : ℕ) (t : Records) (h : Steps r i t) where
-    pub walk_item : ItemBefore s S i t
-    walk_item = record { loaded = g.walk.loaded; items = rw (← h.left, h.here) g.walk.row; behind = behind_is g.lines h }
+    pub walk_item : ItemBefore S i t
+    walk_item = record { items = rw (← h.left, h.here) g.walk.row; behind = behind_is g.lines h }
 
     module _ (d : Result Unit Refusal) (a : Answers (bounds_of (map field_of (item_fields (node_at s i))) (model_at s t.left t.at).fields) (done_of s d)) where
       abbrev behind : Rule Unit

@@ -16,18 +16,17 @@ use Rattle.std.specs.List.{list_any, list_all, range_with_len}
 use Rattle.std.specs.Char.{to_ascii_lowercase}
 use Rattle.std.proofs.lemmas.Str.Ascii.{lowercase_is}
 use Rattle.text.specs.Text.{bytes, same}
-use Rattle.sheet.specs.Scratch.{name_at}
+use Rattle.sheet.specs.Scratch.{name_at, line_count}
 use Rattle.rules.specs.Text.{Name, is}
 use Rattle.rules.specs.Ast.{type_name, param_of}
 use Rattle.rules.specs.Declarations.{DIGEST_NAME_TOKENS, lower, starts_with, contains, contains_any, refuse_word64_as_digest}
-use Rattle.rules.specs.Standing.{type_at, param_at}
+use Rattle.rules.specs.Standing.{type_at, param_at, Loaded}
 use Rattle.rules.proofs.Standing.{stands}
 use Rattle.refusals.specs.Answers.{Answers, expected}
 use Rattle.refusals.specs.Refusal.{refusal_of, done_of}
 use Rattle.refusals.specs.declared.refusal.Refusal.TheVariants.{Digest}
 use Rattle.refusals.proofs.Answers.{fits, expects}
 use Rattle.lookups.proofs.Types.{named_word}
-use Rattle.declarations.specs.Lines.{Named}
 use Rattle.declarations.specs.Tests.{starts_any}
 use Rattle.refusals.specs.declared.refusal.Refusal.{Refusal}
 
@@ -96,19 +95,19 @@ any_word x a b c d e f p q r s t u = rw (p, q, r, s, t, u, or-false) refl
 -- ------------------------------------------------------------ fields and parameters
 
 -- What `refuse_word64_as_digest` meets: whether the type is Q_Word64, and whether the name has a digest word.
-module _ (s S : List ℕ) (i : ℕ) (x : Name) (v : Bool) (h : Named s S i) (e : x ≡ name_at s S (i + 1)) (f : v ≡ same x (bytes "Q_Word64")) where
+module _ (s S : List ℕ) (i : ℕ) (x : Name) (v : Bool) (d : Loaded s S) (e : x ≡ name_at s S (i + 1)) (f : v ≡ same x (bytes "Q_Word64")) where
   word64 : v ≡ is (type_name (type_at s (suc i))) "Q_Word64"
-  word64 = named_word s S (suc i) x "Q_Word64" v (record { loaded = h.loaded; here = h.type }) (rw (← add-one i) e) f
+  word64 = named_word s S (suc i) x "Q_Word64" v d (rw (← add-one i) e) f
 
   pub digest_other : not v ≡ true → Answers (refuse_word64_as_digest (param_at s i).name (type_at s (suc i))) (done_of s (Ok tt))
   unfolding refuse_word64_as_digest done_of
   digest_other g = fits _ 18 _ _ (rw (← word64, not-true v g) refl)
 
-  module _ (y : Name) (d : Bool) (g : not v ≡ false) (z : y ≡ name_at s S i) (q : d ≡ contains_any (lower y) DIGEST_NAME_TOKENS) where
-    names : d ≡ contains_any (lower (param_at s i).name) DIGEST_NAME_TOKENS
+  module _ (y : Name) (t : Bool) (w : i < line_count S) (g : not v ≡ false) (z : y ≡ name_at s S i) (q : t ≡ contains_any (lower y) DIGEST_NAME_TOKENS) where
+    names : t ≡ contains_any (lower (param_at s i).name) DIGEST_NAME_TOKENS
     unfolding param_at param_of
-    names = q ∙ ap (λ y. contains_any (lower y) DIGEST_NAME_TOKENS) (z ∙ (let t = stands h.loaded i h.within in rw t.here t.spells.name))
+    names = q ∙ ap (λ y. contains_any (lower y) DIGEST_NAME_TOKENS) (z ∙ (let l = stands d i w in rw l.here l.spells.name))
 
-    pub digest_judged : (r : Result Unit Refusal) → r ≡ expected (not d) (Digest i) → Answers (refuse_word64_as_digest (param_at s i).name (type_at s (suc i))) (done_of s r)
+    pub digest_judged : (r : Result Unit Refusal) → r ≡ expected (not t) (Digest i) → Answers (refuse_word64_as_digest (param_at s i).name (type_at s (suc i))) (done_of s r)
     unfolding refuse_word64_as_digest refusal_of
-    digest_judged r k = rw (← word64, not-false v g, ← names) (expects s (not d) (Digest i) r k)
+    digest_judged r k = rw (← word64, not-false v g, ← names) (expects s (not t) (Digest i) r k)

@@ -3,7 +3,6 @@ use mathlib.Core.Path.{◌≡◌, refl, sym, ◌∙◌}
 use mathlib.Core.Logic.{◌≢◌}
 use mathlib.Core.List.{List, [], ◌∷◌}
 use mathlib.Core.Bool.{Bool, true, false, ◌&&◌, and-false, and-true}
-use mathlib.Core.Option.{Option, none, some}
 use Prim.Native.Nat.{ℕ, ◌+◌, ◌-◌, ◌*◌, ◌≤◌, ◌<◌}
 use native.Mathlib.Numerals.{add-one}
 use native.Mathlib.Omega.{arith}
@@ -11,6 +10,7 @@ use lib.Dec.{leb}
 use lib.ListN.{length, get_or, drop, drop_of_length-le}
 use lib.Seq.{drop-cons}
 use borrow.Author.Tests.{le-leb, lt-leb, leb-false, ne_eqb}
+use Rattle.std.specs.Prelude.{Option, Some, None}
 use Rattle.text.specs.Field.{value_from}
 use Rattle.text.proofs.Fields.{value_grows}
 use Rattle.rules.specs.Text.{Name}
@@ -29,7 +29,7 @@ parsed (b ∷ bs) = by_cases (leb v 18446744073709551615) refl
     v : ℕ
     v = value_from 0 (b ∷ bs)
 
-    by_cases : (t : Bool) → leb v 18446744073709551615 ≡ t → size_fits (elim t as (λ _. Option ℕ) [ true ↦ some v | false ↦ none ]) ≡ between v
+    by_cases : (t : Bool) → leb v 18446744073709551615 ≡ t → size_fits (elim t as (λ _. Option ℕ) [ true ↦ Some v | false ↦ None ]) ≡ between v
     by_cases true e = refl
     by_cases false e = rw (lt-leb v 256 (omega (arith, leb-false v 18446744073709551615 e)), and-false) refl
 

@@ -1,5 +1,5 @@
 -- The bounds of state fields, field by field.
-use Rattle.std.specs.Prelude.{ℕ, suc, List, [], ◌∷◌, ◌++◌, map, not, ◌≡◌}
+use Rattle.std.specs.Prelude.{ℕ, suc, List, [], ◌∷◌, ◌++◌, map, not, ◌≡◌, is_some}
 use Rattle.grammar.specs.Grammar as grammar
 use Rattle.sheet.specs.Scratch.{end_at}
 use Rattle.sheet.specs.declared.records.Records.{Records}
@@ -7,8 +7,7 @@ use Rattle.rules.specs.Text.{last_named}
 use Rattle.rules.specs.Ast.{Field, field_of}
 use Rattle.rules.specs.Asking.{Rule, ret, ◌>>◌, provided}
 use Rattle.rules.specs.Declarations.{guardian_bound}
-use Rattle.rules.specs.Standing.{nodes_at, Loaded, Row}
-use Rattle.rules.specs.Typing.{is_some}
+use Rattle.rules.specs.Standing.{nodes_at, Row}
 use Rattle.lookups.specs.Found.{model_at}
 
 -- the bound of a field, where none of the later ones has its name
@@ -25,20 +24,17 @@ unfoldable pub fields_left : List ℕ → (r q : Records) → List Field
 fields_left s r q = map field_of (nodes_at s r.left r.at) ++ (model_at s q.left q.at).fields
 
 -- they stand there
-pub record FieldsLeft (s S : List ℕ) (r q : Records) : Type 0 where
-  pub loaded : Loaded s S
+pub record FieldsLeft (S : List ℕ) (r q : Records) : Type 0 where
   pub fields : Row S grammar.Field r.left r.at
   pub items : Row S grammar.Item q.left q.at
 
 -- ... behind a field at line i
-pub record FieldBefore (s S : List ℕ) (i : ℕ) (r q : Records) : Type 0 where
-  pub loaded : Loaded s S
+pub record FieldBefore (S : List ℕ) (i : ℕ) (r q : Records) : Type 0 where
   pub fields : Row S grammar.Field (suc r.left) i
   pub items : Row S grammar.Item q.left q.at
   pub behind : r.at ≡ end_at S i
 
 -- an item stands at line i, and behind it those that q goes over
-pub record ItemBefore (s S : List ℕ) (i : ℕ) (q : Records) : Type 0 where
-  pub loaded : Loaded s S
+pub record ItemBefore (S : List ℕ) (i : ℕ) (q : Records) : Type 0 where
   pub items : Row S grammar.Item (suc q.left) i
   pub behind : q.at ≡ end_at S i

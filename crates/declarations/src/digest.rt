@@ -1,11 +1,11 @@
 // Names that speak of a digest, which a Q_Word64 can't hold.
-ghost use Rattle.std.specs.Prelude.{◌≡◌, suc};
+ghost use Rattle.std.specs.Prelude.{◌≡◌, suc, ◌<◌};
 ghost use Rattle.rules.specs.Declarations.{contains_any, DIGEST_NAME_TOKENS, refuse_word64_as_digest, starts_with};
 ghost use Rattle.rules.specs.Declarations.{lower as lower_of};
 ghost use Rattle.rules.specs.Standing.{param_at, type_at};
 ghost use Rattle.refusals.specs.Answers.{Answers};
 ghost use Rattle.refusals.specs.Refusal.{done_of};
-ghost use Rattle.declarations.specs.Lines.{Named};
+ghost use Rattle.sheet.specs.Scratch.{line_count};
 ghost use Rattle.declarations.specs.Tests.{starts_any};
 
 use crate::answer::expect;
@@ -43,7 +43,7 @@ fn has_digest(name: &[u8]) -> bool
 
 // The field or parameter at line named, whose type stands at the next line.
 pub fn refuse_word64_as_digest(sheet: &LoadedSheet<'_>, named: usize) -> Result<(), Refusal>
-    requires { Named sheet.now.bytes.now sheet.now.lines.now named }
+    requires { named < line_count sheet.now.lines.now }
     ensures { Answers (refuse_word64_as_digest (param_at sheet.now.bytes.now named).name (type_at sheet.now.bytes.now (suc named))) (done_of sheet.now.bytes.now result) }
 {
     if !is_word(sheet.name(named + 1), b"Q_Word64") {

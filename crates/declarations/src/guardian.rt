@@ -3,9 +3,9 @@ ghost use Rattle.std.specs.Prelude.{◌≡◌, ◌*◌, ◌+◌, ◌-◌, ◌≤
 ghost use Rattle.rules.specs.Ast.{args};
 ghost use Rattle.rules.specs.Types.{parse_u64};
 ghost use Rattle.rules.specs.Declarations.{guardian_bound, guardian_fits, members_of};
-ghost use Rattle.rules.specs.Standing.{type_at};
+ghost use Rattle.rules.specs.Standing.{Here, type_at};
 ghost use Rattle.refusals.specs.Answers.{Answers};
-ghost use Rattle.lookups.specs.Lines.{TypeAt};
+ghost use Rattle.grammar.specs.Grammar as grammar;
 ghost use Rattle.refusals.specs.Refusal.{done_of};
 ghost use Rattle.declarations.specs.Tests.{size_fits};
 
@@ -42,7 +42,7 @@ fn size_fits(text: &[u8]) -> bool
 
 // Whether the first argument of the `type` record at line ty is a set's size.
 fn members_fit(sheet: &LoadedSheet<'_>, ty: usize) -> bool
-    requires { TypeAt sheet.now.bytes.now sheet.now.lines.now ty }
+    requires { Here sheet.now.lines.now grammar.Ty ty }
     ensures { result ≡ size_fits (members_of (args (type_at sheet.now.bytes.now ty))) }
 {
     if type_arg_count(sheet.lines, ty) == 0 {
@@ -55,14 +55,14 @@ fn members_fit(sheet: &LoadedSheet<'_>, ty: usize) -> bool
 }
 
 fn guardian_fits(sheet: &LoadedSheet<'_>, ty: usize) -> bool
-    requires { TypeAt sheet.now.bytes.now sheet.now.lines.now ty }
+    requires { Here sheet.now.lines.now grammar.Ty ty }
     ensures { result ≡ guardian_fits (type_at sheet.now.bytes.now ty) }
 {
     !is_word(sheet.name(ty), b"GuardianSet") | members_fit(sheet, ty)
 }
 
 pub fn guardian_bound(sheet: &LoadedSheet<'_>, ty: usize) -> Result<(), Refusal>
-    requires { TypeAt sheet.now.bytes.now sheet.now.lines.now ty }
+    requires { Here sheet.now.lines.now grammar.Ty ty }
     ensures { Answers (guardian_bound (type_at sheet.now.bytes.now ty)) (done_of sheet.now.bytes.now result) }
 {
     expect(guardian_fits(sheet, ty), Refusal::Guardian(ty))

@@ -1,12 +1,11 @@
 // A walk over the state fields: a field counts where no later one has its name.
-ghost use Rattle.std.specs.Prelude.{map, ◌≡◌};
+ghost use Rattle.std.specs.Prelude.{map, ◌≡◌, is_some};
 ghost use Rattle.rules.specs.Asking.{for_each};
 ghost use Rattle.rules.specs.Ast.{field_of};
 ghost use Rattle.rules.specs.Declarations.{guardian_bound};
 ghost use Rattle.rules.specs.Model.{values};
 ghost use Rattle.rules.specs.Standing.{field_at, model_in, node_at};
 ghost use Rattle.rules.specs.Text.{last_named};
-ghost use Rattle.rules.specs.Typing.{is_some};
 ghost use Rattle.refusals.specs.Answers.{Answers};
 ghost use Rattle.lookups.specs.Found.{item_fields, model_at};
 ghost use Rattle.refusals.specs.Refusal.{done_of};
@@ -20,7 +19,7 @@ use sheet::{LoadedSheet, Records, field_count, item_count};
 
 // Whether one of the fields, or of those that the items declare, has the name x.
 fn named_later(sheet: &LoadedSheet<'_>, x: &[u8], fields: Records<'_>, items: Records<'_>) -> bool
-    requires { FieldsLeft sheet.now.bytes.now sheet.now.lines.now fields items }
+    requires { FieldsLeft sheet.now.lines.now fields items }
     ensures { result ≡ is_some (last_named (λ f. f.name) x.now (fields_left sheet.now.bytes.now fields.entry items.entry)) }
 {
     if last_named(sheet, Kind::Field, x, fields.at, fields.left).is_some() {
@@ -37,7 +36,7 @@ fn field_bound(
     fields: Records<'_>,
     items: Records<'_>,
 ) -> Result<(), Refusal>
-    requires { FieldBefore sheet.now.bytes.now sheet.now.lines.now field fields items }
+    requires { FieldBefore sheet.now.lines.now field fields items }
     ensures { Answers (bound_if_last (field_at sheet.now.bytes.now field) (fields_left sheet.now.bytes.now fields.entry items.entry)) (done_of sheet.now.bytes.now result) }
 {
     let Err(why) = guardian_bound(sheet, field + 1) else {
@@ -51,7 +50,7 @@ fn field_bound(
 
 // The bounds of the fields that the item at a line declares, behind which the contract has the other items.
 fn item_bounds(sheet: &LoadedSheet<'_>, item: usize, items: Records<'_>) -> Result<(), Refusal>
-    requires { ItemBefore sheet.now.bytes.now sheet.now.lines.now item items }
+    requires { ItemBefore sheet.now.lines.now item items }
     ensures { Answers (bounds_of (map field_of (item_fields (node_at sheet.now.bytes.now item))) (model_at sheet.now.bytes.now items.entry.left items.entry.at).fields) (done_of sheet.now.bytes.now result) }
 {
     if !sheet.is(item, Kind::State) {

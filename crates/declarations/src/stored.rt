@@ -1,14 +1,11 @@
 // Types that a state field or an event's parameter may have.
-ghost use Rattle.std.specs.Prelude.{true, ◌≡◌};
-ghost use Rattle.grammar.specs.Grammar.{Arg};
+ghost use Rattle.std.specs.Prelude.{true, ◌≡◌, Some};
 ghost use Rattle.rules.specs.Ast.{args, type_name};
 ghost use Rattle.rules.specs.Declarations.{event_field_type, inner_fits, storable_arg, storable_args, storable_keyed};
 ghost use Rattle.rules.specs.Declarations.{arity_of as arity_in, known as known_of, storable as storable_of};
 ghost use Rattle.rules.specs.Standing.{Here, arg_at, type_at};
 ghost use Rattle.refusals.specs.Answers.{Answers};
-ghost use Rattle.lookups.specs.Lines.{TypeAt};
-ghost use Rattle.rules.specs.Text.{option_of};
-ghost use Rattle.std.proofs.Math.Option.{some};
+ghost use Rattle.grammar.specs.Grammar as grammar;
 ghost use Rattle.refusals.specs.Refusal.{done_of};
 ghost use Rattle.declarations.specs.Tests.{takes_none};
 
@@ -26,13 +23,13 @@ fn takes_no_args(ty: Ty) -> bool
 {
     matches!(
         ty,
-        Ty::Int | Ty::Boolean | Ty::Time | Ty::Address | Ty::Word64 | Ty::Name
+        Ty::Int | Ty::Bool | Ty::Time | Ty::Address | Ty::Word64 | Ty::Name
     )
 }
 
 // The last arm of `storable`, and the whole of `event_field_type`.
 fn known(sheet: &LoadedSheet<'_>, ty: usize) -> Result<(), Refusal>
-    requires { TypeAt sheet.now.bytes.now sheet.now.lines.now ty }
+    requires { Here sheet.now.lines.now grammar.Ty ty }
     ensures { Answers (known_of (type_at sheet.now.bytes.now ty)) (done_of sheet.now.bytes.now result) }
 {
     let decl = ty_of_decl(sheet, ty);
@@ -46,16 +43,16 @@ fn known(sheet: &LoadedSheet<'_>, ty: usize) -> Result<(), Refusal>
 }
 
 pub fn event_field_type(sheet: &LoadedSheet<'_>, ty: usize) -> Result<(), Refusal>
-    requires { TypeAt sheet.now.bytes.now sheet.now.lines.now ty }
+    requires { Here sheet.now.lines.now grammar.Ty ty }
     ensures { Answers (event_field_type (type_at sheet.now.bytes.now ty)) (done_of sheet.now.bytes.now result) }
 {
     known(sheet, ty)
 }
 
 // How many arguments a Map or Registry takes; None for another name.
-#[tactic(auto, unfolding(rules::specs::Declarations::arity_of, rules::specs::Text::pick, rules::specs::Text::is, rules::specs::Text::option_of))]
+#[tactic(auto, unfolding(rules::specs::Declarations::arity_of, rules::specs::Text::pick, rules::specs::Text::is))]
 pub fn arity_of(name: &[u8]) -> Option<usize>
-    ensures { result ≡ option_of (arity_in name.now) }
+    ensures { result ≡ arity_in name.now }
 {
     if is_word(name, b"Map") {
         return Some(2);
@@ -65,8 +62,7 @@ pub fn arity_of(name: &[u8]) -> Option<usize>
 
 // Whether the type at line inner may be a key or value of the Map or Registry at line ty.
 fn inner_fits(sheet: &LoadedSheet<'_>, ty: usize, inner: usize, key: bool) -> bool
-    requires ty_at { TypeAt sheet.now.bytes.now sheet.now.lines.now ty }
-    requires inner_at { TypeAt sheet.now.bytes.now sheet.now.lines.now inner }
+    requires { Here sheet.now.lines.now grammar.Ty inner }
     ensures { result ≡ inner_fits (type_name (type_at sheet.now.bytes.now ty)) key (type_at sheet.now.bytes.now inner) }
 {
     match ty_of_decl(sheet, inner) {
@@ -78,8 +74,7 @@ fn inner_fits(sheet: &LoadedSheet<'_>, ty: usize, inner: usize, key: bool) -> bo
 
 // The argument at line arg of the Map or Registry at line ty.
 fn storable_arg(sheet: &LoadedSheet<'_>, ty: usize, arg: usize, key: bool) -> Result<(), Refusal>
-    requires ty_at { TypeAt sheet.now.bytes.now sheet.now.lines.now ty }
-    requires arg_here { Here sheet.now.lines.now Arg arg }
+    requires { Here sheet.now.lines.now grammar.Arg arg }
     ensures { Answers (storable_arg (type_at sheet.now.bytes.now ty) key (arg_at sheet.now.bytes.now arg)) (done_of sheet.now.bytes.now result) }
 {
     if !sheet.is(arg, Kind::Type) {
@@ -94,7 +89,7 @@ fn storable_arg(sheet: &LoadedSheet<'_>, ty: usize, arg: usize, key: bool) -> Re
 }
 
 fn storable_args(sheet: &LoadedSheet<'_>, ty: usize) -> Result<(), Refusal>
-    requires { TypeAt sheet.now.bytes.now sheet.now.lines.now ty }
+    requires { Here sheet.now.lines.now grammar.Ty ty }
     ensures { Answers (storable_args (type_at sheet.now.bytes.now ty) true (args (type_at sheet.now.bytes.now ty))) (done_of sheet.now.bytes.now result) }
 {
     let mut is_key = true;
@@ -106,8 +101,8 @@ fn storable_args(sheet: &LoadedSheet<'_>, ty: usize) -> Result<(), Refusal>
 }
 
 fn storable_keyed(sheet: &LoadedSheet<'_>, ty: usize, arity: usize) -> Result<(), Refusal>
-    requires ty_at { TypeAt sheet.now.bytes.now sheet.now.lines.now ty }
-    requires arity_of_ty { arity_in (type_name (type_at sheet.now.bytes.now ty)) ≡ some arity }
+    requires ty_at { Here sheet.now.lines.now grammar.Ty ty }
+    requires arity_of_ty { arity_in (type_name (type_at sheet.now.bytes.now ty)) ≡ Some arity }
     ensures { Answers (storable_keyed (type_at sheet.now.bytes.now ty) arity) (done_of sheet.now.bytes.now result) }
 {
     if type_arg_count(sheet.lines, ty) != arity {
@@ -117,7 +112,7 @@ fn storable_keyed(sheet: &LoadedSheet<'_>, ty: usize, arity: usize) -> Result<()
 }
 
 pub fn storable(sheet: &LoadedSheet<'_>, ty: usize) -> Result<(), Refusal>
-    requires { TypeAt sheet.now.bytes.now sheet.now.lines.now ty }
+    requires { Here sheet.now.lines.now grammar.Ty ty }
     ensures { Answers (storable_of (type_at sheet.now.bytes.now ty)) (done_of sheet.now.bytes.now result) }
 {
     let word = sheet.name(ty);

@@ -26,21 +26,20 @@ use Rattle.rules.specs.Kept.{Table, kept}
 use Rattle.rules.specs.Types.{is_ty, one_word, ty_of_decl}
 use Rattle.rules.specs.Typing.{Env as Environment, asked, ask_of, ty_of, typings, ask_each, is_name_param}
 use Rattle.rules.specs.Statements.{emit_mismatch, emit_text, check_emit_field, check_emit_fields}
-use Rattle.rules.specs.Standing.{event_at, expr_at, exprs_at, param_at, params_at, type_at, Here, Row}
+use Rattle.rules.specs.Standing.{event_at, expr_at, exprs_at, param_at, params_at, type_at, Here, Row, Loaded}
 use Rattle.rules.proofs.Binding.{kept_assoc, kept_behind}
 use Rattle.rules.proofs.Parts.{parts}
 use Rattle.rules.proofs.Records.{event_at_lem, param_at_lem, no_params, group}
 use Rattle.rules.proofs.Rows as rows
 use Rattle.rules.proofs.Rows.{exprs, row_some, list_some}
 use Rattle.rules.proofs.Same.{told_ty}
-use Rattle.rules.proofs.Standing.{stands, row_first, row_rest}
-use Rattle.lookups.specs.Lines.{TypeAt}
+use Rattle.rules.proofs.Standing.{stands, row_first, row_rest, loaded_sheet}
 use Rattle.refusals.specs.Refusal.{refusal_of, done_of}
 use Rattle.refusals.specs.declared.refusal.Refusal.{Refusal}
 use Rattle.refusals.specs.declared.refusal.Refusal.TheVariants.{EmitField}
 use Rattle.refusals.proofs.Answers.{fits, misfits}
 use Rattle.text.proofs.Tests.{or_parts}
-use Rattle.env.specs.Force.{env_of, ExprIn}
+use Rattle.env.specs.Force.{env_of, InForce}
 use Rattle.env.specs.declared.env.Env.{Env}
 use Rattle.typing.specs.Asks.{Asks, NoValue, AsksAll, Types, Does}
 use Rattle.typing.proofs.Calls.{did}
@@ -82,18 +81,18 @@ module _ (s : List ℕ) (env : Env) (arg param : ℕ) (want got : Ty) (n m : Boo
 
 -- ------------------------------------------------------------ check_field
 
-module _ (s S : List ℕ) (env : Env) (T : Table) (arg param : ℕ) (h : FieldIn s S env T arg param) where
+module _ (s S : List ℕ) (env : Env) (T : Table) (arg param : ℕ) (loaded : Loaded s S) (force : InForce S env) (h : FieldIn S T arg param) where
   typed : (param_at s param ≡ record { name = name_at s S param; ty = type_at s (suc param) }) × Here S grammar.Ty (suc param)
-  typed = param_at_lem h.ready.force.loaded h.other.within (omega (arith, h.other.kind.0, h.other.kind.1))
+  typed = param_at_lem loaded h.other.within (omega (arith, h.other.kind.0, h.other.kind.1))
 
-  pub field_asks : Asks s S env T arg
-  field_asks = record { ready = h.ready; here = h.one }
+  pub field_asks : Asks S T arg
+  field_asks = record { room = h.room; here = h.one }
 
-  pub field_type : TypeAt s S (param + 1)
-  field_type = record { loaded = h.ready.force.loaded; here = rw (add-one param) typed.1 }
+  pub field_type : Here S grammar.Ty (param + 1)
+  field_type = rw (add-one param) typed.1
 
-  pub field_arg : ExprIn s S env arg
-  field_arg = record { force = h.ready.force; here = h.one }
+  pub field_arg : Here S grammar.Expr arg
+  field_arg = h.one
 
   pub field_fits : length S < 18446744073709551616 → Fits w64 (param + 1)
   field_fits l = record { fits = omega (arith, typed.1.within) }
@@ -124,7 +123,7 @@ unfolding fields_rule zip zip_with for_each kept
 no_field Γ [] T = refl
 no_field Γ (e ∷ es) T = refl
 
-module _ (s S : List ℕ) (env : Env) (T : Table) (arg args param params : ℕ) (h : FieldsIn s S env T arg args param params) where
+module _ (s S : List ℕ) (env : Env) (T : Table) (arg args param params : ℕ) (loaded : Loaded s S) (force : InForce S env) (h : FieldsIn S T arg args param params) where
   abbrev Fields : Rule Unit
   Fields = fields_rule (env_of s T env) (list (exprs_at s args arg)) (params_at s params param)
 
@@ -147,8 +146,8 @@ module _ (s S : List ℕ) (env : Env) (T : Table) (arg args param params : ℕ) 
     those : Row S grammar.Param (suc (params - 1)) param
     those = row_some (omega (arith, both.1)) h.those
 
-    pub fields_first : FieldIn s S env T arg param
-    fields_first = record { ready = h.ready; one = row_first these; other = row_first those }
+    pub fields_first : FieldIn S T arg param
+    fields_first = record { room = h.room; one = row_first these; other = row_first those }
 
     pub some_args : 1 ≤ args
     some_args = omega (arith, both.0)
@@ -168,8 +167,7 @@ module _ (s S : List ℕ) (env : Env) (T : Table) (arg args param params : ℕ) 
     opened : kept Fields T ≡ kept (first >>= λ _. rest) T
     unfolding fields_rule zip zip_with for_each
     opened =
-        let d = h.ready.force.loaded in
-        rw (list_some exprs d (omega (arith, both.0)) h.these, list_some rows.params d (omega (arith, both.1)) h.those) refl
+        rw (list_some exprs loaded (omega (arith, both.0)) h.these, list_some rows.params loaded (omega (arith, both.1)) h.those) refl
 
     module _ (d : Result Unit Refusal) (U : Table) (k : Does s first T d U) where
       pub fields_no : (r : Refusal) → d ≡ Err r → Does s Fields T (Err r) U
@@ -178,10 +176,10 @@ module _ (s S : List ℕ) (env : Env) (T : Table) (arg args param params : ℕ) 
       module _ (e : d ≡ Ok tt) (a' p' : ℕ) (ea : a' ≡ end_at S arg) (ep : p' ≡ end_at S param) where
         on : Onward s S env T U
         unfolding check_emit_field
-        on = onward s S env T U first tt h.ready (off_judged h.ready.force.loaded (env_of s T env) (row_first these) h.no_value _ _ _ _) (did s first T d U k.gives e)
+        on = onward s S env T U first tt loaded force h.room (off_judged loaded (env_of s T env) (row_first these) h.no_value _ _ _ _) (did s first T d U k.gives e)
 
-        pub fields_rest : FieldsIn s S env U a' (args - 1) p' (params - 1)
-        fields_rest = record { ready = on.ready; these = rw ea (row_rest these); no_value = rw ea (no_value_next h.ready.force.loaded (row_first these)); those = rw ep (row_rest those) }
+        pub fields_rest : FieldsIn S U a' (args - 1) p' (params - 1)
+        fields_rest = record { room = on.room; these = rw ea (row_rest these); no_value = rw ea (no_value_next loaded (row_first these)); those = rw ep (row_rest those) }
 
         pub fields_ok : (r : Result Unit Refusal) (W : Table) → Does s (fields_rule (env_of s U env) (list (exprs_at s (args - 1) a')) (params_at s (params - 1) p')) U r W → Does s Fields T r W
         fields_ok r W g' = record { gives = opened ∙ (does_then s first rest T d U k e r W (rw (← on.same, ← ea, ← ep) g')).gives }
@@ -202,12 +200,12 @@ unfolding for_each list ask_each typings ty_of ask_of asked
 each_typed Γ nil T = refl
 each_typed Γ (more e es) T = left_out (ty_of Γ e) _ _ T (each_typed Γ es)
 
-module _ (s S : List ℕ) (env : Env) (T : Table) (i : ℕ) (h : EmitIn s S env T i) where
+module _ (s S : List ℕ) (env : Env) (T : Table) (i : ℕ) (loaded : Loaded s S) (force : InForce S env) (h : EmitIn S T i) where
   row : Row S grammar.Expr (emit_arg_count S i) (suc i)
   row =
-      let t = stands h.ready.force.loaded i h.within in
+      let t = stands loaded i h.within in
       let p = parts t.line kinds.emit t.parted (sym t.says.kind ∙ h.kind) in
-      let o = group h.ready.force.loaded h.within grammar.Expr p.0 p.1 in
+      let o = group loaded h.within grammar.Expr p.0 p.1 in
       rw o.3 o.2
 
   args_no_value : NoValue S (suc i)
@@ -229,22 +227,22 @@ module _ (s S : List ℕ) (env : Env) (T : Table) (i : ℕ) (h : EmitIn s S env 
       there = rw e at n.kind
 
       params : (event_at s event ≡ record { name = name_at s S event; params = params_at s (param_count S event) (suc event) }) × Row S grammar.Param (param_count S event) (suc event)
-      params = event_at_lem h.ready.force.loaded there.0 there.1
+      params = event_at_lem loaded there.0 there.1
 
       pub event_fits : length S < 18446744073709551616 → Fits w64 (event + 1)
       event_fits l = record { fits = omega (arith, there.0) }
 
       module _ (m k : ℕ) (em : m ≡ emit_arg_count S i) (ek : k ≡ param_count S event) where
-        pub event-fields : FieldsIn s S env T (i + 1) m (event + 1) k
-        event-fields = record { ready = h.ready; these = rw (em, add-one i) row; no_value = rw (add-one i) args_no_value; those = rw (ek, add-one event) params.1 }
+        pub event-fields : FieldsIn S T (i + 1) m (event + 1) k
+        event-fields = record { room = h.room; these = rw (em, add-one i) row; no_value = rw (add-one i) args_no_value; those = rw (ek, add-one event) params.1 }
 
         pub event_done : (d : Result Unit Refusal) (U : Table) → Does s (fields_rule (env_of s T env) (list (exprs_at s m (i + 1))) (params_at s k (event + 1))) T d U → Does s Emits T d U
         unfolding check_emit_fields fields_rule env_of if_some found_event
         event_done d U g = record { gives = rw (← ex, ← n.found, e, params.0, ← em, ← ek, ← add-one i, ← add-one event) g.gives }
 
   module _ (m : ℕ) (em : m ≡ emit_arg_count S i) where
-    pub emit_asks : AsksAll s S env T m (i + 1)
-    emit_asks = record { ready = h.ready; row = rw (em, add-one i) row; no_value = rw (add-one i) args_no_value }
+    pub emit_asks : AsksAll S T m (i + 1)
+    emit_asks = record { room = h.room; row = rw (em, add-one i) row; no_value = rw (add-one i) args_no_value }
 
     module _ (d : Result Unit Refusal) (U : Table) (k : Does s (ask_each (typings (env_of s T env) (exprs_at s m (i + 1)))) T d U) where
       abbrev all : Rule Unit
@@ -259,12 +257,14 @@ module _ (s S : List ℕ) (env : Env) (T : Table) (i : ℕ) (h : EmitIn s S env 
 
       module _ (e : d ≡ Ok tt) where
         on_emit : Onward s S env T U
-        on_emit = onward s S env T U _ tt h.ready (off_each h.ready.force.loaded (env_of s T env) emit_asks.row emit_asks.no_value) (did s _ T d U k.gives e)
+        on_emit = onward s S env T U _ tt loaded force h.room (off_each loaded (env_of s T env) emit_asks.row emit_asks.no_value) (did s _ T d U k.gives e)
 
-        pub emit_on : EmitIn s S env U i
-        emit_on = record { ready = on_emit.ready; within = h.within; kind = h.kind }
+        pub emit_on : EmitIn S U i
+        emit_on = record { room = on_emit.room; within = h.within; kind = h.kind }
 
         pub emit_ok : (r : Result Unit Refusal) (W : Table) → Does s (check_emit_fields (env_of s U env) (name_at s S i) (list es)) U r W
             → Does s (emit_rule (env_of s T env) (name_at s S i) (list es)) T r W
         unfolding emit_rule
         emit_ok r W g = does_then s all Emits T d U asks e r W (rw (← on_emit.same) g)
+
+pub ruleset laws_fields = (loaded_sheet, field_wrong, field_fine, mismatch_name, mismatch_other)

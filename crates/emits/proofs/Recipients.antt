@@ -8,8 +8,8 @@ use Prim.Native.Nat.{ℕ, zero, suc, ◌+◌, ◌-◌, ◌<◌, ◌≤◌}
 use native.Mathlib.Numerals.{add-one}
 use native.Mathlib.Omega.{arith}
 use borrow.Author.Tests.{eq-eqb, ne_eqb}
-use lib.ListN.{take, get_elem?}
-use Rattle.std.specs.Prelude.{Result, Ok, Err}
+use lib.ListN.{take}
+use Rattle.std.specs.Prelude.{Result, Ok, Err, slice_get}
 use Rattle.text.specs.Text.{bytes, same}
 use Rattle.text.proofs.Tests.{or_parts}
 use Rattle.grammar.specs.Grammar as grammar
@@ -24,17 +24,16 @@ use Rattle.rules.specs.declared.ty.Ty.TheVariants.{Name as TName}
 use Rattle.rules.specs.Kept.{Table, kept}
 use Rattle.rules.specs.Typing.{ty_of}
 use Rattle.rules.specs.Statements.{positions, refuse_name_recipient}
-use Rattle.rules.specs.Standing.{expr_at, exprs_at, Loaded, Row, stop, next}
+use Rattle.rules.specs.Standing.{expr_at, exprs_at, Loaded, Row, stop, next, Here}
 use Rattle.rules.proofs.Exprs.{call_at_lem, ident_at, is-call_at}
 use Rattle.rules.proofs.Rows.{row_some, exprs_some}
 use Rattle.rules.proofs.Same.{told_ty}
-use Rattle.rules.proofs.Standing.{exprs_next, row_first, row_rest, row_take}
-use Rattle.lookups.specs.Lines.{ExprAt}
+use Rattle.rules.proofs.Standing.{exprs_next, row_first, row_rest, row_take, loaded_sheet}
 use Rattle.refusals.specs.Refusal.{refusal_of, done_of}
 use Rattle.refusals.specs.declared.refusal.Refusal.{Refusal}
 use Rattle.refusals.specs.declared.refusal.Refusal.TheVariants.{Recipient}
 use Rattle.refusals.proofs.Answers.{fits, misfits}
-use Rattle.env.specs.Force.{env_of}
+use Rattle.env.specs.Force.{env_of, InForce}
 use Rattle.env.specs.declared.env.Env.{Env}
 use Rattle.typing.specs.Asks.{Asks, NoValue, AsksAll, Types, Does}
 use Rattle.typing.proofs.Calls.{did}
@@ -55,15 +54,15 @@ first_only true b c e = refl
 first_only false true c e = refl
 first_only false false c e = absurd (true≢false (sym e))
 
-module _ (s S : List ℕ) (callee : ℕ) (h : ExprAt s S callee) where
+module _ (s S : List ℕ) (callee : ℕ) (d : Loaded s S) (h : Here S grammar.Expr callee) where
   pub no_name : kind_at S callee ≢ kinds.id → Recipients s callee 0
   unfolding positions
-  no_name n = record { first = rw (positions, ident_at h.loaded h.here, ne_eqb (kind_at S callee) kinds.id n) refl; few = omega arith }
+  no_name n = record { first = rw (positions, ident_at d h, ne_eqb (kind_at S callee) kinds.id n) refl; few = omega arith }
 
   module _ (x : Name) (e : kind_at S callee ≡ kinds.id) (ex : x ≡ name_at s S callee) (a b : Bool) (u : a ≡ same x (bytes "send")) (v : b ≡ same x (bytes "mint_asset")) where
     by_tests : (c : Bool) → c ≡ same x (bytes "send_asset") → positions (expr_at s callee) ≡ by_name a b c
     unfolding positions by_name pick is
-    by_tests c w = rw (positions, ident_at h.loaded h.here, eq-eqb (kind_at S callee) kinds.id e, ← ex, u, v, w) refl
+    by_tests c w = rw (positions, ident_at d h, eq-eqb (kind_at S callee) kinds.id e, ← ex, u, v, w) refl
 
     pub one_recipient : (a || b) ≡ true → Recipients s callee 1
     one_recipient t = record { first = by_tests _ refl ∙ first_only a b _ t; few = omega arith }
@@ -102,7 +101,7 @@ module _ (s S : List ℕ) (env : Env) (T : Table) (arg : ℕ) (a : Result Ty Ref
 
 -- ------------------------------------------------------------ several recipients
 
-module _ (s S : List ℕ) (env : Env) (T : Table) (left at : ℕ) (h : AsksAll s S env T left at) where
+module _ (s S : List ℕ) (env : Env) (T : Table) (left at : ℕ) (loaded : Loaded s S) (force : InForce S env) (h : AsksAll S T left at) where
   abbrev All : Rule Unit
   All = recipients_rule (env_of s T env) (list (exprs_at s left at))
 
@@ -114,8 +113,8 @@ module _ (s S : List ℕ) (env : Env) (T : Table) (left at : ℕ) (h : AsksAll s
     row : Row S grammar.Expr (suc (left - 1)) at
     row = row_some (omega arith) h.row
 
-    pub all_first : Asks s S env T at
-    all_first = record { ready = h.ready; here = row_first row }
+    pub all_first : Asks S T at
+    all_first = record { room = h.room; here = row_first row }
 
     abbrev first : Rule Unit
     first = recipient_rule (env_of s T env) (expr_at s at)
@@ -125,7 +124,7 @@ module _ (s S : List ℕ) (env : Env) (T : Table) (left at : ℕ) (h : AsksAll s
 
     opened : kept All T ≡ kept (first >>= λ _. rest) T
     unfolding recipients_rule for_each list
-    opened = rw (exprs_some h.ready.force.loaded (omega arith) h.row) refl
+    opened = rw (exprs_some loaded (omega arith) h.row) refl
 
     module _ (d : Result Unit Refusal) (U : Table) (k : Does s first T d U) where
       pub all_no : (r : Refusal) → d ≡ Err r → Does s All T (Err r) U
@@ -134,10 +133,10 @@ module _ (s S : List ℕ) (env : Env) (T : Table) (left at : ℕ) (h : AsksAll s
       module _ (e : d ≡ Ok tt) (m : ℕ) (q : m ≡ end_at S at) where
         on : Onward s S env T U
         unfolding recipient_rule
-        on = onward s S env T U first tt h.ready (off_judged h.ready.force.loaded (env_of s T env) (row_first row) h.no_value _ _ _ _) (did s first T d U k.gives e)
+        on = onward s S env T U first tt loaded force h.room (off_judged loaded (env_of s T env) (row_first row) h.no_value _ _ _ _) (did s first T d U k.gives e)
 
-        pub all_rest : AsksAll s S env U (left - 1) m
-        all_rest = record { ready = on.ready; row = rw q (row_rest row); no_value = rw q (no_value_next h.ready.force.loaded (row_first row)) }
+        pub all_rest : AsksAll S U (left - 1) m
+        all_rest = record { room = on.room; row = rw q (row_rest row); no_value = rw q (no_value_next loaded (row_first row)) }
 
         pub all_ok : (r : Result Unit Refusal) (W : Table) → Does s (recipients_rule (env_of s U env) (list (exprs_at s (left - 1) m))) U r W → Does s All T r W
         all_ok r W g = record { gives = opened ∙ (does_then s first rest T d U k e r W (rw (← on.same, ← q) g)).gives }
@@ -146,7 +145,7 @@ module _ (s S : List ℕ) (env : Env) (T : Table) (left at : ℕ) (h : AsksAll s
 
 -- the arguments at these places, as far as they are there, are the first ones
 first_ones : (n : ℕ) → n ≤ 2 → (f : Expr → Rule Unit) (es : List Expr) (T : Table)
-    → kept (for_each (take n (0 ∷ 1 ∷ [])) λ index. if_some (get_elem? es index) f) T ≡ kept (for_each (take n es) f) T
+    → kept (for_each (take n (0 ∷ 1 ∷ [])) λ index. if_some (slice_get es index) f) T ≡ kept (for_each (take n es) f) T
 unfolding for_each if_some ◌>>=◌
 first_ones zero l f es T = refl
 first_ones (suc zero) l f [] T = refl
@@ -171,42 +170,44 @@ take_all zero d (next h r) l = absurd (omega arith)
 take_all {s} (suc n) {m = suc m} {i} d (next h r) l =
     rw (exprs_next d m i h.within) (ap (λ es. expr_at s i ∷ es) (take_all n d r (omega arith)))
 
-module _ (s S : List ℕ) (env : Env) (T : Table) (i : ℕ) (h : Asks s S env T i) where
+module _ (s S : List ℕ) (env : Env) (T : Table) (i : ℕ) (loaded : Loaded s S) (force : InForce S env) (h : Asks S T i) where
   abbrev Refuses : Rule Unit
   Refuses = refuse_name_recipient (env_of s T env) (expr_at s i)
 
   pub no_call : kind_at S i ≢ kinds.call → Does s Refuses T (Ok tt) T
   unfolding refuse_name_recipient if_some done_of kept
-  no_call n = record { gives = rw (is-call_at h.ready.force.loaded h.here, ne_eqb (kind_at S i) kinds.call n) refl }
+  no_call n = record { gives = rw (is-call_at loaded h.here, ne_eqb (kind_at S i) kinds.call n) refl }
 
   module _ (e : kind_at S i ≡ kinds.call) where
     all : Row S grammar.Expr (suc (call_arg_count S i)) (suc i)
-    all = (call_at_lem h.ready.force.loaded h.here e).1
+    all = (call_at_lem loaded h.here e).1
 
-    pub callee_there : ExprAt s S (i + 1)
-    callee_there = record { loaded = h.ready.force.loaded; here = rw (add-one i) (row_first all) }
+    pub callee_there : Here S grammar.Expr (i + 1)
+    callee_there = rw (add-one i) (row_first all)
 
     module _ (m due at : ℕ) (em : m ≡ call_arg_count S i) (r : Recipients s (i + 1) due) (ea : at ≡ end_at S (i + 1)) where
       args : Row S grammar.Expr m at
       args = rw (em, ea, add-one i) (row_rest all)
 
       args_no_value : NoValue S at
-      args_no_value = rw (ea, add-one i) (no_value_next h.ready.force.loaded (row_first all))
+      args_no_value = rw (ea, add-one i) (no_value_next loaded (row_first all))
 
       opened' : kept Refuses T ≡ kept (recipients_rule (env_of s T env) (take due (list (exprs_at s m at)))) T
       unfolding refuse_name_recipient recipients_rule recipient_rule if_some
       opened' =
-          rw (is-call_at h.ready.force.loaded h.here, eq-eqb (kind_at S i) kinds.call e, ← add-one i, r.first, ← em, ← ea)
+          rw (is-call_at loaded h.here, eq-eqb (kind_at S i) kinds.call e, ← add-one i, r.first, ← em, ← ea)
           (first_ones due r.few (recipient_rule (env_of s T env)) (list (exprs_at s m at)) T)
 
-      pub few_asks : m < due → AsksAll s S env T m at
-      few_asks l = record { ready = h.ready; row = args; no_value = args_no_value }
+      pub few_asks : m < due → AsksAll S T m at
+      few_asks l = record { room = h.room; row = args; no_value = args_no_value }
 
       pub few_done : (d : Result Unit Refusal) (U : Table) → m < due → Does s (recipients_rule (env_of s T env) (list (exprs_at s m at))) T d U → Does s Refuses T d U
-      few_done d U l g = record { gives = opened' ∙ rw (take_all due h.ready.force.loaded args (omega arith)) g.gives }
+      few_done d U l g = record { gives = opened' ∙ rw (take_all due loaded args (omega arith)) g.gives }
 
-      pub due_asks : due ≤ m → AsksAll s S env T due at
-      due_asks l = record { ready = h.ready; row = row_take due l args; no_value = args_no_value }
+      pub due_asks : due ≤ m → AsksAll S T due at
+      due_asks l = record { room = h.room; row = row_take due l args; no_value = args_no_value }
 
       pub due_done : (d : Result Unit Refusal) (U : Table) → due ≤ m → Does s (recipients_rule (env_of s T env) (list (exprs_at s due at))) T d U → Does s Refuses T d U
-      due_done d U l g = record { gives = opened' ∙ rw (take-list due h.ready.force.loaded args l) g.gives }
+      due_done d U l g = record { gives = opened' ∙ rw (take-list due loaded args l) g.gives }
+
+pub ruleset laws_recipients = (loaded_sheet, recipient_wrong, recipient_fine, no_name, one_recipient, two_recipients, no_recipient)

@@ -1,5 +1,5 @@
 -- What the checks of an `emit` ask and promise.
-use Rattle.std.specs.Prelude.{ℕ, ◌<◌, Bool, not, ◌≡◌, Result}
+use Rattle.std.specs.Prelude.{ℕ, ◌<◌, ◌≤◌, Bool, not, ◌≡◌, length, Result}
 use mathlib.Core.List.{List, [], zip}
 use Rattle.grammar.specs.Grammar as grammar
 use Rattle.sheet.specs.Scratch.{kind_at, line_count}
@@ -13,7 +13,7 @@ use Rattle.rules.specs.Statements.{emit_mismatch, emit_text, check_emit_field, c
 use Rattle.rules.specs.Standing.{expr_at, param_at, Here, Row}
 use Rattle.refusals.specs.Answers.{Answers}
 use Rattle.refusals.specs.Refusal.{done_of}
-use Rattle.env.specs.Force.{env_of, Ready}
+use Rattle.env.specs.Force.{env_of}
 use Rattle.env.specs.declared.env.Env.{Env as CodeEnv}
 use Rattle.typing.specs.Asks.{NoValue}
 use Rattle.grammar.specs.Kinds as kinds
@@ -30,20 +30,20 @@ fields_rule Γ es ps = for_each (zip es ps) λ p. check_emit_field Γ p.0 p.1
 -- ------------------------------------------------------------ what is asked
 
 -- an `emit` stands at line i
-pub record EmitIn (s S : List ℕ) (env : CodeEnv) (T : Table) (i : ℕ) : Type 0 where
-  pub ready : Ready s S env T
+pub record EmitIn (S : List ℕ) (T : Table) (i : ℕ) : Type 0 where
+  pub room : line_count S ≤ length T
   pub within : i < line_count S
   pub kind : kind_at S i ≡ kinds.emit
 
 -- an expression stands at line arg and a parameter at line param
-pub record FieldIn (s S : List ℕ) (env : CodeEnv) (T : Table) (arg param : ℕ) : Type 0 where
-  pub ready : Ready s S env T
+pub record FieldIn (S : List ℕ) (T : Table) (arg param : ℕ) : Type 0 where
+  pub room : line_count S ≤ length T
   pub one : Here S grammar.Expr arg
   pub other : Here S grammar.Param param
 
 -- ... several of each, one behind another
-pub record FieldsIn (s S : List ℕ) (env : CodeEnv) (T : Table) (arg args param params : ℕ) : Type 0 where
-  pub ready : Ready s S env T
+pub record FieldsIn (S : List ℕ) (T : Table) (arg args param params : ℕ) : Type 0 where
+  pub room : line_count S ≤ length T
   pub these : Row S grammar.Expr args arg
   pub no_value : NoValue S arg
   pub those : Row S grammar.Param params param

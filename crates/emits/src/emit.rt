@@ -2,21 +2,23 @@
 ghost use Rattle.std.specs.Prelude.{suc};
 ghost use Rattle.sheet.specs.Scratch.{name_at, emit_arg_count};
 ghost use Rattle.rules.specs.Ast.{list};
-ghost use Rattle.rules.specs.Standing.{expr_at, exprs_at, param_at, params_at};
+ghost use Rattle.grammar.specs.Grammar as grammar;
+ghost use Rattle.rules.specs.Standing.{expr_at, exprs_at, Here, param_at, params_at};
 ghost use Rattle.rules.specs.Statements.{check_emit_field, check_emit_fields};
-ghost use Rattle.env.specs.Force.{env_of, ExprIn};
+ghost use Rattle.env.specs.Force.{env_of};
 ghost use Rattle.typing.specs.Asks.{Does};
 ghost use Rattle.emits.specs.Emit.{EmitIn, emit_rule, FieldIn, FieldsIn, fields_rule, JudgesField, Mismatches};
 
-use env::{Env, is_name_param};
+use env::Scope;
 use lookups::{event_named, one_word, ty_of_decl};
 use refusals::Refusal;
 use rules::Ty;
-use sheet::{LoadedSheet, emit_arg_count, param_count};
+use sheet::{emit_arg_count, param_count};
 use typing::{ask_each, ty_of};
 
 // `emit_mismatch`: an argument of the type got doesn't fit a parameter of the type want. `straight`: the argument is the bare
 // name of a Q_Name parameter.
+#[tactic(auto, using(crate::proofs::Emitted::laws_fields))]
 fn mismatch(want: Ty, got: Ty, straight: bool) -> bool
     ensures { Mismatches want got straight result }
 {
@@ -30,18 +32,18 @@ fn mismatch(want: Ty, got: Ty, straight: bool) -> bool
 }
 
 // Judges the argument at line arg, of the type got, for the parameter at line param, of the type want.
+#[tactic(auto, using(crate::proofs::Emitted::laws_fields))]
 fn judge_field(
-    sheet: &LoadedSheet<'_>,
-    env: Env,
+    scope: &Scope<'_>,
     arg: usize,
     param: usize,
     want: Ty,
     got: Ty,
 ) -> Result<(), Refusal>
-    requires { ExprIn sheet.now.bytes.now sheet.now.lines.now env arg }
-    ensures { JudgesField sheet.now.bytes.now env arg param want got result }
+    requires { Here scope.now.sheet.lines.now grammar.Expr arg }
+    ensures { JudgesField scope.now.sheet.bytes.now scope.now.env arg param want got result }
 {
-    if mismatch(want, got, is_name_param(sheet, env, arg)) {
+    if mismatch(want, got, scope.is_name_param(arg)) {
         Err(Refusal::EmitField { arg, param, got })
     } else {
         Ok(())
@@ -49,83 +51,64 @@ fn judge_field(
 }
 
 // The argument at line arg for the event's parameter at line param.
-fn check_field(
-    sheet: &LoadedSheet<'_>,
-    env: Env,
-    table: &mut [u8],
-    arg: usize,
-    param: usize,
-) -> Result<(), Refusal>
-    requires { FieldIn sheet.now.bytes.now sheet.now.lines.now env table.old arg param }
-    ensures { Does sheet.now.bytes.now (check_emit_field (env_of sheet.now.bytes.now table.old env) (expr_at sheet.now.bytes.now arg) (param_at sheet.now.bytes.now param)) table.old result table.new }
+fn check_field(scope: &Scope<'_>, table: &mut [u8], arg: usize, param: usize) -> Result<(), Refusal>
+    requires { FieldIn scope.now.sheet.lines.now table.old arg param }
+    ensures { let s = scope.now.sheet.bytes.now in Does s (check_emit_field (env_of s table.old scope.now.env) (expr_at s arg) (param_at s param)) table.old result table.new }
 {
-    let got = ty_of(sheet, env, table, arg)?;
-    let want = ty_of_decl(sheet, param + 1);
-    judge_field(sheet, env, arg, param, want, got)
+    let got = ty_of(scope, table, arg)?;
+    let want = ty_of_decl(&scope.sheet, param + 1);
+    judge_field(scope, arg, param, want, got)
 }
 
 // `args` arguments from line arg on, side by side with `params` parameters from line param on, as far as both go.
 fn check_fields(
-    sheet: &LoadedSheet<'_>,
-    env: Env,
+    scope: &Scope<'_>,
     table: &mut [u8],
     arg: usize,
     args: usize,
     param: usize,
     params: usize,
 ) -> Result<(), Refusal>
-    requires { FieldsIn sheet.now.bytes.now sheet.now.lines.now env table.old arg args param params }
-    ensures { Does sheet.now.bytes.now (fields_rule (env_of sheet.now.bytes.now table.old env) (list (exprs_at sheet.now.bytes.now args arg)) (params_at sheet.now.bytes.now params param)) table.old result table.new }
+    requires { FieldsIn scope.now.sheet.lines.now table.old arg args param params }
+    ensures { let s = scope.now.sheet.bytes.now in Does s (fields_rule (env_of s table.old scope.now.env) (list (exprs_at s args arg)) (params_at s params param)) table.old result table.new }
 {
     if (args == 0) | (params == 0) {
         return Ok(());
     }
-    check_field(sheet, env, table, arg, param)?;
+    check_field(scope, table, arg, param)?;
     check_fields(
-        sheet,
-        env,
+        scope,
         table,
-        sheet.end(arg),
+        scope.sheet.end(arg),
         args - 1,
-        sheet.end(param),
+        scope.sheet.end(param),
         params - 1,
     )
 }
 
 // `check_emit_fields` of the `emit` at line i.
-fn check_emit_fields(
-    sheet: &LoadedSheet<'_>,
-    env: Env,
-    table: &mut [u8],
-    i: usize,
-) -> Result<(), Refusal>
-    requires { EmitIn sheet.now.bytes.now sheet.now.lines.now env table.old i }
-    ensures { Does sheet.now.bytes.now (check_emit_fields (env_of sheet.now.bytes.now table.old env) (name_at sheet.now.bytes.now sheet.now.lines.now i) (list (exprs_at sheet.now.bytes.now (emit_arg_count sheet.now.lines.now i) (suc i)))) table.old result table.new }
+fn check_emit_fields(scope: &Scope<'_>, table: &mut [u8], i: usize) -> Result<(), Refusal>
+    requires { EmitIn scope.now.sheet.lines.now table.old i }
+    ensures { let s = scope.now.sheet.bytes.now in Does s (check_emit_fields (env_of s table.old scope.now.env) (name_at s scope.now.sheet.lines.now i) (list (exprs_at s (emit_arg_count scope.now.sheet.lines.now i) (suc i)))) table.old result table.new }
 {
-    match event_named(sheet, sheet.name(i)) {
+    match event_named(&scope.sheet, scope.sheet.name(i)) {
         Some(event) => check_fields(
-            sheet,
-            env,
+            scope,
             table,
             i + 1,
-            emit_arg_count(sheet.lines, i),
+            emit_arg_count(scope.sheet.lines, i),
             event + 1,
-            param_count(sheet.lines, event),
+            param_count(scope.sheet.lines, event),
         ),
         None => Ok(()),
     }
 }
 
 // The `emit` at line i: all arguments are typed, then judged by the event's parameters.
-pub fn check_emit(
-    sheet: &LoadedSheet<'_>,
-    env: Env,
-    table: &mut [u8],
-    i: usize,
-) -> Result<(), Refusal>
-    requires { EmitIn sheet.now.bytes.now sheet.now.lines.now env table.old i }
-    ensures { Does sheet.now.bytes.now (emit_rule (env_of sheet.now.bytes.now table.old env) (name_at sheet.now.bytes.now sheet.now.lines.now i) (list (exprs_at sheet.now.bytes.now (emit_arg_count sheet.now.lines.now i) (suc i)))) table.old result table.new }
+pub fn check_emit(scope: &Scope<'_>, table: &mut [u8], i: usize) -> Result<(), Refusal>
+    requires { EmitIn scope.now.sheet.lines.now table.old i }
+    ensures { let s = scope.now.sheet.bytes.now in Does s (emit_rule (env_of s table.old scope.now.env) (name_at s scope.now.sheet.lines.now i) (list (exprs_at s (emit_arg_count scope.now.sheet.lines.now i) (suc i)))) table.old result table.new }
 {
-    ask_each(sheet, env, table, i + 1, emit_arg_count(sheet.lines, i))?;
-    check_emit_fields(sheet, env, table, i)
+    ask_each(scope, table, i + 1, emit_arg_count(scope.sheet.lines, i))?;
+    check_emit_fields(scope, table, i)
 }

@@ -1,13 +1,13 @@
 // `refuse_name_recipient`.
 ghost use Rattle.rules.specs.Ast.{list};
-ghost use Rattle.rules.specs.Standing.{expr_at, exprs_at};
+ghost use Rattle.grammar.specs.Grammar as grammar;
+ghost use Rattle.rules.specs.Standing.{expr_at, exprs_at, Here};
 ghost use Rattle.rules.specs.Statements.{refuse_name_recipient};
-ghost use Rattle.lookups.specs.Lines.{ExprAt};
 ghost use Rattle.env.specs.Force.{env_of};
 ghost use Rattle.typing.specs.Asks.{Asks, AsksAll, Does};
 ghost use Rattle.emits.specs.Recipient.{JudgesRecipient, recipient_rule, recipients_rule, Recipients};
 
-use env::Env;
+use env::Scope;
 use grammar::Kind;
 use refusals::Refusal;
 use rules::Ty;
@@ -16,8 +16,9 @@ use text::is_word;
 use typing::ty_of;
 
 // How many arguments, from the first on, of a call with the callee at this line are recipients.
+#[tactic(auto, using(crate::proofs::Recipients::laws_recipients))]
 fn recipients(sheet: &LoadedSheet<'_>, callee: usize) -> usize
-    requires { ExprAt sheet.now.bytes.now sheet.now.lines.now callee }
+    requires { Here sheet.now.lines.now grammar.Expr callee }
     ensures { Recipients sheet.now.bytes.now callee result }
 {
     if !sheet.is(callee, Kind::Id) {
@@ -34,6 +35,7 @@ fn recipients(sheet: &LoadedSheet<'_>, callee: usize) -> usize
 }
 
 // Judges the recipient at line arg by its type.
+#[tactic(auto, using(crate::proofs::Recipients::laws_recipients))]
 fn judge_recipient(arg: usize, ty: Ty) -> Result<(), Refusal>
     ensures { JudgesRecipient arg ty result }
 {
@@ -45,54 +47,43 @@ fn judge_recipient(arg: usize, ty: Ty) -> Result<(), Refusal>
 }
 
 // The recipient at line arg.
-fn check_recipient(
-    sheet: &LoadedSheet<'_>,
-    env: Env,
-    table: &mut [u8],
-    arg: usize,
-) -> Result<(), Refusal>
-    requires { Asks sheet.now.bytes.now sheet.now.lines.now env table.old arg }
-    ensures { Does sheet.now.bytes.now (recipient_rule (env_of sheet.now.bytes.now table.old env) (expr_at sheet.now.bytes.now arg)) table.old result table.new }
+fn check_recipient(scope: &Scope<'_>, table: &mut [u8], arg: usize) -> Result<(), Refusal>
+    requires { Asks scope.now.sheet.lines.now table.old arg }
+    ensures { let s = scope.now.sheet.bytes.now in Does s (recipient_rule (env_of s table.old scope.now.env) (expr_at s arg)) table.old result table.new }
 {
-    let ty = ty_of(sheet, env, table, arg)?;
+    let ty = ty_of(scope, table, arg)?;
     judge_recipient(arg, ty)
 }
 
 // `left` recipients, the first of which stands at line at.
 fn check_recipients(
-    sheet: &LoadedSheet<'_>,
-    env: Env,
+    scope: &Scope<'_>,
     table: &mut [u8],
     at: usize,
     left: usize,
 ) -> Result<(), Refusal>
-    requires { AsksAll sheet.now.bytes.now sheet.now.lines.now env table.old left at }
-    ensures { Does sheet.now.bytes.now (recipients_rule (env_of sheet.now.bytes.now table.old env) (list (exprs_at sheet.now.bytes.now left at))) table.old result table.new }
+    requires { AsksAll scope.now.sheet.lines.now table.old left at }
+    ensures { let s = scope.now.sheet.bytes.now in Does s (recipients_rule (env_of s table.old scope.now.env) (list (exprs_at s left at))) table.old result table.new }
 {
     if left == 0 {
         return Ok(());
     }
-    check_recipient(sheet, env, table, at)?;
-    check_recipients(sheet, env, table, sheet.end(at), left - 1)
+    check_recipient(scope, table, at)?;
+    check_recipients(scope, table, scope.sheet.end(at), left - 1)
 }
 
 // No recipient of the call at line i is a name. Any other expression has none.
-pub fn refuse_name_recipient(
-    sheet: &LoadedSheet<'_>,
-    env: Env,
-    table: &mut [u8],
-    i: usize,
-) -> Result<(), Refusal>
-    requires { Asks sheet.now.bytes.now sheet.now.lines.now env table.old i }
-    ensures { Does sheet.now.bytes.now (refuse_name_recipient (env_of sheet.now.bytes.now table.old env) (expr_at sheet.now.bytes.now i)) table.old result table.new }
+pub fn refuse_name_recipient(scope: &Scope<'_>, table: &mut [u8], i: usize) -> Result<(), Refusal>
+    requires { Asks scope.now.sheet.lines.now table.old i }
+    ensures { let s = scope.now.sheet.bytes.now in Does s (refuse_name_recipient (env_of s table.old scope.now.env) (expr_at s i)) table.old result table.new }
 {
-    if !sheet.is(i, Kind::Call) {
+    if !scope.sheet.is(i, Kind::Call) {
         return Ok(());
     }
-    let args = call_arg_count(sheet.lines, i);
-    let due = recipients(sheet, i + 1);
+    let args = call_arg_count(scope.sheet.lines, i);
+    let due = recipients(&scope.sheet, i + 1);
     if args < due {
-        return check_recipients(sheet, env, table, sheet.end(i + 1), args);
+        return check_recipients(scope, table, scope.sheet.end(i + 1), args);
     }
-    check_recipients(sheet, env, table, sheet.end(i + 1), due)
+    check_recipients(scope, table, scope.sheet.end(i + 1), due)
 }

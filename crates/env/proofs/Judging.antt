@@ -2,7 +2,7 @@
 use mathlib.Core.Path.{◌≡◌, refl, sym, ◌∙◌}
 use mathlib.Core.List.{List, [], ◌∷◌}
 use mathlib.Core.Bool.{Bool, true, false, not, ◌||◌, ◌&&◌}
-use Prim.Native.Nat.{ℕ, ◌-◌}
+use Prim.Native.Nat.{ℕ}
 use Prim.Native.String.{String}
 use borrow.Author.Tests.{not-true, not-false}
 use Rattle.std.specs.Prelude.{Result, Ok, Err}
@@ -10,7 +10,7 @@ use Rattle.rules.specs.Text.{lit}
 use Rattle.rules.specs.Ast.{UnaryOp, Not as NotOp, Neg as NegOp, Expr, span}
 use Rattle.rules.specs.Asking.{Res, Rule, ret, ◌>>◌, expect}
 use Rattle.rules.specs.declared.ty.Ty.{Ty}
-use Rattle.rules.specs.declared.ty.Ty.TheVariants.{Int, Boolean, Address, Asset, Name as TName, Unknown}
+use Rattle.rules.specs.declared.ty.Ty.TheVariants.{Int, Bool as Boolean, Address, Asset, Name as TName, Unknown}
 use Rattle.rules.specs.Types.{eq_ty, is_ty, numeric, compatible, is_zero_literal}
 use Rattle.rules.specs.Standing.{expr_at}
 use Rattle.rules.specs.Typing.{expect_numeric_or, expect_number, judge_unary, logical, arithmetic, ordering, equality, judge_key, is_name_param, not_text, neg_text, logical_text, arithmetic_text, ordering_text, names_compared_text, compared_text}
@@ -202,3 +202,5 @@ module _ (s : List ℕ) (env : Env) (field : ℕ) (key : Bool) (arg : ℕ) (c d 
       key_wrong e =
           passes _ 33 _ _ _ _ (sym p ∙ not-false b n)
           (passes _ 34 _ _ _ _ (is_named ∙ rw m refl) (misfits _ 35 _ _ (holds ∙ e)))
+
+pub ruleset laws_judging = (straight_wrong, name_wrong, key_fine, key_wrong, straight_other, straight_name, names_wrong, compared_fine, compared_wrong, amount_fine, amount_wrong)

@@ -2,11 +2,11 @@
 use mathlib.Core.Path.{◌≡◌, refl, sym, ap, ◌∙◌}
 use mathlib.Core.List.{List, [], ◌∷◌, map}
 use mathlib.Core.Bool.{Bool, true, false, cond}
-use mathlib.Core.Option.{Option, none, some}
 use Prim.Native.Nat.{ℕ, suc, ◌<◌, ◌≤◌}
 use native.Mathlib.Omega.{arith}
 use lib.Dec.{eqb, ltb}
 use borrow.Author.Tests.{eqb-true, lt-ltb, ltb-true}
+use Rattle.std.specs.Prelude.{Option, Some, None}
 use Rattle.text.specs.Text.{same}
 use Rattle.grammar.specs.Grammar as grammar
 use Rattle.sheet.specs.Load.{sorts, copies}
@@ -53,21 +53,21 @@ module _ (s : List ℕ) where
   rising_past lo hi [] r = tt
   rising_past lo hi (t ∷ ts) r = (most (named_end s t).1 hi ts r.1, rising_past (named_end s t).1 hi ts r.1)
 
-  least : (x : Name) (lo hi : ℕ) (ts : List Node) → Rising lo hi ts → (b : Node) → last_named node_name x ts ≡ some b → lo ≤ (named_end s b).1
+  least : (x : Name) (lo hi : ℕ) (ts : List Node) → Rising lo hi ts → (b : Node) → last_named node_name x ts ≡ Some b → lo ≤ (named_end s b).1
   unfolding last_named
   least x lo hi [] r b e = absurd (let z : ◌≡◌ {A = ℕ} 0 1 = cc in omega arith)
   least x lo hi (t ∷ ts) r b e = by_cases (last_named node_name x ts) (same x (node_name t)) (least x (named_end s t).1 hi ts r.1 b) e
     where
-      by_cases : (o : Option Node) (c : Bool) → (o ≡ some b → (named_end s t).1 ≤ (named_end s b).1)
-          → elim o as (λ _. Option Node) [ some y ↦ some y | none ↦ elim c as (λ _. Option Node) [ true ↦ some t | false ↦ none ] ] ≡ some b → lo ≤ (named_end s b).1
-      by_cases (some y) c f q = omega (arith, r.0, f q)
-      by_cases none true f q = rw (← let z : t ≡ b = cc in z) r.0
-      by_cases none false f q = absurd (let z : ◌≡◌ {A = ℕ} 0 1 = cc in omega arith)
+      by_cases : (o : Option Node) (c : Bool) → (o ≡ Some b → (named_end s t).1 ≤ (named_end s b).1)
+          → elim o as (λ _. Option Node) [ Some y ↦ Some y | None ↦ elim c as (λ _. Option Node) [ true ↦ Some t | false ↦ None ] ] ≡ Some b → lo ≤ (named_end s b).1
+      by_cases (Some y) c f q = omega (arith, r.0, f q)
+      by_cases None true f q = rw (← let z : t ≡ b = cc in z) r.0
+      by_cases None false f q = absurd (let z : ◌≡◌ {A = ℕ} 0 1 = cc in omega arith)
 
   -- whether the `let` that was found ends behind line i
   abbrev pub ends_behind : ℕ → Option Node → Bool
-  ends_behind i none = false
-  ends_behind i (some t) = ltb i (named_end s t).1
+  ends_behind i None = false
+  ends_behind i (Some t) = ltb i (named_end s t).1
 
   end_name : (t : Node) → (named_end s t).0 ≡ node_name t
   unfolding named_end node_name
@@ -80,16 +80,16 @@ module _ (s : List ℕ) where
       by_cases (last_named node_name x ts) (same x (node_name t)) (ltb i (named_end s t).1) (ap (same x) (end_name t)) refl (last_later x i (named_end s t).1 hi ts r.1) (least x (named_end s t).1 hi ts r.1)
     where
       by_cases : (o : Option Node) (b c : Bool) → same x (named_end s t).0 ≡ b → ltb i (named_end s t).1 ≡ c → among x (later i (map (named_end s) ts)) ≡ ends_behind i o
-          → ((u : Node) → o ≡ some u → (named_end s t).1 ≤ (named_end s u).1)
+          → ((u : Node) → o ≡ Some u → (named_end s t).1 ≤ (named_end s u).1)
           → among x (elim c as (λ _. List Name) [ true ↦ (named_end s t).0 ∷ later i (map (named_end s) ts) | false ↦ later i (map (named_end s) ts) ])
-          ≡ ends_behind i (elim o as (λ _. Option Node) [ some y ↦ some y | none ↦ elim b as (λ _. Option Node) [ true ↦ some t | false ↦ none ] ])
-      by_cases (some y) true true d e h f = rw (among, d, let z = f y refl in let w = ltb-true i (named_end s t).1 e in lt-ltb i (named_end s y).1 (omega arith)) refl
-      by_cases (some y) false true d e h f = rw (among, d) h
-      by_cases none true true d e h f = rw (among, d, e) refl
-      by_cases none false true d e h f = rw (among, d) h
-      by_cases (some y) b false d e h f = h
-      by_cases none true false d e h f = h ∙ sym e
-      by_cases none false false d e h f = h
+          ≡ ends_behind i (elim o as (λ _. Option Node) [ Some y ↦ Some y | None ↦ elim b as (λ _. Option Node) [ true ↦ Some t | false ↦ None ] ])
+      by_cases (Some y) true true d e h f = rw (among, d, let z = f y refl in let w = ltb-true i (named_end s t).1 e in lt-ltb i (named_end s y).1 (omega arith)) refl
+      by_cases (Some y) false true d e h f = rw (among, d) h
+      by_cases None true true d e h f = rw (among, d, e) refl
+      by_cases None false true d e h f = rw (among, d) h
+      by_cases (Some y) b false d e h f = h
+      by_cases None true false d e h f = h ∙ sym e
+      by_cases None false false d e h f = h
 
 -- ------------------------------------------------------------ the `let`s of statements that stand one behind another
 
@@ -126,9 +126,9 @@ module _ {s S : List ℕ} (d : Loaded s S) where
       by_cases true e q = (f i h.within (eqb-true _ kinds.let' e), q)
       by_cases false e q = q
 
-module _ (s S : List ℕ) (env : Env) (f : InForce s S env) where
+module _ (s S : List ℕ) (env : Env) (d : Loaded s S) (f : InForce S env) where
   rising : Rising s env.body env.next (lets s env.bound env.body)
-  rising = rw f.next (lets_rise f.loaded f.locals)
+  rising = rw f.next (lets_rise d f.locals)
 
   -- no bound `let` ends behind line `next`
   pub ends_past : Past (ends_in s env) env.next

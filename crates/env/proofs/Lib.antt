@@ -1,3 +1,4 @@
+pub mod Bound
 pub mod Judging
 pub mod Lets
 pub mod Lookups

@@ -3,24 +3,20 @@ use mathlib.Core.Logic.{◌≢◌}
 use mathlib.Core.Path.{◌≡◌, refl, sym, ap, ◌∙◌}
 use mathlib.Core.List.{List, [], ◌∷◌, map, map-map}
 use mathlib.Core.Bool.{Bool, true, false, true≢false, ◌||◌}
-use mathlib.Core.Option
-use mathlib.Core.Option.{Option as Maybe, none, some}
-use Prim.Native.Nat.{ℕ, suc, ◌+◌, ◌<◌}
+use Prim.Native.Nat.{ℕ, suc, ◌+◌, ◌<◌, ◌≤◌}
 use native.Mathlib.Numerals.{add-one}
 use native.Mathlib.Omega.{arith}
-use mir.Syntax.{w64}
-use mir.Val.{Fits}
 use lib.ListN.{length, get_or}
 use borrow.Author.Tests.{eq-eqb, ne_eqb}
 use Rattle.std.specs.Bool.{then_some}
 use Rattle.std.specs.Option.{option_eq}
-use Rattle.std.specs.Prelude.{Option, Some, None, is_some, unwrap_or}
+use Rattle.std.specs.Prelude.{Option, Some, None, is_some, unwrap_or, option_map}
 use Rattle.text.specs.Text.{bytes, same}
 use Rattle.grammar.specs.Grammar as grammar
 use Rattle.sheet.specs.Load.{sorts, copies}
 use Rattle.sheet.specs.Scratch.{kind_at, name_at, line_count}
 use Rattle.sheet.specs.Tree.{Node, node}
-use Rattle.rules.specs.Text.{Name, is, is_one, last_named, get, option_of}
+use Rattle.rules.specs.Text.{Name, is, is_one, last_named, get}
 use Rattle.rules.specs.Ast.{param_of, type_name}
 use Rattle.rules.specs.declared.ty.Ty.{Ty}
 use Rattle.rules.specs.declared.ty.Ty.TheVariants.{Address, Name as TName, Unknown}
@@ -32,30 +28,29 @@ use Rattle.rules.specs.Types.{ty_of_decl, eq_ty}
 use Rattle.rules.specs.Check.{param_types}
 use Rattle.rules.specs.Typing as typing
 use Rattle.rules.specs.Typing.{ident_of, ty_of_ident, is_name_param, keyed_field, is_pool}
-use Rattle.rules.specs.Standing.{node_name, nodes_at, expr_at, type_at, field_at, param_at, Loaded}
+use Rattle.rules.specs.Standing.{node_name, nodes_at, expr_at, type_at, field_at, param_at, Loaded, Here}
 use Rattle.rules.proofs.Exprs.{ident_at}
 use Rattle.rules.proofs.Parts.{parts}
-use Rattle.rules.proofs.Standing.{Stands, stands, row_behind, row_first}
+use Rattle.rules.proofs.Standing.{Stands, stands, row_behind, row_first, loaded_sheet}
 use Rattle.lookups.proofs.Tables.{either_word}
 use Rattle.lookups.specs.Found.{of_kind, found_node, found_field, FoundKind, Last, FieldNamed}
 use Rattle.lookups.proofs.Fields.{last_map, all_kind, param-name}
-use Rattle.lookups.proofs.Options.{option_or}
 use Rattle.lookups.proofs.Types.{type_name_lem}
 pub use Rattle.lookups.proofs.Behind.{TypeBehind, behind, found_typed, found_next}
-use Rattle.env.specs.Force.{params_in, local_of, lets, env_of, InForce, ExprIn, Ready, field_ty, field_node, keyed_node, FieldFound, KeyedFound}
+use Rattle.env.specs.Force.{params_in, local_of, lets, env_of, InForce, field_ty, field_node, keyed_node, FieldFound, KeyedFound}
 use Rattle.env.specs.declared.env.Env.{Env}
 use Rattle.grammar.specs.Kinds as kinds
 
 -- ------------------------------------------------------------ what a map has
 
 get-map : {A B : Type 0} (g : A → Name × B) (f : A → Name) (x : Name) → ((a : A) → (g a).0 ≡ f a) → (as' : List A)
-    → get x (map g as') ≡ Option.map (λ a. (g a).1) (last_named f x as')
+    → get x (map g as') ≡ option_map (λ a. (g a).1) (last_named f x as')
 unfolding get
 get-map {A} {B} g f x e as' = rw (get, last_map g (λ p. p.0) f x e as') (by_cases (last_named f x as'))
   where
-    by_cases : (o : Maybe A) → elim (Option.map g o) as (λ _. Maybe B) [ none ↦ none | some p ↦ some p.1 ] ≡ Option.map (λ a. (g a).1) o
-    by_cases none = refl
-    by_cases (some a) = refl
+    by_cases : (o : Option A) → elim (option_map g o) as (λ _. Option B) [ None ↦ None | Some p ↦ Some p.1 ] ≡ option_map (λ a. (g a).1) o
+    by_cases None = refl
+    by_cases (Some a) = refl
 
 -- ------------------------------------------------------------ parameters
 
@@ -66,32 +61,30 @@ params-list : (s : List ℕ) (env : Env) → params_in s env ≡ map param_ty (n
 unfolding params_in param_types
 params-list s env = map-map (λ p. (p.name, ty_of_decl p.ty)) param_of (nodes_at s env.count env.params)
 
-module _ (s S : List ℕ) (env : Env) (x : Name) (h : InForce s S env) (r : Option ℕ) (l : Last s S kinds.param x env.count env.params r) where
-  param_got : get x (params_in s env) ≡ Option.map (λ t. (param_ty t).1) (found_node s r)
+module _ (s S : List ℕ) (env : Env) (x : Name) (d : Loaded s S) (h : InForce S env) (r : Option ℕ) (l : Last s S kinds.param x env.count env.params r) where
+  param_got : get x (params_in s env) ≡ option_map (λ t. (param_ty t).1) (found_node s r)
   param_got =
       let ns = nodes_at s env.count env.params in
-      let all : of_kind kinds.param ns ≡ ns = all_kind kinds.param (λ i a. omega (arith, a.kind.0, a.kind.1)) h.loaded h.params in
+      let all : of_kind kinds.param ns ≡ ns = all_kind kinds.param (λ i a. omega (arith, a.kind.0, a.kind.1)) d h.params in
       ap (get x) (params-list s env) ∙ get-map param_ty node_name x param-name ns ∙ rw (l.found, all) refl
 
-  pub param_there : (i : ℕ) (v : Ty) → r ≡ Some i → v ≡ ty_of_decl (type_at s (i + 1)) → Some v ≡ option_of (get x (params_in s env))
-  unfolding found_node option_of param_at
+  pub param_there : (i : ℕ) (v : Ty) → r ≡ Some i → v ≡ ty_of_decl (type_at s (i + 1)) → Some v ≡ get x (params_in s env)
+  unfolding found_node param_at
   param_there i v e q =
-      let t = behind kinds.param s S h.loaded r i e l.kind (omega arith) (omega arith) in
+      let t = behind kinds.param s S d r i e l.kind (omega arith) (omega arith) in
       rw (q, param_got, e, t.param, add-one i) refl
 
-  pub no_param : r ≡ None → None ≡ option_of (get x (params_in s env))
-  unfolding found_node option_of
+  pub no_param : r ≡ None → None ≡ get x (params_in s env)
+  unfolding found_node
   no_param e = rw (param_got, e) refl
 
-there : (o : Maybe Ty) → is_some (option_of o) ≡ true → (t : Ty) × (o ≡ some t)
-unfolding option_of
-there none e = absurd (true≢false (sym e))
-there (some t) e = (t, refl)
+there : (o : Option Ty) → is_some o ≡ true → (t : Ty) × (o ≡ Some t)
+there None e = absurd (true≢false (sym e))
+there (Some t) e = (t, refl)
 
-unmarked : (o : Maybe Ty) → is_some (option_of o) ≡ false → o ≡ none
-unfolding option_of
-unmarked none e = refl
-unmarked (some t) e = absurd (true≢false e)
+unmarked : (o : Option Ty) → is_some o ≡ false → o ≡ None
+unmarked None e = refl
+unmarked (Some t) e = absurd (true≢false e)
 
 -- ------------------------------------------------------------ state fields
 
@@ -117,61 +110,52 @@ local_name : (T : Table) (t : Node) → (local_of T t).0 ≡ node_name t
 unfolding local_of node_name
 local_name T (node i l ps) = refl
 
-from_mark : (v : ℕ) → unwrap_or (option_of (ty_of_mark v)) Unknown ≡ ty_from v
-unfolding ty_from
-from_mark v = option_or (ty_of_mark v) Unknown
+-- the value of a `let` that was found has a byte in the table
+module _ (s S : List ℕ) (T : Table) (d : Loaded s S) (h : line_count S ≤ length T) (r : Option ℕ) (f : FoundKind S kinds.let' r) (i : ℕ) (e : r ≡ Some i) where
+  let_at : (i < line_count S) × (kind_at S i ≡ kinds.let')
+  let_at = let q : FoundKind S kinds.let' (Some i) = rw e at f in q
 
-module _ (s S : List ℕ) (env : Env) (T : Table) (x : Name) (h : Ready s S env T) (o : Option Ty) (p : o ≡ option_of (get x (params_in s env))) where
+  let_line : Stands s S i
+  let_line = stands d i let_at.0
+
+  pub value_within : i + 1 < length T
+  unfolding sorts copies
+  value_within =
+      let g = parts let_line.line kinds.let' let_line.parted (sym let_line.says.kind ∙ let_at.1) in
+      let q = row_first (row_behind {σ = grammar.Expr} 1 [] let_line (rw g refl)) in
+      omega (arith, q.within, h)
+
+module _ (s S : List ℕ) (env : Env) (T : Table) (x : Name) (d : Loaded s S) (h : line_count S ≤ length T) (o : Option Ty) (p : o ≡ get x (params_in s env)) where
   pub by_param : (ty : Ty) → o ≡ Some ty → ty ≡ ty_of_ident (env_of s T env) x
-  unfolding ty_of_ident env_of option_of
-  by_param ty n = by_cases (get x (params_in s env)) refl (sym p ∙ n)
-    where
-      by_cases : (g : Maybe Ty) → get x (params_in s env) ≡ g → option_of g ≡ Some ty → ty ≡ ty_of_ident (env_of s T env) x
-      by_cases none e f = absurd (let z : ◌≡◌ {A = ℕ} 0 1 = cc f in omega arith)
-      by_cases (some t) e f = (let q : ty ≡ t = cc f in q) ∙ rw (ty_of_ident, e) refl
+  unfolding ty_of_ident env_of
+  by_param ty n = rw (ty_of_ident, ← p, n) refl
 
   module _ (z : o ≡ None) (r : Option ℕ) (l : Last s S kinds.let' x env.bound env.body r) where
-    no_such : get x (params_in s env) ≡ none
-    no_such = unmarked (get x (params_in s env)) (ap is_some (sym p ∙ z))
+    no_such : get x (params_in s env) ≡ None
+    no_such = sym p ∙ z
 
-    local_got : get x (map (local_of T) (lets s env.bound env.body)) ≡ Option.map (λ t. (local_of T t).1) (found_node s r)
+    local_got : get x (map (local_of T) (lets s env.bound env.body)) ≡ option_map (λ t. (local_of T t).1) (found_node s r)
     unfolding lets
     local_got = get-map (local_of T) node_name x (local_name T) (lets s env.bound env.body) ∙ rw l.found refl
 
-    module _ (i : ℕ) (e : r ≡ Some i) where
-      let_at : (i < line_count S) × (kind_at S i ≡ kinds.let')
-      let_at = let q : FoundKind S kinds.let' (Some i) = rw e at l.kind in q
-
-      let_line : Stands s S i
-      let_line = stands h.force.loaded i let_at.0
-
-      pub value_within : i + 1 < length T
-      unfolding sorts copies
-      value_within =
-          let g = parts let_line.line kinds.let' let_line.parted (sym let_line.says.kind ∙ let_at.1) in
-          let q = row_first (row_behind {σ = grammar.Expr} 1 [] let_line (rw g refl)) in
-          omega (arith, q.within, h.room)
-
-      pub value_next : length T < 18446744073709551616 → Fits w64 (i + 1)
-      value_next f = record { fits = omega (arith, value_within) }
-
-      pub by_local : (v : ℕ) (m : Option Ty) (c : Ty) → v ≡ get_or T (i + 1) 0 → m ≡ option_of (ty_of_mark v) → c ≡ unwrap_or m Unknown → c ≡ ty_of_ident (env_of s T env) x
-      unfolding ty_of_ident env_of found_node lets local_of
-      by_local v m c f w k =
-          let g : get x (map (local_of T) (lets s env.bound env.body)) ≡ some (ty_from (get_or T (suc i) 0)) = local_got ∙ rw (e, let_line.here) refl in
-          k ∙ ap (λ o. unwrap_or o Unknown) w ∙ from_mark v ∙ rw (f, add-one i, ty_of_ident, no_such, g) refl
+    pub by_local : (i : ℕ) → r ≡ Some i → (v : ℕ) (m : Option Ty) (c : Ty) → v ≡ get_or T (i + 1) 0 → m ≡ ty_of_mark v → c ≡ unwrap_or m Unknown → c ≡ ty_of_ident (env_of s T env) x
+    unfolding ty_of_ident env_of found_node lets local_of ty_from
+    by_local i e v m c f w k =
+        let here = (let_line s S T d h r l.kind i e).here in
+        let g : get x (map (local_of T) (lets s env.bound env.body)) ≡ Some (ty_from (get_or T (suc i) 0)) = local_got ∙ rw (e, here) refl in
+        k ∙ rw (w, f, add-one i, ty_of_ident, no_such, g) refl
 
     pub by_field : (v : Ty) → r ≡ None → v ≡ field_ty s x → v ≡ ty_of_ident (env_of s T env) x
     unfolding ty_of_ident env_of found_node field_ty
     by_field v e f =
-        let g : get x (map (local_of T) (lets s env.bound env.body)) ≡ none = local_got ∙ rw e refl in
+        let g : get x (map (local_of T) (lets s env.bound env.body)) ≡ None = local_got ∙ rw e refl in
         f ∙ rw (ty_of_ident, no_such, g) refl
 
 -- ------------------------------------------------------------ bare names
 
-module _ (s S : List ℕ) (env : Env) (i : ℕ) (h : ExprIn s S env i) where
-  no_ident : kind_at S i ≢ kinds.id → ident_of (expr_at s i) ≡ none
-  no_ident n = ident_at h.force.loaded h.here ∙ rw (ne_eqb (kind_at S i) kinds.id n) refl
+module _ (s S : List ℕ) (env : Env) (i : ℕ) (d : Loaded s S) (h : Here S grammar.Expr i) where
+  no_ident : kind_at S i ≢ kinds.id → ident_of (expr_at s i) ≡ None
+  no_ident n = ident_at d h ∙ rw (ne_eqb (kind_at S i) kinds.id n) refl
 
   pub no_name : kind_at S i ≢ kinds.id → false ≡ is_name_param (env_of s [] env) (expr_at s i)
   unfolding is_name_param
@@ -181,17 +165,17 @@ module _ (s S : List ℕ) (env : Env) (i : ℕ) (h : ExprIn s S env i) where
   unfolding typing.state_field_of field_node found_field found_node
   no_state n = record { found = rw (typing.state_field_of, no_ident n) refl; node = rw (field_node, no_ident n) refl; kind = tt }
 
-  module _ (q : kind_at S i ≡ kinds.id) (x : Name) (n : x ≡ name_at s S i) (o : Option Ty) (p : o ≡ option_of (get x (params_in s env))) where
-    the_ident : ident_of (expr_at s i) ≡ some x
-    the_ident = ident_at h.force.loaded h.here ∙ rw (eq-eqb (kind_at S i) kinds.id q, n) refl
+  module _ (q : kind_at S i ≡ kinds.id) (x : Name) (n : x ≡ name_at s S i) (o : Option Ty) (p : o ≡ get x (params_in s env)) where
+    the_ident : ident_of (expr_at s i) ≡ Some x
+    the_ident = ident_at d h ∙ rw (eq-eqb (kind_at S i) kinds.id q, n) refl
 
     pub name-param : (b : Bool) → b ≡ option_eq (sameb ty_type) o (Some TName) → b ≡ is_name_param (env_of s [] env) (expr_at s i)
-    unfolding is_name_param env_of option_of
+    unfolding is_name_param env_of
     name-param b f = f ∙ rw (is_name_param, the_ident, p) (by_cases (get x (params_in s env)))
       where
-        by_cases : (o : Maybe Ty) → option_eq (sameb ty_type) (option_of o) (Some TName) ≡ elim o [ none ↦ false | some t ↦ eq_ty t TName ]
-        by_cases none = refl
-        by_cases (some t) = same_ty t TName
+        by_cases : (o : Option Ty) → option_eq (sameb ty_type) o (Some TName) ≡ elim o [ None ↦ false | Some t ↦ eq_ty t TName ]
+        by_cases None = refl
+        by_cases (Some t) = same_ty t TName
 
     pub hidden : is_some o ≡ true → FieldFound s S env i None
     unfolding typing.state_field_of field_node env_of found_field found_node
@@ -207,7 +191,7 @@ module _ (s S : List ℕ) (env : Env) (i : ℕ) (h : ExprIn s S env i) where
 
 -- ------------------------------------------------------------ fields by their type
 
-module _ (s S : List ℕ) (env : Env) (i : ℕ) (h : ExprIn s S env i) (r : Option ℕ) (f : FieldFound s S env i r) where
+module _ (s S : List ℕ) (env : Env) (i : ℕ) (d : Loaded s S) (r : Option ℕ) (f : FieldFound s S env i r) where
   pub nothing_keyed : r ≡ None → KeyedFound s S env i None
   unfolding keyed_field keyed_node found_field found_node
   nothing_keyed e = record { found = rw (keyed_field, ← f.found, e) refl; node = rw (keyed_node, ← f.node, e) refl; kind = tt }
@@ -219,8 +203,8 @@ module _ (s S : List ℕ) (env : Env) (i : ℕ) (h : ExprIn s S env i) (r : Opti
   module _ (j : ℕ) (e : r ≡ Some j) (y : Name) (n : y ≡ name_at s S (j + 1)) where
     the_type : type_name (field_at s j).ty ≡ y
     the_type =
-        let t = behind kinds.field s S h.force.loaded r j e f.kind (omega arith) (omega arith) in
-        rw (t.field, n, add-one j) (sym (type_name_lem s S (suc j) t.typed))
+        let t = behind kinds.field s S d r j e f.kind (omega arith) (omega arith) in
+        rw (t.field, n, add-one j) (sym (type_name_lem s S (suc j) d))
 
     pub pool : (b : Bool) → b ≡ same y (bytes "Q_Asset") → b ≡ is_pool (env_of s [] env) (expr_at s i)
     unfolding is_pool found_field is
@@ -239,3 +223,5 @@ module _ (s S : List ℕ) (env : Env) (i : ℕ) (h : ExprIn s S env i) (r : Opti
           by_cases true t =
               record { found = rw (keyed_field, ← f.found, e, which, t) refl; node = rw (keyed_node, ← f.node, e, which, t) refl; kind = rw e at f.kind }
           by_cases false t = record { found = rw (keyed_field, ← f.found, e, which, t) refl; node = rw (keyed_node, ← f.node, e, which, t) refl; kind = tt }
+
+pub ruleset laws_lookups = (loaded_sheet, pool, no_pool, by_param, value_within, by_local, by_field, deployer, no_field, no_param, param_there, no_name)

@@ -25,9 +25,9 @@ use Rattle.rules.specs.Standing.{trees_from, node_at, expr_at, Loaded, Here}
 use Rattle.rules.proofs.Parts.{stop, ◌also◌, pick, parts}
 use Rattle.rules.proofs.Exprs.{line_at}
 use Rattle.rules.proofs.Lets.{past_on, not_stale}
-use Rattle.rules.proofs.Standing.{stands}
+use Rattle.rules.proofs.Standing.{stands, loaded_sheet}
 use Rattle.lookups.specs.Found.{found_node, FoundKind, Stretch, Last}
-use Rattle.env.specs.Force.{lets, ends_in, env_of, InForce, ExprIn}
+use Rattle.env.specs.Force.{lets, ends_in, env_of, InForce}
 use Rattle.env.specs.declared.env.Env.{Env}
 use Rattle.env.proofs.Lets.{let_end, ends_behind, ends_past, among_later}
 use Rattle.grammar.specs.Kinds as kinds
@@ -38,23 +38,23 @@ use Rattle.grammar.specs.Kinds as kinds
 abbrev pub hit : (s S : List ℕ) → List Name → ℕ → Bool
 hit s S xs i = eqb (kind_at S i) kinds.id && among (name_at s S i) xs
 
-pub bound-lets : (s S : List ℕ) (env : Env) → InForce s S env → Stretch s S env.bound env.body
-bound-lets s S env f = record { loaded = f.loaded; sort = grammar.Stmt; row = f.locals }
+pub bound-lets : (S : List ℕ) (env : Env) → InForce S env → Stretch S env.bound env.body
+bound-lets S env f = record { sort = grammar.Stmt; row = f.locals }
 
-module _ (s S : List ℕ) (env : Env) (i at : ℕ) (f : InForce s S env) where
+module _ (s S : List ℕ) (env : Env) (i at : ℕ) (d : Loaded s S) (f : InForce S env) where
   pub no_id : (r : Bool) → kind_at S at ≢ kinds.id → r ≡ false → r ≡ hit s S (later i (ends_in s env)) at
   no_id r q z = z ∙ rw (ne_eqb (kind_at S at) kinds.id q) refl
 
   module _ (x : Name) (r : Option ℕ) (q : kind_at S at ≡ kinds.id) (n : x ≡ name_at s S at) (l : Last s S kinds.let' x env.bound env.body r) where
     by_search : ends_behind s i (found_node s r) ≡ hit s S (later i (ends_in s env)) at
     unfolding lets
-    by_search = ap (ends_behind s i) l.found ∙ rw (eq-eqb (kind_at S at) kinds.id q, ← n) (sym (among_later s S env f x i))
+    by_search = ap (ends_behind s i) l.found ∙ rw (eq-eqb (kind_at S at) kinds.id q, ← n) (sym (among_later s S env d f x i))
 
     pub is_later : (j v : ℕ) (b : Bool) → r ≡ Some j → v ≡ end_at S j → b ≡ ltb i v → b ≡ hit s S (later i (ends_in s env)) at
     unfolding found_node
     is_later j v b h w z =
         let g : FoundKind S kinds.let' (Some j) = rw h at l.kind in
-        z ∙ rw (w, ← let_end f.loaded j g.0 g.1) (rw h at by_search)
+        z ∙ rw (w, ← let_end d j g.0 g.1) (rw h at by_search)
 
     pub not_later : r ≡ None → false ≡ hit s S (later i (ends_in s env)) at
     unfolding found_node
@@ -170,24 +170,25 @@ module _ {s S : List ℕ} (d : Loaded s S) (xs : List Name) where
 -- ------------------------------------------------------------ the walk over the lines
 
 -- from line `next` on the exception holds nowhere
-pub not_stale_at : (s S : List ℕ) (env : Env) (T : Table) (i : ℕ) → ExprIn s S env i → env.next ≤ i → stale (env_of s T env) (expr_at s i) ≡ false
+pub not_stale_at : (s S : List ℕ) (env : Env) (T : Table) (i : ℕ) → Loaded s S → InForce S env → Here S grammar.Expr i → env.next ≤ i → stale (env_of s T env) (expr_at s i) ≡ false
 unfolding env_of
-not_stale_at s S env T i h q =
+not_stale_at s S env T i d f h q =
     not_stale (env_of s T env) (expr_at s i)
-    (rw (line_at h.force.loaded h.here) (past_on (ends_in s env) env.next i (ends_past s S env h.force) q))
+    (rw (line_at d h) (past_on (ends_in s env) env.next i (ends_past s S env d f) q))
 
-pub past_next : (s S : List ℕ) (env : Env) (i : ℕ) (r : Bool) → ExprIn s S env i → env.next ≤ i → r ≡ false → r ≡ stale (env_of s [] env) (expr_at s i)
-past_next s S env i r h q e = e ∙ sym (not_stale_at s S env [] i h q)
+pub past_next : (s S : List ℕ) (env : Env) (i : ℕ) (r : Bool) → Loaded s S → InForce S env → Here S grammar.Expr i → env.next ≤ i → r ≡ false → r ≡ stale (env_of s [] env) (expr_at s i)
+past_next s S env i r d f h q e = e ∙ sym (not_stale_at s S env [] i d f h q)
 
 any_is : (p : ℕ → Bool) (i n : ℕ) → list_any p (range_with_len i n) ≡ any p i n
 unfolding any
 any_is p i zero = refl
 any_is p i (suc n) = ap (λ b. p i || b) (rw add-one (any_is p (suc i) n))
 
-pub any_line : (s S : List ℕ) (env : Env) (i end : ℕ) → ExprIn s S env i → end ≡ end_at S i
+pub any_line : (s S : List ℕ) (env : Env) (i end : ℕ) → Loaded s S → Here S grammar.Expr i → end ≡ end_at S i
     → list_any (hit s S (later i (ends_in s env))) (range_with_len i (end - i)) ≡ stale (env_of s [] env) (expr_at s i)
 unfolding stale env_of
-any_line s S env i end h e =
-    let d = h.force.loaded in
+any_line s S env i end d h e =
     let xs = later i (ends_in s env) in
-    any_is (hit s S xs) i (end - i) ∙ sym (rw (line_at d h.here, e) (has_lines d xs i h.here))
+    any_is (hit s S xs) i (end - i) ∙ sym (rw (line_at d h, e) (has_lines d xs i h))
+
+pub ruleset laws_later = (loaded_sheet, is_later, not_later)

@@ -3,7 +3,6 @@ use mathlib.Core.Logic.{◌≢◌}
 use mathlib.Core.Path.{◌≡◌, refl, sym, ◌∙◌}
 use mathlib.Core.List.{List, [], ◌∷◌}
 use mathlib.Core.Bool.{Bool, true, false, cond, not, ◌&&◌, ◌||◌, or-false}
-use mathlib.Core.Option.{Option as Maybe, none, some}
 use Prim.Native.String.{String}
 use Prim.Native.Nat.{ℕ, suc, ◌+◌}
 use native.Mathlib.Numerals.{add-one}
@@ -20,23 +19,22 @@ use Rattle.rules.specs.Text.{Name, is, is_one, pick}
 use Rattle.rules.specs.Ast.{Expr, Field, span, type_name}
 use Rattle.rules.specs.Asking.{expect, if_some}
 use Rattle.rules.specs.declared.ty.Ty.{Ty}
-use Rattle.rules.specs.declared.ty.Ty.TheVariants.{Int, Boolean, Asset, Time, Unknown}
+use Rattle.rules.specs.declared.ty.Ty.TheVariants.{Int, Bool as Boolean, Asset, Time, Unknown}
 use Rattle.rules.specs.Types.{declared_arg, is_ty}
 use Rattle.rules.specs.Typing as typing
 use Rattle.rules.specs.Typing.{Dot, dot_of, ident_is, keyed_field, is_pool, keyed_op_fits, keyed_op_text, expect_keyed_op, receiver_text, expect_asset_receiver, ty_of_get, ty_of_call}
 use Rattle.rules.specs.Standing.{expr_at, type_at, field_at, Loaded, Here}
 use Rattle.rules.proofs.Exprs.{dot_at_lem, ident_at, is_dot_at}
-use Rattle.rules.proofs.Standing.{row_first}
+use Rattle.rules.proofs.Standing.{row_first, loaded_sheet}
 use Rattle.refusals.specs.Answers.{Answers}
-use Rattle.lookups.specs.Found.{found_node, found_field}
-use Rattle.lookups.specs.Lines.{TypeAt}
+use Rattle.lookups.specs.Found.{found_node, found_field, FoundKind}
 use Rattle.refusals.specs.Refusal.{dot_at, refusal_of, done_of}
 use Rattle.refusals.specs.declared.refusal.Refusal.TheVariants.{Receiver, KeyedOp}
 use Rattle.refusals.proofs.Answers.{gives, fits, misfits}
 use Rattle.lookups.proofs.Tables.{one_found, either_word}
 use Rattle.lookups.proofs.Types.{type_name_lem}
 use Rattle.env.specs.Calls.{wants_of, keyed_of, keyed_record, KeyedOf, Callee, op_rule, get_ty, method_ty, call_ty}
-use Rattle.env.specs.Force.{env_of, ExprIn, KeyedFound}
+use Rattle.env.specs.Force.{env_of, KeyedFound}
 use Rattle.env.specs.declared.env.Env.{Env}
 use Rattle.env.proofs.Lookups.{behind}
 use Rattle.grammar.specs.Kinds as kinds
@@ -78,28 +76,26 @@ module _ (x : Name) (b : Bool) (w : b ≡ same x (bytes "set")) where
 abbrev the_dot : List ℕ → List ℕ → ℕ → Dot
 the_dot s S i = record { base = expr_at s (suc i); name = name_at s S i; nspan = nspan_at s S i }
 
-dot_told : (s : List ℕ) (i : ℕ) (d : Dot) → dot_of (expr_at s i) ≡ some d → dot_at s i ≡ d
+dot_told : (s : List ℕ) (i : ℕ) (d : Dot) → dot_of (expr_at s i) ≡ Some d → dot_at s i ≡ d
 unfolding dot_at
 dot_told s i d e = rw (dot_at, e) refl
 
 module _ {s S : List ℕ} {i : ℕ} (d : Loaded s S) (h : Here S grammar.Expr i) where
-  not_dot : kind_at S i ≢ kinds.dot → dot_of (expr_at s i) ≡ none
+  not_dot : kind_at S i ≢ kinds.dot → dot_of (expr_at s i) ≡ None
   not_dot n = is_dot_at d h ∙ rw (ne_eqb (kind_at S i) kinds.dot n) refl
 
-  is-dot : kind_at S i ≡ kinds.dot → dot_of (expr_at s i) ≡ some (the_dot s S i)
+  is-dot : kind_at S i ≡ kinds.dot → dot_of (expr_at s i) ≡ Some (the_dot s S i)
   is-dot q = is_dot_at d h ∙ rw (eq-eqb (kind_at S i) kinds.dot q) refl
 
-module _ (s S : List ℕ) (env : Env) (i : ℕ) (h : ExprIn s S env i) where
-  none_here : kind_at S i ≢ kinds.dot → dot_of (expr_at s i) ≡ none
-  none_here = not_dot h.force.loaded h.here
+module _ (s S : List ℕ) (env : Env) (i : ℕ) (d : Loaded s S) (h : Here S grammar.Expr i) where
+  none_here : kind_at S i ≢ kinds.dot → dot_of (expr_at s i) ≡ None
+  none_here = not_dot d h
 
-  dot_here : kind_at S i ≡ kinds.dot → dot_of (expr_at s i) ≡ some (the_dot s S i)
-  dot_here = is-dot h.force.loaded h.here
+  dot_here : kind_at S i ≡ kinds.dot → dot_of (expr_at s i) ≡ Some (the_dot s S i)
+  dot_here = is-dot d h
 
-  pub base_in : kind_at S i ≡ kinds.dot → ExprIn s S env (i + 1)
-  base_in q =
-      rw (add-one i)
-      (record { force = h.force; here = row_first (dot_at_lem h.force.loaded h.here q).1 })
+  pub base_in : kind_at S i ≡ kinds.dot → Here S grammar.Expr (i + 1)
+  base_in q = rw (add-one i) (row_first (dot_at_lem d h q).1)
 
   pub uses_none : kind_at S i ≢ kinds.dot → KeyedOf s S env i None
   unfolding keyed_of keyed_record found_field found_node
@@ -145,9 +141,9 @@ module _ (s S : List ℕ) (env : Env) (i : ℕ) (h : ExprIn s S env i) where
 
 -- ------------------------------------------------------------ Maps and Registries
 
-module _ (s S : List ℕ) (i : ℕ) (h : TypeAt s S i) (y : Name) (n : y ≡ name_at s S i) where
+module _ (s S : List ℕ) (i : ℕ) (d : Loaded s S) (y : Name) (n : y ≡ name_at s S i) where
   the_name : type_name (type_at s i) ≡ y
-  the_name = sym (n ∙ type_name_lem s S i h)
+  the_name = sym (n ∙ type_name_lem s S i d)
 
   module _ (x : Name) (b : Bool) (w : b ≡ same y (bytes "Registry")) where
     pub registry_op : (o : Option ℕ) (t : Bool) → b ≡ true → o ≡ place_in x (split (bytes "insert remove contains ")) → t ≡ is_some o → t ≡ keyed_op_fits (type_at s i) x
@@ -189,24 +185,24 @@ module _ (s S : List ℕ) (i : ℕ) (h : TypeAt s S i) (y : Name) (n : y ≡ nam
 -- ------------------------------------------------------------ what a callee uses
 
 -- the rules of a callee that uses o
-module _ (Γ : typing.Env) (e : Expr) (o : Maybe Field) (g : o ≡ keyed_of Γ e) where
+module _ (Γ : typing.Env) (e : Expr) (o : Option Field) (g : o ≡ keyed_of Γ e) where
   pub uses_op : op_rule o e ≡ expect_keyed_op Γ e
   unfolding keyed_of op_rule expect_keyed_op if_some
   uses_op = by_cases (dot_of e) g
     where
-      by_cases : (x : Maybe Dot) → o ≡ elim x [ none ↦ none | some d ↦ keyed_field Γ d.base ]
+      by_cases : (x : Option Dot) → o ≡ elim x [ None ↦ None | Some d ↦ keyed_field Γ d.base ]
           → if_some x (λ d. if_some o (λ f. expect (keyed_op_fits f.ty d.name) 31 d.nspan (keyed_op_text d.name f)))
           ≡ if_some x (λ d. if_some (keyed_field Γ d.base) (λ f. expect (keyed_op_fits f.ty d.name) 31 d.nspan (keyed_op_text d.name f)))
-      by_cases none q = refl
-      by_cases (some d) q = rw q refl
+      by_cases None q = refl
+      by_cases (Some d) q = rw q refl
 
   pub uses-type : call_ty o e ≡ ty_of_call Γ e
   unfolding keyed_of call_ty method_ty ty_of_call
   uses-type = by_cases (dot_of e) refl
     where
-      by_cases : (x : Maybe Dot) → dot_of e ≡ x → call_ty o e ≡ ty_of_call Γ e
-      by_cases none q = rw (call_ty, ty_of_call, q) refl
-      by_cases (some d) q = let u = rw (keyed_of, q) at g in rw (call_ty, ty_of_call, q, u) refl
+      by_cases : (x : Option Dot) → dot_of e ≡ x → call_ty o e ≡ ty_of_call Γ e
+      by_cases None q = rw (call_ty, ty_of_call, q) refl
+      by_cases (Some d) q = let u = rw (keyed_of, q) at g in rw (call_ty, ty_of_call, q, u) refl
 
 -- the type of a method: whether it is `contains`, `split` and `get`, which gives g
 by_method : Ty → (contains split get : Bool) → Ty
@@ -217,41 +213,11 @@ tested : (x : Name) (g : Ty)
 unfolding pick is by_method
 tested x g = refl
 
-module _ (s S : List ℕ) (i : ℕ) (keyed : Option ℕ) (h : Callee s S i keyed) where
+module _ (s S : List ℕ) (keyed : Option ℕ) (d : Loaded s S) (q : FoundKind S kinds.field keyed) where
   its_type : (f : ℕ) → keyed ≡ Some f → (field_at s f).ty ≡ type_at s (suc f)
-  its_type f e = (behind kinds.field s S h.expr.loaded keyed f e h.kind (omega arith) (omega arith)).field
+  its_type f e = (behind kinds.field s S d keyed f e q (omega arith) (omega arith)).field
 
-  abbrev JudgesMethod : Result Unit Refusal → Type 0
-  JudgesMethod r = Answers (op_rule (found_field s keyed) (expr_at s i)) (done_of s r)
-
-  pub op_nowhere : kind_at S i ≢ kinds.dot → JudgesMethod (Ok tt)
-  unfolding op_rule if_some done_of
-  op_nowhere z = rw (op_rule, not_dot h.expr.loaded h.expr.here z) (gives tt)
-
-  module _ (z : kind_at S i ≡ kinds.dot) where
-    here : dot_of (expr_at s i) ≡ some (the_dot s S i)
-    here = is-dot h.expr.loaded h.expr.here z
-
-    pub no_op : keyed ≡ None → JudgesMethod (Ok tt)
-    unfolding op_rule if_some found_field done_of
-    no_op e = rw (op_rule, here, e) (gives tt)
-
-    module _ (f : ℕ) (e : keyed ≡ Some f) (x : Name) (n : x ≡ name_at s S i) (b : Bool) (w : b ≡ keyed_op_fits (type_at s (f + 1)) x) where
-      op : op_rule (found_field s keyed) (expr_at s i) ≡ expect b 31 (dot_at s i).nspan (keyed_op_text (dot_at s i).name (field_at s f))
-      unfolding op_rule if_some found_field
-      op =
-          let v : keyed_op_fits (field_at s f).ty (name_at s S i) ≡ b = sym (w ∙ rw (its_type f e, n, add-one f) refl) in
-          rw (op_rule, here, e, dot_told s i (the_dot s S i) here, v) refl
-
-      pub good_op : b ≡ true → JudgesMethod (Ok tt)
-      unfolding done_of
-      good_op t = rw op (fits b 31 _ _ t)
-
-      pub bad_op : b ≡ false → JudgesMethod (Err (KeyedOp i f))
-      unfolding done_of refusal_of
-      bad_op t = rw op (misfits b 31 _ _ t)
-
-  module _ (x : Name) (n : x ≡ name_at s S i) (a b : Bool) (u : a ≡ same x (bytes "contains")) (v : b ≡ same x (bytes "split")) where
+  module _ (i : ℕ) (x : Name) (n : x ≡ name_at s S i) (a b : Bool) (u : a ≡ same x (bytes "contains")) (v : b ≡ same x (bytes "split")) where
     -- the type by the tests of the method
     by_tests : (c : Bool) → c ≡ same x (bytes "get") → method_ty (name_at s S i) (found_field s keyed) ≡ by_method (ty_of_get (found_field s keyed)) a b c
     unfolding method_ty
@@ -284,23 +250,56 @@ module _ (s S : List ℕ) (i : ℕ) (keyed : Option ℕ) (h : Callee s S i keyed
       unfolding ty_of_get found_field
       no_get z k = (let y : Int ≡ ty_of_get (found_field s keyed) = rw k refl in y) ∙ sym (get_told z)
 
+module _ (s S : List ℕ) (i : ℕ) (keyed : Option ℕ) (d : Loaded s S) (h : Callee S i keyed) where
+  abbrev JudgesMethod : Result Unit Refusal → Type 0
+  JudgesMethod r = Answers (op_rule (found_field s keyed) (expr_at s i)) (done_of s r)
+
+  pub op_nowhere : kind_at S i ≢ kinds.dot → JudgesMethod (Ok tt)
+  unfolding op_rule if_some done_of
+  op_nowhere z = rw (op_rule, not_dot d h.expr z) (gives tt)
+
+  module _ (z : kind_at S i ≡ kinds.dot) where
+    here : dot_of (expr_at s i) ≡ Some (the_dot s S i)
+    here = is-dot d h.expr z
+
+    pub no_op : keyed ≡ None → JudgesMethod (Ok tt)
+    unfolding op_rule if_some found_field done_of
+    no_op e = rw (op_rule, here, e) (gives tt)
+
+    module _ (f : ℕ) (e : keyed ≡ Some f) (x : Name) (n : x ≡ name_at s S i) (b : Bool) (w : b ≡ keyed_op_fits (type_at s (f + 1)) x) where
+      op : op_rule (found_field s keyed) (expr_at s i) ≡ expect b 31 (dot_at s i).nspan (keyed_op_text (dot_at s i).name (field_at s f))
+      unfolding op_rule if_some found_field
+      op =
+          let v : keyed_op_fits (field_at s f).ty (name_at s S i) ≡ b = sym (w ∙ rw (its_type s S keyed d h.kind f e, n, add-one f) refl) in
+          rw (op_rule, here, e, dot_told s i (the_dot s S i) here, v) refl
+
+      pub good_op : b ≡ true → JudgesMethod (Ok tt)
+      unfolding done_of
+      good_op t = rw op (fits b 31 _ _ t)
+
+      pub bad_op : b ≡ false → JudgesMethod (Err (KeyedOp i f))
+      unfolding done_of refusal_of
+      bad_op t = rw op (misfits b 31 _ _ t)
+
   pub typed_method : (r : Ty) → kind_at S i ≡ kinds.dot → r ≡ method_ty (name_at s S i) (found_field s keyed) → r ≡ call_ty (found_field s keyed) (expr_at s i)
   unfolding call_ty
-  typed_method r q f = f ∙ rw (call_ty, is-dot h.expr.loaded h.expr.here q) refl
+  typed_method r q f = f ∙ rw (call_ty, is-dot d h.expr q) refl
 
   module _ (q : kind_at S i ≢ kinds.dot) (t : Bool) (e : t ≡ eqb (kind_at S i) kinds.id) (x : Name) (n : x ≡ name_at s S i) (b : Bool) (w : b ≡ same x (bytes "mint")) where
     mints : ident_is (expr_at s i) "mint" ≡ (t && b)
     unfolding ident_is is
-    mints = rw (ident_is, ident_at h.expr.loaded h.expr.here, ← e, ← n, w) (by_cases t)
+    mints = rw (ident_is, ident_at d h.expr, ← e, ← n, w) (by_cases t)
       where
-        by_cases : (t : Bool) → ◌≡◌ {A = Bool} (elim (cond t (some x) none) [ none ↦ false | some y ↦ same y (bytes "mint") ]) (t && same x (bytes "mint"))
+        by_cases : (t : Bool) → ◌≡◌ {A = Bool} (elim (cond t (Some x) None) [ None ↦ false | Some y ↦ same y (bytes "mint") ]) (t && same x (bytes "mint"))
         by_cases true = refl
         by_cases false = refl
 
     pub minted : (t && b) ≡ true → Asset ≡ call_ty (found_field s keyed) (expr_at s i)
     unfolding call_ty
-    minted z = rw (call_ty, not_dot h.expr.loaded h.expr.here q, mints, z) refl
+    minted z = rw (call_ty, not_dot d h.expr q, mints, z) refl
 
     pub not_minted : (t && b) ≡ false → Unknown ≡ call_ty (found_field s keyed) (expr_at s i)
     unfolding call_ty
-    not_minted z = rw (call_ty, not_dot h.expr.loaded h.expr.here q, mints, z) refl
+    not_minted z = rw (call_ty, not_dot d h.expr q, mints, z) refl
+
+pub ruleset laws_methods = (loaded_sheet, typed_method, minted, not_minted, by_contains, by_split, by_other, no_get, no_map, no_value, its_value, wants_two, wants_one, wants_none)

@@ -6,9 +6,9 @@ use Rattle.rules.specs.declared.ty.Ty.{Ty}
 use Rattle.rules.specs.declared.ty.Ty.TheVariants.{Int, Asset, Unknown}
 use Rattle.rules.specs.Types.{is_ty}
 use Rattle.rules.specs.Typing.{judge_key, amount_text}
-use Rattle.rules.specs.Standing.{expr_at, field_at}
+use Rattle.rules.specs.Standing.{expr_at, field_at, Here}
 use Rattle.refusals.specs.Answers.{Answers}
-use Rattle.lookups.specs.Lines.{ExprAt}
+use Rattle.grammar.specs.Grammar as grammar
 use Rattle.refusals.specs.Refusal.{dot_at, refusal_of, done_of}
 use Rattle.refusals.specs.declared.refusal.Refusal.{Refusal}
 use Rattle.env.specs.Force.{env_of}
@@ -44,6 +44,6 @@ JudgesKey s env field is_key arg want got r =
     Answers (judge_key (env_of s [] env) (field_at s field).name is_key (expr_at s arg) want got) (done_of s r)
 
 -- expressions stand at two lines
-pub record Operands (s S : List ℕ) (left right : ℕ) : Type 0 where
-  pub one : ExprAt s S left
-  pub other : ExprAt s S right
+pub record Operands (S : List ℕ) (left right : ℕ) : Type 0 where
+  pub one : Here S grammar.Expr left
+  pub other : Here S grammar.Expr right

@@ -1,19 +1,18 @@
 -- What a call's callee tells.
-use Rattle.std.specs.Prelude.{ℕ, suc, true, false, cond, not, ◌&&◌, List, [], ◌∷◌, ◌≡◌, eqb, Option}
-use Rattle.std.proofs.Math.Option.{Option as Maybe, none, some}
+use Rattle.std.specs.Prelude.{ℕ, suc, true, false, cond, not, ◌&&◌, List, [], ◌∷◌, ◌≡◌, eqb, Option, Some, None}
 use Rattle.sheet.specs.Scratch.{kind_at}
 use Rattle.sheet.specs.Tree.{Node}
 use Rattle.rules.specs.Text.{Name, is, is_one, pick}
 use Rattle.rules.specs.Ast.{Type', Expr, Field, type_name}
 use Rattle.rules.specs.Asking.{Rule, expect, if_some}
 use Rattle.rules.specs.declared.ty.Ty.{Ty}
-use Rattle.rules.specs.declared.ty.Ty.TheVariants.{Int, Boolean, Asset, Time, Unknown}
+use Rattle.rules.specs.declared.ty.Ty.TheVariants.{Int, Bool as Boolean, Asset, Time, Unknown}
 use Rattle.rules.specs.Types.{declared_arg, is_ty}
 use Rattle.rules.specs.Typing as typing
 use Rattle.rules.specs.Typing.{dot_of, ident_is, keyed_field, keyed_op_fits, keyed_op_text, ty_of_get}
-use Rattle.rules.specs.Standing.{expr_at}
+use Rattle.rules.specs.Standing.{expr_at, Here}
 use Rattle.lookups.specs.Found.{found_node, found_field, FoundKind}
-use Rattle.lookups.specs.Lines.{ExprAt}
+use Rattle.grammar.specs.Grammar as grammar
 use Rattle.env.specs.Force.{env_of, keyed_node}
 use Rattle.env.specs.declared.env.Env.{Env}
 use Rattle.grammar.specs.Kinds as kinds
@@ -28,12 +27,12 @@ wants_of method =
     ]
 
 -- the Map or Registry that a callee uses
-unfoldable pub keyed_of : typing.Env → Expr → Maybe Field
-keyed_of Γ callee = elim (dot_of callee) [ none ↦ none | some d ↦ keyed_field Γ d.base ]
+unfoldable pub keyed_of : typing.Env → Expr → Option Field
+keyed_of Γ callee = elim (dot_of callee) [ None ↦ None | Some d ↦ keyed_field Γ d.base ]
 
 -- ... and its record
-unfoldable pub keyed_record : List ℕ → List ℕ → Env → ℕ → Maybe Node
-keyed_record s S env callee = cond (eqb (kind_at S callee) kinds.dot) (keyed_node s S env (suc callee)) none
+unfoldable pub keyed_record : List ℕ → List ℕ → Env → ℕ → Option Node
+keyed_record s S env callee = cond (eqb (kind_at S callee) kinds.dot) (keyed_node s S env (suc callee)) None
 
 pub record KeyedOf (s S : List ℕ) (env : Env) (callee : ℕ) (r : Option ℕ) : Type 0 where
   pub found : found_field s r ≡ keyed_of (env_of s [] env) (expr_at s callee)
@@ -41,12 +40,12 @@ pub record KeyedOf (s S : List ℕ) (env : Env) (callee : ℕ) (r : Option ℕ) 
   pub kind : FoundKind S kinds.field r
 
 -- a callee stands at a line, and `keyed` is a field or nothing
-pub record Callee (s S : List ℕ) (callee : ℕ) (keyed : Option ℕ) : Type 0 where
-  pub expr : ExprAt s S callee
+pub record Callee (S : List ℕ) (callee : ℕ) (keyed : Option ℕ) : Type 0 where
+  pub expr : Here S grammar.Expr callee
   pub kind : FoundKind S kinds.field keyed
 
 -- `expect_keyed_op` of a callee that uses this Map or Registry, if any
-unfoldable pub op_rule : Maybe Field → Expr → Rule Unit
+unfoldable pub op_rule : Option Field → Expr → Rule Unit
 op_rule keyed callee =
     if_some (dot_of callee) λ d.
     if_some keyed λ f.
@@ -57,10 +56,10 @@ unfoldable pub get_ty : Type' → Ty
 get_ty ty = elim (is (type_name ty) "Map" && not (is_ty (declared_arg ty 1) (Unknown ∷ Time ∷ []))) [ true ↦ declared_arg ty 1 | false ↦ Int ]
 
 -- the type of a call by its method
-unfoldable pub method_ty : Name → Maybe Field → Ty
+unfoldable pub method_ty : Name → Option Field → Ty
 method_ty method keyed = pick method (("contains", Boolean) ∷ ("split", Asset) ∷ ("get", ty_of_get keyed) ∷ []) Unknown
 
 -- `ty_of_call` of a callee that uses this Map or Registry, if any
-unfoldable pub call_ty : Maybe Field → Expr → Ty
+unfoldable pub call_ty : Option Field → Expr → Ty
 call_ty keyed callee =
-    elim (dot_of callee) [ some d ↦ method_ty d.name keyed | none ↦ elim (ident_is callee "mint") [ true ↦ Asset | false ↦ Unknown ] ]
+    elim (dot_of callee) [ Some d ↦ method_ty d.name keyed | None ↦ elim (ident_is callee "mint") [ true ↦ Asset | false ↦ Unknown ] ]

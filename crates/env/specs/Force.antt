@@ -1,8 +1,7 @@
 -- The rules' `Env` of the code's, and what the code asks of it.
-use Rattle.std.specs.Prelude.{ℕ, suc, ◌≤◌, List, [], ◌∷◌, map, true, false, ◌≡◌, length, get_or, Option}
-use Rattle.std.proofs.Math.Option.{Option as Maybe, none, some}
+use Rattle.std.specs.Prelude.{ℕ, suc, List, [], ◌∷◌, map, true, false, ◌≡◌, get_or, Option, Some, None}
 use Rattle.grammar.specs.Grammar as grammar
-use Rattle.sheet.specs.Scratch.{skip, line_count, item_count}
+use Rattle.sheet.specs.Scratch.{end_at, skip, item_count}
 use Rattle.sheet.specs.Tree.{Node, node}
 use Rattle.rules.specs.Text.{Name, is, is_one, get, last_named}
 use Rattle.rules.specs.Ast.{line_after, field_of, param_of, type_name}
@@ -13,7 +12,10 @@ use Rattle.rules.specs.Types.{ty_of_decl}
 use Rattle.rules.specs.Model.{field_named}
 use Rattle.rules.specs.Typing as typing
 use Rattle.rules.specs.Check.{param_types}
-use Rattle.rules.specs.Standing.{node_name, nodes_at, expr_at, model_in, Loaded, Here, Row}
+use Rattle.rules.specs.Standing.{node_name, nodes_at, expr_at, model_in, Row}
+use Rattle.rules.specs.Once.{Row-prop}
+use Rattle.std.specs.Coded.{Coded-set, coded_ℕ}
+use mathlib.Core.Path.{refl}
 use Rattle.lookups.specs.Found.{of_kind, all_fields, found_node, found_field, FoundKind}
 use Rattle.env.specs.declared.env.Env.{Env}
 use Rattle.grammar.specs.Kinds as kinds
@@ -46,46 +48,59 @@ env_of s T env =
       genesis = env.genesis;
     }
 
+-- parameters, and no locals
+unfoldable pub new : (params count : ℕ) → Env
+new params count = record { params = params; count = count; body = 0; bound = 0; next = 0; genesis = false }
+
+unfoldable pub in_genesis : Env → Env
+in_genesis env =
+    record { params = env.params; count = env.count; body = env.body; bound = env.bound; next = env.next; genesis = true }
+
+-- before the statements from line `body` on
+unfoldable pub before : ℕ → Env → Env
+before body env =
+    record { params = env.params; count = env.count; body = body; bound = 0; next = body; genesis = env.genesis }
+
+-- with the next statement behind
+unfoldable pub bind_next : List ℕ → Env → Env
+bind_next S env =
+    record { params = env.params; count = env.count; body = env.body; bound = suc env.bound; next = end_at S env.next; genesis = env.genesis }
+
 -- ------------------------------------------------------------ what the code asks
 
 -- the lines that an `Env` tells are there, and `next` is the line behind its bound statements
-pub record InForce (s S : List ℕ) (env : Env) : Type 0 where
-  pub loaded : Loaded s S
+pub record InForce (S : List ℕ) (env : Env) : Type 0 where
   pub params : Row S grammar.Param env.count env.params
   pub locals : Row S grammar.Stmt env.bound env.body
   pub next : env.next ≡ skip S env.bound env.body
 
--- ... and an expression stands at line i
-pub record ExprIn (s S : List ℕ) (env : Env) (i : ℕ) : Type 0 where
-  pub force : InForce s S env
-  pub here : Here S grammar.Expr i
-
--- the lines of an `Env` are there, and the table has a byte a line
-pub record Ready (s S : List ℕ) (env : Env) (T : Table) : Type 0 where
-  pub force : InForce s S env
-  pub room : line_count S ≤ length T
+-- ... which has one proof at most
+pub InForce-prop : (S : List ℕ) (env : Env) → IsProp (InForce S env)
+InForce-prop S env x y =
+    rw (Row-prop S grammar.Param env.count env.params x.params y.params, Row-prop S grammar.Stmt env.bound env.body x.locals y.locals, Coded-set coded_ℕ _ _ x.next y.next)
+    refl
 
 -- ------------------------------------------------------------ what is found
 
 -- the type of a name that is no parameter's and no local's
 unfoldable pub field_ty : List ℕ → Name → Ty
 field_ty s x =
-    elim (field_named (model_in s) x) [ some f ↦ ty_of_decl f.ty | none ↦ elim (is x "deployer") [ true ↦ Address | false ↦ Unknown ] ]
+    elim (field_named (model_in s) x) [ Some f ↦ ty_of_decl f.ty | None ↦ elim (is x "deployer") [ true ↦ Address | false ↦ Unknown ] ]
 
 -- the record of the state field that the bare name at line i means
-unfoldable pub field_node : List ℕ → List ℕ → Env → ℕ → Maybe Node
+unfoldable pub field_node : List ℕ → List ℕ → Env → ℕ → Option Node
 field_node s S env i =
     elim (typing.ident_of (expr_at s i)) [
-      | none ↦ none
-      | some x ↦ elim (get x (params_in s env)) [ some t ↦ none | none ↦ last_named node_name x (all_fields (nodes_at s (item_count S 0) 1)) ]
+      | None ↦ None
+      | Some x ↦ elim (get x (params_in s env)) [ Some t ↦ None | None ↦ last_named node_name x (all_fields (nodes_at s (item_count S 0) 1)) ]
     ]
 
 -- ... where it is a Map or Registry
-unfoldable pub keyed_node : List ℕ → List ℕ → Env → ℕ → Maybe Node
+unfoldable pub keyed_node : List ℕ → List ℕ → Env → ℕ → Option Node
 keyed_node s S env i =
     elim (field_node s S env i) [
-      | none ↦ none
-      | some t ↦ elim (is_one (type_name (field_of t).ty) ("Map" ∷ "Registry" ∷ [])) [ true ↦ some t | false ↦ none ]
+      | None ↦ None
+      | Some t ↦ elim (is_one (type_name (field_of t).ty) ("Map" ∷ "Registry" ∷ [])) [ true ↦ Some t | false ↦ None ]
     ]
 
 -- No local changes these, so the table is left out.

@@ -1,17 +1,18 @@
 // Calls and dots: what their callee, method and base tell.
 ghost use Rattle.std.specs.Prelude.{[], ◌∷◌, ◌≡◌};
-ghost use Rattle.rules.specs.Standing.{expr_at, type_at};
+ghost use Rattle.rules.specs.Standing.{expr_at, Here, type_at};
 ghost use Rattle.rules.specs.Text.{is_one};
 ghost use Rattle.rules.specs.Typing.{expect_asset_receiver, keyed_op_fits, ty_of_dot};
 ghost use Rattle.sheet.specs.Scratch.{name_at};
 ghost use Rattle.refusals.specs.Answers.{Answers};
-ghost use Rattle.lookups.specs.Found.{found_field};
-ghost use Rattle.lookups.specs.Lines.{TypeAt};
+ghost use Rattle.lookups.specs.Found.{found_field, FoundKind};
+ghost use Rattle.grammar.specs.Grammar as grammar;
+ghost use Rattle.grammar.specs.Kinds as kinds;
 ghost use Rattle.refusals.specs.Refusal.{done_of};
 ghost use Rattle.env.specs.Calls.{Callee, call_ty, get_ty, KeyedOf, method_ty, op_rule, wants_of};
-ghost use Rattle.env.specs.Force.{env_of, ExprIn};
+ghost use Rattle.env.specs.Force.{env_of};
 
-use crate::env::{Env, is_pool, keyed_field};
+use crate::env::Scope;
 use grammar::Kind;
 use lookups::declared_arg;
 use refusals::Refusal;
@@ -41,6 +42,7 @@ pub fn ty_of_dot(x: &[u8]) -> Ty
 }
 
 // How many arguments of this method are judged by the types that the Map or Registry declares.
+#[tactic(auto, using(crate::proofs::Methods::laws_methods))]
 pub fn wants(method: &[u8]) -> usize
     ensures { result ≡ wants_of method.now }
 {
@@ -61,43 +63,41 @@ pub fn moves_amount(method: &[u8]) -> bool
     is_word(method, b"credit") | is_word(method, b"debit")
 }
 
-// The Map or Registry that a callee uses: the keyed field of a dot's base.
-pub fn keyed_of(sheet: &LoadedSheet<'_>, env: Env, callee: usize) -> Option<usize>
-    requires { ExprIn sheet.now.bytes.now sheet.now.lines.now env callee }
-    ensures { KeyedOf sheet.now.bytes.now sheet.now.lines.now env callee result }
-{
-    if !sheet.is(callee, Kind::Dot) {
-        return None;
+impl Scope<'_> {
+    // The Map or Registry that a callee uses: the keyed field of a dot's base.
+    pub fn keyed_of(&self, callee: usize) -> Option<usize>
+        requires { Here self.now.sheet.lines.now grammar.Expr callee }
+        ensures { KeyedOf self.now.sheet.bytes.now self.now.sheet.lines.now self.now.env callee result }
+    {
+        if !self.sheet.is(callee, Kind::Dot) {
+            return None;
+        }
+        self.keyed_field(callee + 1)
     }
-    keyed_field(sheet, env, callee + 1)
-}
 
-// `expect_asset_receiver`: `merge` and `split` want a Q_Asset field.
-pub fn expect_asset_receiver(
-    sheet: &LoadedSheet<'_>,
-    env: Env,
-    callee: usize,
-) -> Result<(), Refusal>
-    requires { ExprIn sheet.now.bytes.now sheet.now.lines.now env callee }
-    ensures { Answers (expect_asset_receiver (env_of sheet.now.bytes.now [] env) (expr_at sheet.now.bytes.now callee)) (done_of sheet.now.bytes.now result) }
-{
-    if !sheet.is(callee, Kind::Dot) {
-        return Ok(());
-    }
-    let method = sheet.name(callee);
-    if !(is_word(method, b"merge") | is_word(method, b"split")) {
-        return Ok(());
-    }
-    if is_pool(sheet, env, callee + 1) {
-        Ok(())
-    } else {
-        Err(Refusal::Receiver(callee))
+    // `merge` and `split` want a Q_Asset field.
+    pub fn expect_asset_receiver(&self, callee: usize) -> Result<(), Refusal>
+        requires { Here self.now.sheet.lines.now grammar.Expr callee }
+        ensures { let s = self.now.sheet.bytes.now in Answers (expect_asset_receiver (env_of s [] self.now.env) (expr_at s callee)) (done_of s result) }
+    {
+        if !self.sheet.is(callee, Kind::Dot) {
+            return Ok(());
+        }
+        let method = self.sheet.name(callee);
+        if !(is_word(method, b"merge") | is_word(method, b"split")) {
+            return Ok(());
+        }
+        if self.is_pool(callee + 1) {
+            Ok(())
+        } else {
+            Err(Refusal::Receiver(callee))
+        }
     }
 }
 
 // Whether the Map or Registry of the type at line ty has the method.
 fn keyed_op_fits(sheet: &LoadedSheet<'_>, ty: usize, method: &[u8]) -> bool
-    requires { TypeAt sheet.now.bytes.now sheet.now.lines.now ty }
+    requires { Here sheet.now.lines.now grammar.Ty ty }
     ensures { result ≡ keyed_op_fits (type_at sheet.now.bytes.now ty) method.now }
 {
     if is_word(sheet.name(ty), b"Registry") {
@@ -115,7 +115,7 @@ pub fn expect_keyed_op(
     callee: usize,
     keyed: Option<usize>,
 ) -> Result<(), Refusal>
-    requires { Callee sheet.now.bytes.now sheet.now.lines.now callee keyed }
+    requires { Callee sheet.now.lines.now callee keyed }
     ensures { Answers (op_rule (found_field sheet.now.bytes.now keyed) (expr_at sheet.now.bytes.now callee)) (done_of sheet.now.bytes.now result) }
 {
     if !sheet.is(callee, Kind::Dot) {
@@ -132,8 +132,9 @@ pub fn expect_keyed_op(
 }
 
 // The type that `get` gives on a Map or Registry, whose declared type stands at line ty.
+#[tactic(auto, using(crate::proofs::Methods::laws_methods))]
 fn ty_of_get(sheet: &LoadedSheet<'_>, ty: usize) -> Ty
-    requires { TypeAt sheet.now.bytes.now sheet.now.lines.now ty }
+    requires { Here sheet.now.lines.now grammar.Ty ty }
     ensures { result ≡ get_ty (type_at sheet.now.bytes.now ty) }
 {
     if !is_word(sheet.name(ty), b"Map") {
@@ -148,13 +149,14 @@ fn ty_of_get(sheet: &LoadedSheet<'_>, ty: usize) -> Ty
 }
 
 // The type of a call by its dot's method.
+#[tactic(auto, using(crate::proofs::Methods::laws_methods))]
 fn ty_of_method(sheet: &LoadedSheet<'_>, callee: usize, keyed: Option<usize>) -> Ty
-    requires { Callee sheet.now.bytes.now sheet.now.lines.now callee keyed }
+    requires { FoundKind sheet.now.lines.now kinds.field keyed }
     ensures { result ≡ method_ty (name_at sheet.now.bytes.now sheet.now.lines.now callee) (found_field sheet.now.bytes.now keyed) }
 {
     let method = sheet.name(callee);
     if is_word(method, b"contains") {
-        return Ty::Boolean;
+        return Ty::Bool;
     }
     if is_word(method, b"split") {
         return Ty::Asset;
@@ -169,8 +171,9 @@ fn ty_of_method(sheet: &LoadedSheet<'_>, callee: usize, keyed: Option<usize>) ->
 }
 
 // `ty_of_call`: the type of a call, by its callee.
+#[tactic(auto, using(crate::proofs::Methods::laws_methods))]
 pub fn ty_of_call(sheet: &LoadedSheet<'_>, callee: usize, keyed: Option<usize>) -> Ty
-    requires { Callee sheet.now.bytes.now sheet.now.lines.now callee keyed }
+    requires { Callee sheet.now.lines.now callee keyed }
     ensures { result ≡ call_ty (found_field sheet.now.bytes.now keyed) (expr_at sheet.now.bytes.now callee) }
 {
     if sheet.is(callee, Kind::Dot) {

@@ -2,15 +2,15 @@
 ghost use Rattle.std.specs.Prelude.{◌&&◌, ◌||◌, not, [], ◌∷◌, ◌≡◌};
 ghost use Rattle.rules.specs.Types.{eq_ty, is_ty, is_zero_literal};
 ghost use Rattle.rules.specs.declared.ty.Ty.TheVariants.{Address, Asset, Int, Name, Unknown};
-ghost use Rattle.rules.specs.Standing.{expr_at};
+ghost use Rattle.rules.specs.Standing.{expr_at, Here};
 ghost use Rattle.rules.specs.Typing.{is_name_param, judge_binary, judge_unary};
 ghost use Rattle.rules.specs.Typing.{arithmetic as arithmetic_of, equality as equality_of, logical as logical_of, ordering as ordering_of};
 ghost use Rattle.rules.specs.Operators.{bin_meant, unary_meant};
 ghost use Rattle.env.specs.Answers.{both_of, Judged, Judged2, JudgedIn, JudgesAmount, JudgesKey, Operands};
-ghost use Rattle.lookups.specs.Lines.{ExprAt};
-ghost use Rattle.env.specs.Force.{env_of, ExprIn};
+ghost use Rattle.grammar.specs.Grammar as grammar;
+ghost use Rattle.env.specs.Force.{env_of};
 
-use crate::env::{Env, is_name_param};
+use crate::env::Scope;
 use grammar::{BinOp, UnaryOp};
 use lookups::{compatible, is_zero_literal, numeric};
 use refusals::Refusal;
@@ -29,8 +29,8 @@ pub fn judge_unary(op: UnaryOp, inner: usize, ty: Ty) -> Result<Ty, Refusal>
 {
     match op {
         UnaryOp::Not => {
-            if or_unknown(ty, Ty::Boolean) {
-                Ok(Ty::Boolean)
+            if or_unknown(ty, Ty::Bool) {
+                Ok(Ty::Bool)
             } else {
                 Err(Refusal::Not(inner))
             }
@@ -62,11 +62,11 @@ fn logical(left: usize, right: usize, l: Ty, r: Ty) -> Result<Ty, Refusal>
     ensures { Judged2 (λ s. logical_of (expr_at s left) (expr_at s right)) l r result }
 {
     both(
-        or_unknown(l, Ty::Boolean),
-        or_unknown(r, Ty::Boolean),
+        or_unknown(l, Ty::Bool),
+        or_unknown(r, Ty::Bool),
         Refusal::Logical(left),
         Refusal::Logical(right),
-        Ty::Boolean,
+        Ty::Bool,
     )
 }
 
@@ -90,27 +90,28 @@ fn ordering(left: usize, right: usize, l: Ty, r: Ty) -> Result<Ty, Refusal>
         numeric(r),
         Refusal::Ordering(left),
         Refusal::Ordering(right),
-        Ty::Boolean,
+        Ty::Bool,
     )
 }
 
 // Whether a type is an address, and the other side the zero that means none.
 fn absent(sheet: &LoadedSheet<'_>, ty: Ty, other: usize) -> bool
-    requires { ExprAt sheet.now.bytes.now sheet.now.lines.now other }
+    requires { Here sheet.now.lines.now grammar.Expr other }
     ensures { result ≡ (eq_ty ty Address && is_zero_literal (expr_at sheet.now.bytes.now other)) }
 {
     (ty == Ty::Address) & is_zero_literal(sheet, other)
 }
 
+#[tactic(auto, using(crate::proofs::Judging::laws_judging))]
 fn equality(sheet: &LoadedSheet<'_>, left: usize, right: usize, l: Ty, r: Ty) -> Result<Ty, Refusal>
-    requires { Operands sheet.now.bytes.now sheet.now.lines.now left right }
+    requires { Operands sheet.now.lines.now left right }
     ensures { JudgedIn sheet.now.bytes.now (equality_of (expr_at sheet.now.bytes.now left) (expr_at sheet.now.bytes.now right)) l r result }
 {
     if (l == Ty::Name) | (r == Ty::Name) {
         return Err(Refusal::NamesCompared(left));
     }
     if compatible(l, r) | absent(sheet, l, right) | absent(sheet, r, left) {
-        Ok(Ty::Boolean)
+        Ok(Ty::Bool)
     } else {
         Err(Refusal::Compared { right, l, r })
     }
@@ -126,7 +127,7 @@ pub fn judge_binary(
     l: Ty,
     r: Ty,
 ) -> Result<Ty, Refusal>
-    requires { Operands sheet.now.bytes.now sheet.now.lines.now left right }
+    requires { Operands sheet.now.lines.now left right }
     ensures { JudgedIn sheet.now.bytes.now (judge_binary (bin_meant op) (expr_at sheet.now.bytes.now left) (expr_at sheet.now.bytes.now right)) l r result }
 {
     match op {
@@ -148,6 +149,7 @@ fn is_amount(ty: Ty) -> bool
 }
 
 // Judges the amount that the method of the dot at line callee moves.
+#[tactic(auto, using(crate::proofs::Judging::laws_judging))]
 pub fn judge_amount(callee: usize, arg: usize, got: Ty) -> Result<(), Refusal>
     ensures { JudgesAmount callee arg got result }
 {
@@ -158,44 +160,47 @@ pub fn judge_amount(callee: usize, arg: usize, got: Ty) -> Result<(), Refusal>
     }
 }
 
-// Whether the argument, of the type got, is no Q_Name or a Q_Name parameter.
-fn straight(sheet: &LoadedSheet<'_>, env: Env, arg: usize, got: Ty) -> bool
-    requires { ExprIn sheet.now.bytes.now sheet.now.lines.now env arg }
-    ensures { result ≡ (not (eq_ty got Name) || is_name_param (env_of sheet.now.bytes.now [] env) (expr_at sheet.now.bytes.now arg)) }
-{
-    if got != Ty::Name {
-        return true;
+impl Scope<'_> {
+    // Whether the argument, of the type got, is no Q_Name or a Q_Name parameter.
+    #[tactic(auto, using(crate::proofs::Judging::laws_judging))]
+    fn straight(&self, arg: usize, got: Ty) -> bool
+        requires { Here self.now.sheet.lines.now grammar.Expr arg }
+        ensures { result ≡ (not (eq_ty got Name) || is_name_param (env_of self.now.sheet.bytes.now [] self.now.env) (expr_at self.now.sheet.bytes.now arg)) }
+    {
+        if got != Ty::Name {
+            return true;
+        }
+        self.is_name_param(arg)
     }
-    is_name_param(sheet, env, arg)
-}
 
-// Judges a key or value of the Map or Registry at line field.
-pub fn judge_key(
-    sheet: &LoadedSheet<'_>,
-    env: Env,
-    field: usize,
-    is_key: bool,
-    arg: usize,
-    want: Ty,
-    got: Ty,
-) -> Result<(), Refusal>
-    requires { ExprIn sheet.now.bytes.now sheet.now.lines.now env arg }
-    ensures { JudgesKey sheet.now.bytes.now env field is_key arg want got result }
-{
-    if !straight(sheet, env, arg, got) {
-        return Err(Refusal::NameNotParam { field, arg });
-    }
-    if (want == Ty::Name) & (got != Ty::Name) {
-        return Err(Refusal::NameWanted { field, arg });
-    }
-    if (is_key & (got == Ty::Name)) | compatible(want, got) {
-        Ok(())
-    } else {
-        Err(Refusal::Holds {
-            field,
-            arg,
-            want,
-            got,
-        })
+    // Judges a key or value of the Map or Registry at line field.
+    #[tactic(auto, using(crate::proofs::Judging::laws_judging))]
+    pub fn judge_key(
+        &self,
+        field: usize,
+        is_key: bool,
+        arg: usize,
+        want: Ty,
+        got: Ty,
+    ) -> Result<(), Refusal>
+        requires { Here self.now.sheet.lines.now grammar.Expr arg }
+        ensures { JudgesKey self.now.sheet.bytes.now self.now.env field is_key arg want got result }
+    {
+        if !self.straight(arg, got) {
+            return Err(Refusal::NameNotParam { field, arg });
+        }
+        if (want == Ty::Name) & (got != Ty::Name) {
+            return Err(Refusal::NameWanted { field, arg });
+        }
+        if (is_key & (got == Ty::Name)) | compatible(want, got) {
+            Ok(())
+        } else {
+            Err(Refusal::Holds {
+                field,
+                arg,
+                want,
+                got,
+            })
+        }
     }
 }

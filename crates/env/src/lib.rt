@@ -6,9 +6,6 @@ mod env;
 mod judge;
 mod later;
 
-pub use call::{
-    expect_asset_receiver, expect_keyed_op, keyed_of, moves_amount, ty_of_call, ty_of_dot, wants,
-};
-pub use env::{Env, is_name_param, ty_of_ident};
-pub use judge::{judge_amount, judge_binary, judge_key, judge_unary};
-pub use later::stale;
+pub use call::{expect_keyed_op, moves_amount, ty_of_call, ty_of_dot, wants};
+pub use env::{Env, Scope};
+pub use judge::{judge_amount, judge_binary, judge_unary};

@@ -1,22 +1,24 @@
 -- Laws of the grammar's tables. Assumes nothing.
-use mathlib.Core.Path.{◌≡◌, refl, sym, ◌∙◌}
+use mathlib.Core.Path.{◌≡◌, refl, sym, ap, ◌∙◌}
 use mathlib.Core.List.{List, [], ◌∷◌}
 use mathlib.Core.Bool.{Bool, true, false, cond, ◌&&◌, true≢false}
-use Prim.Native.Nat.{ℕ, zero, suc, ◌+◌, ◌≤◌, ◌<◌}
+use Prim.Native.Nat.{ℕ, zero, suc, ◌+◌, ◌-◌, ◌≤◌, ◌<◌}
 use native.Mathlib.Omega.{arith}
 use borrow.Author.Tests.{ltb-true, eqb-true, lt-ltb}
 use lib.Dec.{eqb, ltb}
 use lib.ListN.{length, get_or, take, drop}
 use native.Mathlib.Nat.{zero-add}
 use Prim.Native.String.{String}
-use Rattle.std.specs.Prelude.{Option, Some, None, IfSome, slice_get, option_and_then}
+use Rattle.std.specs.Prelude.{Option, Some, IfSome, slice_get, option_and_then, option_map}
 use Rattle.std.specs.Bool.{then_some}
 use Rattle.text.specs.Text.{bytes, ended, same}
 use Rattle.text.specs.Word.{index_in, place_in, split}
 use Rattle.text.proofs.Words.{same-is, place_told}
-use Rattle.grammar.specs.Grammar.{Placed, assign_ops, un_ops, bin_ops, Sort, Contract, Item, Field, Param, Ty, Arg, Clause, Stmt, Expr, records_for, no_kind, first_kind, within, words_of, kind_for}
-use Rattle.grammar.specs.Coded.{kind_of, kinds}
+use Rattle.grammar.specs.Grammar.{Guessed, assign_ops, un_ops, bin_ops, Sort, Contract, Item, Field, Param, Ty, Arg, Clause, Stmt, Expr, records_for, no_kind, first_kind, within, words_of, kind_for}
+use Rattle.grammar.specs.Coded.{kind_number, kind_of, kinds, bin_number}
 use Rattle.grammar.specs.declared.kinds.Kind.{Kind}
+use Rattle.grammar.specs.declared.ops.BinOp.{BinOp}
+use Rattle.grammar.proofs.Numbers.{number_kind, number_below}
 
 -- the words of a sort's records, as the code has them
 abbrev pub table : Sort → String
@@ -75,29 +77,38 @@ stands ws k (v ∷ vs) (suc i) e h = by_cases (eqb (index_in v ws) k) e (λ f. s
     by_cases true f g = omega (arith, g f)
     by_cases false f g = absurd (true≢false (sym f))
 
--- A word v is tried, the one at place k.
-tried : (ws : List (List ℕ)) → standing ws 0 ws ≡ true → (w v : List ℕ) (k : ℕ) (r : Option ℕ) → r ≡ then_some (same w v) k → get_or ws k [] ≡ v → k < length ws → Placed w ws r
-tried ws o w v k r e h i = record { place = rw e (by_cases (same w v) refl) }
+-- A word v is tried, that stands at place k and has the value y.
+tried : {A : Type 0} (ws : List (List ℕ)) → standing ws 0 ws ≡ true → (x : Option A) (w v : List ℕ) (k : ℕ) (y : A) (r : Option A) → r ≡ then_some (same w v) y → get_or ws k [] ≡ v → k < length ws → (index_in w ws ≡ k → Some y ≡ x) → Guessed x r
+tried ws o x w v k y r e h i f = record { sure = rw e (by_cases (same w v) refl) }
   where
-    by_cases : (t : Bool) → same w v ≡ t → IfSome (then_some t k) (λ k. Some k ≡ place_in w ws)
-    by_cases true s = rw (place_told w ws, same-is w v s, ← h, stands ws 0 ws k o i, zero-add k, lt-ltb k (length ws) i) refl
+    by_cases : (t : Bool) → same w v ≡ t → IfSome (then_some t y) (λ y. Some y ≡ x)
+    by_cases true s = f (rw (same-is w v s, ← h) (stands ws 0 ws k o i ∙ zero-add k))
     by_cases false s = tt
 
-pub tried_expr : (w v : List ℕ) (k : ℕ) (r : Option ℕ) → r ≡ then_some (same w v) k → get_or (words_of (records_for Expr)) k [] ≡ v → k < length (words_of (records_for Expr))
-    → Placed w (words_of (records_for Expr)) r
+pub tried_expr : (w v : List ℕ) (k : Kind) (r : Option Kind) → r ≡ then_some (same w v) k → get_or (words_of (records_for Expr)) (kind_number k - first_kind Expr) [] ≡ v → first_kind Expr ≤ kind_number k
+    → Guessed (kind_of (kind_for Expr w)) r
+unfolding index_in same standing kind_for
+tried_expr w v k r e h b =
+    let p : kind_number k - first_kind Expr < length (words_of (records_for Expr)) = omega (arith, number_below k) in
+    tried (words_of (records_for Expr)) refl _ w v (kind_number k - first_kind Expr) k r e h p
+    (λ q. sym (rw (q, lt-ltb (kind_number k - first_kind Expr) (length (words_of (records_for Expr))) p) (ap kind_of (let z : first_kind Expr + (kind_number k - first_kind Expr) ≡ kind_number k = omega arith in z) ∙ number_kind k)))
+
+pub tried_bin : (w v : List ℕ) (o : BinOp) (r : Option BinOp) → r ≡ then_some (same w v) o → get_or bin_ops (bin_number o) [] ≡ v → bin_number o < length bin_ops → Guessed (place_in w bin_ops) (option_map bin_number r)
 unfolding index_in same standing
-tried_expr = tried (words_of (records_for Expr)) refl
+tried_bin w v o r e h p =
+    tried bin_ops refl _ w v (bin_number o) (bin_number o) (option_map bin_number r) (rw e (mapped (same w v))) h p
+    (λ i. sym (rw (place_told w bin_ops, i, lt-ltb (bin_number o) (length bin_ops) p) refl))
+  where
+    mapped : (t : Bool) → option_map bin_number (then_some t o) ≡ then_some t (bin_number o)
+    mapped true = refl
+    mapped false = refl
 
-pub tried_bin : (w v : List ℕ) (k : ℕ) (r : Option ℕ) → r ≡ then_some (same w v) k → get_or bin_ops k [] ≡ v → k < length bin_ops → Placed w bin_ops r
-unfolding index_in same standing
-tried_bin = tried bin_ops refl
+-- What is guessed is known, or it is looked for in the table.
+pub known : {A : Type 0} (x r : Option A) (y : A) → Guessed x r → r ≡ Some y → Some y ≡ x
+known x r y p e = rw e at p.sure
 
--- The place is known, or looked for in the table.
-pub known : (w : List ℕ) (ws : List (List ℕ)) (r : Option ℕ) (k : ℕ) → Placed w ws r → r ≡ Some k → Some k ≡ place_in w ws
-known w ws r k p e = rw e at p.place
-
-pub looked_expr : (w : List ℕ) (r : Option ℕ) → r ≡ place_in w (split (bytes (table Expr))) → r ≡ place_in w (words_of (records_for Expr))
-looked_expr w r e = e ∙ rw (words_of_lem Expr)
+pub known_bin : (x : Option ℕ) (r : Option BinOp) (o : BinOp) (k : ℕ) → Guessed x (option_map bin_number r) → r ≡ Some o → k ≡ bin_number o → Some k ≡ x
+known_bin x r o k p e q = rw q (known x _ (bin_number o) p (rw e refl))
 
 pub looked_bin : (w : List ℕ) (r : Option ℕ) → r ≡ place_in w (split (bytes "or and eq ne lt gt le ge add sub mul div rem shr ")) → r ≡ place_in w bin_ops
 looked_bin w r e = e ∙ rw bin-words
@@ -128,18 +139,13 @@ place_kind s w r n e = e ∙ rw (place_told w (words_of (records_for s)), n) (by
     by_cases i true h = get_take (length (records_for s)) (drop (first_kind s) kinds) i (ltb-true i (length (records_for s)) h) ∙ get_drop (first_kind s) kinds i
     by_cases i false h = refl
 
--- the kind of an expression's word, whose place is o
-module _ (w : List ℕ) (o : Option ℕ) (e : o ≡ place_in w (words_of (records_for Expr))) (r : Option Kind) where
-  pub expr_none : o ≡ None → r ≡ None → r ≡ kind_of (kind_for Expr w)
-  expr_none h q = place_kind Expr w r refl (q ∙ rw (← e, h) refl)
-
-  pub expr_some : (p : ℕ) → o ≡ Some p → r ≡ slice_get (kinds_for Expr) p → r ≡ kind_of (kind_for Expr w)
-  expr_some p h q = place_kind Expr w r refl (q ∙ rw (← e, h) refl)
-
 -- an arm of `kind_for`
 pub kind_arm : (s : Sort) (w : List ℕ) (r : Option Kind) → length (words_of (records_for s)) ≡ length (records_for s)
     → r ≡ option_and_then (slice_get (kinds_for s)) (place_in w (split (bytes (table s)))) → r ≡ kind_of (kind_for s w)
 kind_arm s w r n e = place_kind s w r n (e ∙ rw (words_of_lem s))
+
+pub looked_expr : (w : List ℕ) (r : Option Kind) → r ≡ option_and_then (slice_get (kinds_for Expr)) (place_in w (split (bytes (table Expr)))) → r ≡ kind_of (kind_for Expr w)
+looked_expr w r e = kind_arm Expr w r refl e
 
 within_most : (k n p : ℕ) → k + n ≤ no_kind → within k n p ≤ no_kind
 within_most k n p h = by_cases (ltb p n) refl

@@ -27,9 +27,9 @@ number_at_lem f k h =
     ap (λ i. get_or (table_of (λ r. f r ∷ []) records) i 0) (let q : k ≡ 1 * k + 0 = omega arith in q)
     ∙ table_at (λ r. f r ∷ []) 1 0 _ (λ r. refl) records k 0 h (omega arith)
 
--- what is read in the table of field i, where j is i
-pub rule_here : (i j k r : ℕ) → j ≡ i → r ≡ get_or (rule_column i) k 0 → r ≡ get_or (rule_column j) k 0
-rule_here i j k r e h = h ∙ ap (λ n. get_or (rule_column n) k 0) (sym e)
+-- what is read in the table of field i, where j is i, at the number n of a kind
+pub rule_here : (i j k n r : ℕ) → j ≡ i → r ≡ get_or (rule_column i) n 0 → n ≡ k → r ≡ get_or (rule_column j) k 0
+rule_here i j k n r e h q = h ∙ ap (λ n. get_or (rule_column i) n 0) q ∙ ap (λ i. get_or (rule_column i) k 0) (sym e)
 
 pub rule_at : (k j : ℕ) → k < no_kind → get_or (rule_column j) k 0 ≡ get_or (numbers_of k) j 0
 rule_at k j = number_at_lem (λ r. get_or (rule_numbers (length r.always) r.rules) j 0) k

@@ -2,7 +2,7 @@
 use Rattle.std.specs.Prelude.{ℕ, ◌+◌, cond, List, [], ◌∷◌, ◌++◌, ltb, length, get_or, Option, Some, IfSome, ◌≡◌}
 use Prim.Native.String.{String}
 use Rattle.text.specs.Text.{bytes}
-use Rattle.text.specs.Word.{index_in, place_in}
+use Rattle.text.specs.Word.{index_in}
 use Rattle.grammar.specs.Kinds as kinds
 
 abbrev pub words : List String → List (List ℕ)
@@ -126,6 +126,6 @@ words_of (r ∷ rs) = bytes r.word ∷ words_of rs
 unfoldable pub kind_for : Sort → List ℕ → ℕ
 kind_for s w = within (first_kind s) (length (records_for s)) (index_in w (words_of (records_for s)))
 
--- r is the place of w among ws, or isn't known
-pub record Placed (w : List ℕ) (ws : List (List ℕ)) (r : Option ℕ) : Type 0 where
-  pub place : IfSome r (λ k. Some k ≡ place_in w ws)
+-- r is x, or isn't known
+pub record Guessed {A : Type 0} (x r : Option A) : Type 0 where
+  pub sure : IfSome r (λ y. Some y ≡ x)

@@ -99,14 +99,14 @@ impl Kind {
 }
 
 // The kind at a place, if there is one.
-pub fn nth_kind(kinds: &[Kind], place: usize) -> Option<Kind>
+fn nth_kind(kinds: &[Kind], place: usize) -> Option<Kind>
     ensures { result ≡ slice_get kinds.now place }
 {
     kinds.get(place).copied()
 }
 
 // The kind of the record with this word, where the words of a table are those of some kinds.
-fn kind_in(word: &[u8], table: &[u8], kinds: &[Kind]) -> Option<Kind>
+pub fn kind_in(word: &[u8], table: &[u8], kinds: &[Kind]) -> Option<Kind>
     ensures { result ≡ option_and_then (slice_get kinds.now) (place_in word.now (split table.now)) }
 {
     nth_kind(kinds, place_in(word, table)?)

@@ -12,20 +12,20 @@ use crate::sorts::Sort;
 pub fn fields(kind: Kind) -> usize
     ensures { result ≡ get_or length_table (kind_number kind) 0 }
 {
-    usize::from(LENGTHS[kind as usize])
+    usize::from(LENGTHS[kind.number()])
 }
 
 // The number of the rule of field j, 0 where there is no such field. A table for each field: only the one that is read is made.
-#[tactic(auto, using(crate::proofs::TableLaws::rule_here))]
 fn rule_number(kind: Kind, j: usize) -> u8
     requires { j < most_fields }
     ensures { result ≡ get_or (rule_column j) (kind_number kind) 0 }
 {
+    let k = kind.number();
     match j {
-        0 => FIRST_RULES[kind as usize],
-        1 => SECOND_RULES[kind as usize],
-        2 => THIRD_RULES[kind as usize],
-        _ => FOURTH_RULES[kind as usize],
+        0 => FIRST_RULES[k],
+        1 => SECOND_RULES[k],
+        2 => THIRD_RULES[k],
+        _ => FOURTH_RULES[k],
     }
 }
 
@@ -41,14 +41,14 @@ pub fn rule(kind: Kind, j: usize) -> Option<Rule>
 pub fn starts_with_span(kind: Kind) -> bool
     ensures { result ≡ eqb (get_or (rule_column 0) (kind_number kind) 0) span_rule }
 {
-    FIRST_RULES[kind as usize] == SPAN
+    FIRST_RULES[kind.number()] == SPAN
 }
 
 // The number of parts that the record always has.
 pub fn always(kind: Kind) -> usize
     ensures { result ≡ get_or always_table (kind_number kind) 0 }
 {
-    usize::from(ALWAYS[kind as usize])
+    usize::from(ALWAYS[kind.number()])
 }
 
 // The sort of the parts of group g.
@@ -56,10 +56,10 @@ pub fn part_sort(kind: Kind, g: usize) -> Sort
     requires { g < most_groups }
     ensures { result ≡ sort_from (get_or sort_table (most_groups * kind_number kind + g) 0) }
 {
-    Sort::of(SORTS[MOST_GROUPS * kind as usize + g])
+    Sort::of(SORTS[MOST_GROUPS * kind.number() + g])
 }
 
-// The number of a SPAN or NSPAN.
+// The number of a SPAN or NSPAN in the tables, which are of bytes: they are laid out wherever they are read.
 const SPAN: u8 = 1;
 
 // How many groups of parts a record has at most.

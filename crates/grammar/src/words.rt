@@ -1,12 +1,12 @@
 // The tables of fourteen words: the word that a field may be is guessed, and tried before the table is looked through.
-ghost use Rattle.std.specs.Prelude.{◌≡◌};
+ghost use Rattle.std.specs.Prelude.{◌≡◌, option_map};
 ghost use Rattle.std.specs.Bool.{then_some};
 ghost use Rattle.text.specs.Text.{same};
 ghost use Rattle.text.specs.Word.{place_in};
-ghost use Rattle.grammar.specs.Grammar.{bin_ops, Expr, kind_for, Placed, records_for, words_of};
-ghost use Rattle.grammar.specs.Coded.{kind_of};
+ghost use Rattle.grammar.specs.Grammar.{bin_ops, Expr, Guessed, kind_for};
+ghost use Rattle.grammar.specs.Coded.{bin_number, kind_of};
 
-use crate::kinds::{Kind, nth_kind};
+use crate::kinds::{Kind, kind_in};
 use crate::ops::BinOp;
 use text::{is_word, place_in};
 
@@ -18,107 +18,98 @@ fn guess(field: &[u8]) -> usize {
     (usize::from(field[0]) + 6 * usize::from(field[1]) + 13 * (field.len() % 32)) % 32
 }
 
-// The place k where the field is the word.
-fn index_if(field: &[u8], word: &[u8], k: usize) -> Option<usize>
-    ensures { result ≡ then_some (same field.now word.now) k }
+// x, where the field is the word.
+fn if_word<T: Copy>(field: &[u8], word: &[u8], x: T) -> Option<T>
+    ensures { result ≡ then_some (same field.now word.now) x }
 {
-    is_word(field, word).then_some(k)
+    is_word(field, word).then_some(x)
 }
 
-// The place of the guessed word of an expression, where the field is that word.
+// The kind of the guessed word of an expression, where the field is that word.
 #[tactic(auto, using(crate::proofs::KindLaws::tried_expr))]
-fn try_expr(field: &[u8]) -> Option<usize>
-    ensures { Placed field.now (words_of (records_for Expr)) result }
+fn try_expr(field: &[u8]) -> Option<Kind>
+    ensures { Guessed (kind_of (kind_for Expr field.now)) result }
 {
     match guess(field) {
-        4 => index_if(field, b"int", 0),
-        27 => index_if(field, b"id", 1),
-        30 => index_if(field, b"date", 2),
-        18 => index_if(field, b"str", 3),
-        23 => index_if(field, b"caller", 4),
-        2 => index_if(field, b"native", 5),
-        24 => index_if(field, b"inasset", 6),
-        15 => index_if(field, b"now", 7),
-        3 => index_if(field, b"un", 8),
-        31 => index_if(field, b"bin", 9),
-        5 => index_if(field, b"dot", 10),
-        29 => index_if(field, b"call", 11),
-        14 => index_if(field, b"checked", 12),
-        11 => index_if(field, b"wrapping", 13),
+        4 => if_word(field, b"int", Kind::Int),
+        27 => if_word(field, b"id", Kind::Id),
+        30 => if_word(field, b"date", Kind::Date),
+        18 => if_word(field, b"str", Kind::Str),
+        23 => if_word(field, b"caller", Kind::Caller),
+        2 => if_word(field, b"native", Kind::Native),
+        24 => if_word(field, b"inasset", Kind::Inasset),
+        15 => if_word(field, b"now", Kind::Now),
+        3 => if_word(field, b"un", Kind::Un),
+        31 => if_word(field, b"bin", Kind::Bin),
+        5 => if_word(field, b"dot", Kind::Dot),
+        29 => if_word(field, b"call", Kind::Call),
+        14 => if_word(field, b"checked", Kind::Checked),
+        11 => if_word(field, b"wrapping", Kind::Wrapping),
         _ => None,
     }
 }
 
-// The place of a field among the words of the expressions.
-#[tactic(auto, using(crate::proofs::KindLaws::known, crate::proofs::KindLaws::looked_expr))]
-fn place_of_expr(field: &[u8]) -> Option<usize>
-    ensures { result ≡ place_in field.now (words_of (records_for Expr)) }
-{
-    if let Some(k) = try_expr(field) {
-        return Some(k);
-    }
-    place_in(
-        field,
-        b"int id date str caller native inasset now un bin dot call checked wrapping ",
-    )
-}
-
 // The kind of the expression with this word.
-#[tactic(auto, using(crate::proofs::KindLaws::expr_none, crate::proofs::KindLaws::expr_some))]
+#[tactic(auto, using(crate::proofs::KindLaws::known, crate::proofs::KindLaws::looked_expr))]
 pub fn expr_kind(word: &[u8]) -> Option<Kind>
     ensures { result ≡ kind_of (kind_for Expr word.now) }
 {
-    nth_kind(&EXPRS, place_of_expr(word)?)
+    if let Some(kind) = try_expr(word) {
+        return Some(kind);
+    }
+    kind_in(
+        word,
+        b"int id date str caller native inasset now un bin dot call checked wrapping ",
+        &[
+            Kind::Int,
+            Kind::Id,
+            Kind::Date,
+            Kind::Str,
+            Kind::Caller,
+            Kind::Native,
+            Kind::Inasset,
+            Kind::Now,
+            Kind::Un,
+            Kind::Bin,
+            Kind::Dot,
+            Kind::Call,
+            Kind::Checked,
+            Kind::Wrapping,
+        ],
+    )
 }
 
-const EXPRS: [Kind; 14] = [
-    Kind::Int,
-    Kind::Id,
-    Kind::Date,
-    Kind::Str,
-    Kind::Caller,
-    Kind::Native,
-    Kind::Inasset,
-    Kind::Now,
-    Kind::Un,
-    Kind::Bin,
-    Kind::Dot,
-    Kind::Call,
-    Kind::Checked,
-    Kind::Wrapping,
-];
-
-// The place of the guessed operator of `bin`, where the field is that operator.
+// The guessed operator of `bin`, where the field is its word.
 #[tactic(auto, using(crate::proofs::KindLaws::tried_bin))]
-fn try_bin(field: &[u8]) -> Option<usize>
-    ensures { Placed field.now bin_ops result }
+fn try_bin(field: &[u8]) -> Option<BinOp>
+    ensures { Guessed (place_in field.now bin_ops) (option_map bin_number result) }
 {
     match guess(field) {
-        21 => index_if(field, b"or", BinOp::Or as usize),
-        28 => index_if(field, b"and", BinOp::And as usize),
-        5 => index_if(field, b"eq", BinOp::Eq as usize),
-        6 => index_if(field, b"ne", BinOp::Ne as usize),
-        30 => index_if(field, b"lt", BinOp::Lt as usize),
-        25 => index_if(field, b"gt", BinOp::Gt as usize),
-        4 => index_if(field, b"le", BinOp::Le as usize),
-        31 => index_if(field, b"ge", BinOp::Ge as usize),
-        0 => index_if(field, b"add", BinOp::Add as usize),
-        24 => index_if(field, b"sub", BinOp::Sub as usize),
-        18 => index_if(field, b"mul", BinOp::Mul as usize),
-        1 => index_if(field, b"div", BinOp::Div as usize),
-        23 => index_if(field, b"rem", BinOp::Rem as usize),
-        10 => index_if(field, b"shr", BinOp::Shr as usize),
+        21 => if_word(field, b"or", BinOp::Or),
+        28 => if_word(field, b"and", BinOp::And),
+        5 => if_word(field, b"eq", BinOp::Eq),
+        6 => if_word(field, b"ne", BinOp::Ne),
+        30 => if_word(field, b"lt", BinOp::Lt),
+        25 => if_word(field, b"gt", BinOp::Gt),
+        4 => if_word(field, b"le", BinOp::Le),
+        31 => if_word(field, b"ge", BinOp::Ge),
+        0 => if_word(field, b"add", BinOp::Add),
+        24 => if_word(field, b"sub", BinOp::Sub),
+        18 => if_word(field, b"mul", BinOp::Mul),
+        1 => if_word(field, b"div", BinOp::Div),
+        23 => if_word(field, b"rem", BinOp::Rem),
+        10 => if_word(field, b"shr", BinOp::Shr),
         _ => None,
     }
 }
 
 // The place of a field among the operators of `bin`.
-#[tactic(auto, using(crate::proofs::KindLaws::known, crate::proofs::KindLaws::looked_bin))]
+#[tactic(auto, using(crate::proofs::KindLaws::known_bin, crate::proofs::KindLaws::looked_bin))]
 pub fn place_of_bin(field: &[u8]) -> Option<usize>
     ensures { result ≡ place_in field.now bin_ops }
 {
-    if let Some(k) = try_bin(field) {
-        return Some(k);
+    if let Some(op) = try_bin(field) {
+        return Some(op.number());
     }
     place_in(field, b"or and eq ne lt gt le ge add sub mul div rem shr ")
 }

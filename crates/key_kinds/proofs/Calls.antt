@@ -3,12 +3,12 @@ use mathlib.Core.Logic.{◌≢◌}
 use mathlib.Core.Path.{◌≡◌, refl, sym, ap, ◌∙◌}
 use mathlib.Core.List.{List, [], ◌∷◌, ◌++◌, append_assoc, append-nil}
 use mathlib.Core.Bool.{cond}
-use mathlib.Core.Option.{map}
 use Prim.Native.Nat.{ℕ, zero, suc, ◌+◌, ◌-◌, ◌<◌, ◌≤◌}
 use native.Mathlib.Omega.{arith}
 use lib.Dec.{eqb}
-use lib.ListN.{length, get_elem?}
+use lib.ListN.{length}
 use borrow.Author.Tests.{ne_eqb}
+use Rattle.std.specs.Prelude.{option_map, slice_get}
 use Rattle.grammar.specs.Grammar as grammar
 use Rattle.sheet.specs.Held.{Held, held, HeldAll, no_tree, tree, Formed, formed, FormedAll, none_due, one_due, Parted}
 use Rattle.sheet.specs.Line.{Line}
@@ -26,7 +26,7 @@ use Rattle.rules.proofs.Walks.{all_joined}
 use Rattle.rules.proofs.Parts.{stop as end', ◌also◌, pick, parts}
 use Rattle.rules.proofs.Records.{entry_at_lem, guard_at, let_at, emit_at, assign_at, do_at, limits_at, denies_at, mints_at, after_at, stmts_next, clauses_next, no_stmts, no_clauses}
 use Rattle.rules.proofs.Standing.{stands, exprs_next, row_first, row_rest, row_nth, row_take}
-use Rattle.lookups.specs.Lines.{EntryAt}
+use Rattle.lookups.specs.Lines.{KindAt}
 use Rattle.key_kinds.specs.Uses.{call_at}
 use Rattle.grammar.specs.Kinds as kinds
 
@@ -142,7 +142,7 @@ module _ {s S : List ℕ} (d : Loaded s S) where
   one_expr {j} h = rw (exprs_next d 0 j h.within) refl
 
   -- an expression that may be there
-  maybe_expr : (a j : ℕ) → a ≤ 1 → (0 < a → Here S grammar.Expr j) → present (map expr_of (get_elem? (nodes_at s a j) 0)) ≡ list (exprs_at s a j)
+  maybe_expr : (a j : ℕ) → a ≤ 1 → (0 < a → Here S grammar.Expr j) → present (option_map expr_of (slice_get (nodes_at s a j) 0)) ≡ list (exprs_at s a j)
   unfolding present expr_at list exprs_at take_nodes exprs_of nodes_at nodes
   maybe_expr zero j h f = refl
   maybe_expr (suc zero) j h f = let w = (f (omega arith)).within in rw (stands d j w).next refl
@@ -292,10 +292,9 @@ params_calls {s} {S} d r = sym (row_calls d (λ m i. []) (λ i. []) (λ i. refl)
 
 -- ------------------------------------------------------------ entries
 
-pub entry_calls : {s S : List ℕ} {e : ℕ} → EntryAt s S e → keyed_in (entry_exprs (entry_at s e)) ≡ calls s S (suc e) (end_at S e)
+pub entry_calls : {s S : List ℕ} {e : ℕ} → Loaded s S → KindAt kinds.entry S e → keyed_in (entry_exprs (entry_at s e)) ≡ calls s S (suc e) (end_at S e)
 unfolding entry_exprs
-entry_calls {s} {S} {e} h =
-    let d = h.loaded in
+entry_calls {s} {S} {e} d h =
     let p = entry_at_lem d h.within h.kind in
     let j = skip S (param_count S e) (suc e) in
     let k = skip S (clause_count S e) j in

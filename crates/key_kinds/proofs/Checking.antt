@@ -3,7 +3,6 @@ use mathlib.Core.Logic.{◌≢◌}
 use mathlib.Core.Path.{◌≡◌, refl, sym, ap, ◌∙◌}
 use mathlib.Core.List.{List, [], ◌∷◌, ◌++◌}
 use mathlib.Core.Bool.{Bool, true, false, cond, not, ◌&&◌, true≢false}
-use mathlib.Core.Option.{Option as Maybe, none, some}
 use Prim.Native.Nat.{ℕ, zero, suc, ◌+◌, ◌-◌, ◌<◌, ◌≤◌}
 use native.Mathlib.Numerals.{add-one}
 use native.Mathlib.Omega.{arith}
@@ -29,14 +28,13 @@ use Rattle.rules.proofs.Records.{named}
 use Rattle.rules.proofs.Rows.{records, IterWalk, iter_here, iter_found, iter_onward, iter_over}
 use Rattle.rules.proofs.Standing.{stands, exprs_next, row_first, row_rest, row_nth}
 use Rattle.refusals.specs.Answers.{Answers}
-use Rattle.lookups.specs.Found.{ItemAt}
-use Rattle.lookups.specs.Lines.{FewLines, ExprAt}
+use Rattle.lookups.specs.Lines.{KindAt}
 use Rattle.refusals.specs.Refusal.{done_of}
 use Rattle.refusals.specs.declared.refusal.Refusal.{Refusal}
 use Rattle.lookups.proofs.Fields.{items_at}
 use Rattle.lookups.proofs.Items.{entries_of, entries_next, entries_other}
 use Rattle.key_kinds.specs.declared.marks.KeyKind.{KeyKind}
-use Rattle.key_kinds.specs.Uses.{keyed_at, call_at, names_at, uses_at, entry_uses, item_uses, MapNamed, kind_of, is_other, Noted, KeyMarks, Passed, Judged, OneEntry, InEntry}
+use Rattle.key_kinds.specs.Uses.{keyed_at, call_at, names_at, uses_at, entry_uses, item_uses, MapNamed, key_kind_of, is_other, Noted, KeyMarks, Passed, Judged}
 use Rattle.key_kinds.proofs.Calls.{calls, calls_next, calls_none, entry_calls}
 use Rattle.key_kinds.proofs.Seen.{use_judged, none_judged, passed_start, passed_next, passed_refused, passed_over, all_judged}
 use Rattle.grammar.specs.Kinds as kinds
@@ -45,8 +43,8 @@ use Rattle.sheet.specs.Line.{most_lines}
 -- ------------------------------------------------------------ one call
 
 -- by whether there is no argument, the callee is a dot, its base an `id`, and its name a method's
-here_by : (o : Maybe Dot) (es : Exprs) (dot : Dot) (x : Name) (key : Expr) (fs : Exprs) (bare is-dot is-id method : Bool) → o ≡ cond is-dot (some dot) none
-    → es ≡ cond bare nil (more key fs) → (is-dot ≡ true → ident_of dot.base ≡ cond is-id (some x) none)
+here_by : (o : Option Dot) (es : Exprs) (dot : Dot) (x : Name) (key : Expr) (fs : Exprs) (bare is-dot is-id method : Bool) → o ≡ cond is-dot (Some dot) None
+    → es ≡ cond bare nil (more key fs) → (is-dot ≡ true → ident_of dot.base ≡ cond is-id (Some x) None)
     → is_one dot.name ("set" ∷ "get" ∷ "contains" ∷ "insert" ∷ "remove" ∷ "credit" ∷ "debit" ∷ []) ≡ method
     → keyed_here o es ≡ cond ((not bare && (is-dot && is-id)) && method) ((x, key) ∷ []) []
 unfolding keyed_here
@@ -107,42 +105,39 @@ unfolding uses_of
 not_used m names k e = rw (uses_of, e) refl
 
 -- What `check_use` meets: b tells whether line i is a keyed call.
-module _ (s S : List ℕ) (e i : ℕ) (h : InEntry s S e i) (b : Bool) (eb : b ≡ keyed_at s S i) where
-  abbrev d : Loaded s S
-  d = h.one.entry.loaded
-
+module _ (s S : List ℕ) (e i : ℕ) (d : Loaded s S) (h : i < line_count S) (b : Bool) (eb : b ≡ keyed_at s S i) where
   pub no_call : (ks : List (Option KeyKind)) → not b ≡ true → Judged s S ks ks (uses_at s S e i) (Ok tt)
   unfolding uses_at uses_of
-  no_call ks q = none_judged s S ks _ (rw (call-is d h.within, ← eb, not-true b q) refl)
+  no_call ks q = none_judged s S ks _ (rw (call-is d h, ← eb, not-true b q) refl)
 
   module _ (nb : not b ≡ false) where
     q : b ≡ true
     q = not-false b nb
 
-    pub key_here : (key : ℕ) → key ≡ end_at S (i + 1) → ExprAt s S key
-    key_here key ek = rw (ek, add-one i) (record { loaded = d; here = (key_at d h.within (sym eb ∙ q)).0 })
+    pub key_here : (key : ℕ) → key ≡ end_at S (i + 1) → Here S grammar.Expr key
+    key_here key ek = rw (ek, add-one i) (key_at d h (sym eb ∙ q)).0
 
     module _ (x : Name) (ex : x ≡ name_at s S (i + 2)) (r : Option ℕ) (n : MapNamed s S x r) where
       two : i + 2 ≡ suc (suc i)
       two = omega arith
 
       the_call : call_at s S i ≡ (x, expr_at s (end_at S (suc i))) ∷ []
-      the_call = call-is d h.within ∙ rw (← eb, q, ex, two) refl
+      the_call = call-is d h ∙ rw (← eb, q, ex, two) refl
 
       pub no_use : (ks : List (Option KeyKind)) → r ≡ None → Judged s S ks ks (uses_at s S e i) (Ok tt)
       unfolding uses_at
       no_use ks z = none_judged s S ks _ (rw the_call (not_used _ _ _ (n.keyed ∙ rw z refl)))
 
-      module _ (f : ℕ) (er : r ≡ Some f) where
+      module _ (few : line_count S ≤ most_lines) (f : ℕ) (er : r ≡ Some f) where
         pub mark-within : f < most_lines
-        mark-within = omega (arith, (n.field f er).kind.0, h.one.lines.few)
+        mark-within = omega (arith, (n.field f er).kind.0, few)
 
-        pub use_fits : (ks ls : List (Option KeyKind)) (key : ℕ) (v : Bool) (k : KeyKind) (a : Result Unit Refusal) → key ≡ end_at S (i + 1) → v ≡ is_name_key (names_at s e) (expr_at s key) → k ≡ kind_of v → Noted ks ls f k (i + 2) key a
+        pub use_fits : (ks ls : List (Option KeyKind)) (key : ℕ) (v : Bool) (k : KeyKind) (a : Result Unit Refusal) → key ≡ end_at S (i + 1) → v ≡ is_name_key (names_at s e) (expr_at s key) → k ≡ key_kind_of v → Noted ks ls f k (i + 2) key a
             → Judged s S ks ls (uses_at s S e i) a
         unfolding uses_at
         use_fits ks ls key v k a ek ev em t =
             let at : end_at S (suc i) ≡ key = sym (ek ∙ ap (end_at S) (add-one i)) in
-            let y : named_at s (i + 2) ≡ x = rw two (named d (key_at d h.within (sym eb ∙ q)).1) ∙ sym (ex ∙ ap (name_at s S) two) in
+            let y : named_at s (i + 2) ≡ x = rw two (named d (key_at d h (sym eb ∙ q)).1) ∙ sym (ex ∙ ap (name_at s S) two) in
             rw (the_call, one_use (model_in s) (names_at s e) (x, expr_at s (end_at S (suc i))) (n.keyed ∙ rw er refl), at, ← ev)
             (use_judged d (record { map = x; is_name = v; at = span (expr_at s key) }) f (n.field f er) ks ls (i + 2) key a (rw em at t) mark-within y refl)
 
@@ -163,18 +158,20 @@ unfoldable pub left_uses : (s S : List ℕ) → (e at end : ℕ) → List Use
 left_uses s S e at end = uses_of (model_in s) (names_at s e) (calls s S at end)
 
 pub record Walking (s S : List ℕ) (ks ls : List (Option KeyKind)) (e end at : ℕ) : Type 0 where
-  pub one : OneEntry s S e
+  pub loaded : Loaded s S
+  pub entry : KindAt kinds.entry S e
   pub stop : end ≡ end_at S e
   pub passed : Passed s S ks ls (entry_uses s e) (left_uses s S e at end)
 
-pub walk_start : (s S : List ℕ) (ks : List (Option KeyKind)) (e end at : ℕ) → OneEntry s S e → end ≡ end_at S e → at ≡ e + 1 → Walking s S ks ks e end at
+pub walk_start : (s S : List ℕ) (ks : List (Option KeyKind)) (e end at : ℕ) → Loaded s S → KindAt kinds.entry S e → end ≡ end_at S e → at ≡ e + 1 → Walking s S ks ks e end at
 unfolding entry_uses left_uses
-walk_start s S ks e end at h q a =
+walk_start s S ks e end at d h q a =
     rw a
     (record {
-      one = h;
+      loaded = d;
+      entry = h;
       stop = q;
-      passed = passed_start s S ks _ _ (ap (uses_of (model_in s) (names_at s e)) (entry_calls h.entry ∙ rw (← q, add-one e) refl));
+      passed = passed_start s S ks _ _ (ap (uses_of (model_in s) (names_at s e)) (entry_calls d h ∙ rw (← q, add-one e) refl));
     })
 
 module _ (s S : List ℕ) (ks ls : List (Option KeyKind)) (e end at : ℕ) (w : Walking s S ks ls e end at) where
@@ -183,10 +180,8 @@ module _ (s S : List ℕ) (ks ls : List (Option KeyKind)) (e end at : ℕ) (w : 
   walk_over h = passed_over s S ks ls _ _ w.passed (ap (uses_of (model_in s) (names_at s e)) (calls_none s S at end h))
 
   module _ (h : at < end) where
-    pub walk_here : InEntry s S e at
-    walk_here =
-        let g = w.one.entry in
-        record { one = w.one; within = omega (arith, w.stop, all_most (stands g.loaded e g.within).held (omega (arith, g.within))) }
+    pub walk_here : at < line_count S
+    walk_here = omega (arith, w.stop, all_most (stands w.loaded e w.entry.within).held (omega (arith, w.entry.within)))
 
     turn : left_uses s S e at end ≡ uses_at s S e at ++ left_uses s S e (at + 1) end
     unfolding left_uses uses_at
@@ -195,7 +190,7 @@ module _ (s S : List ℕ) (ks ls : List (Option KeyKind)) (e end at : ℕ) (w : 
 
     module _ (ms : List (Option KeyKind)) (r : Result Unit Refusal) (j : Judged s S ls ms (uses_at s S e at) r) where
       pub walk_next : r ≡ Ok tt → Walking s S ks ms e end (at + 1)
-      walk_next q = record { one = w.one; stop = w.stop; passed = passed_next s S ks ls _ _ w.passed ms _ _ r turn j q }
+      walk_next q = record { loaded = w.loaded; entry = w.entry; stop = w.stop; passed = passed_next s S ks ls _ _ w.passed ms _ _ r turn j q }
 
       pub walk_refused : (why : Refusal) → r ≡ Err why → Judged s S ks ms (entry_uses s e) (Err why)
       walk_refused why q = passed_refused s S ks ls _ _ w.passed ms _ _ r turn j why q
@@ -208,8 +203,8 @@ module _ (s S : List ℕ) (i : ℕ) where
   unfolding item_uses
   no_entry ks q = none_judged s S ks _ (rw (item_uses, ne_eqb (kind_at S i) kinds.entry q) refl)
 
-  pub an_entry : FewLines s S → ItemAt s S i → kind_at S i ≡ kinds.entry → OneEntry s S i
-  an_entry f h q = record { lines = f; entry = record { loaded = f.loaded; within = h.here.within; kind = q } }
+  pub an_entry : i < line_count S → kind_at S i ≡ kinds.entry → KindAt kinds.entry S i
+  an_entry h q = record { within = h; kind = q }
 
   pub entry-judged : (ks ls : List (Option KeyKind)) (r : Result Unit Refusal) → kind_at S i ≡ kinds.entry → Judged s S ks ls (entry_uses s i) r → Judged s S ks ls (item_uses s S i) r
   unfolding item_uses
@@ -225,63 +220,66 @@ item_next {s} {S} m em d {i} h ts = by_cases (eqb (kind_at S i) kinds.entry) ref
     by_cases false q = ap (uses m) (entries_other d h ts (eqb-false (kind_at S i) kinds.entry q)) ∙ rw (item_uses, q) refl
 
 -- no use is seen
-no_marks : {s S : List ℕ} → FewLines s S → KeyMarks s S [] (replicate most_lines None)
-unfolding any kind_of is_other
+no_marks : {s S : List ℕ} → line_count S ≤ most_lines → KeyMarks s S [] (replicate most_lines None)
+unfolding any key_kind_of is_other
 no_marks {s} {S} f =
     record {
       size = length-replicate {A = Option KeyKind} most_lines None;
-      tells = λ u g n. rw (get_or-replicate {A = Option KeyKind} most_lines g None None (omega (arith, n.kind.0, f.few))) (by_cases u.is_name);
+      tells = λ u g n. rw (get_or-replicate {A = Option KeyKind} most_lines g None None (omega (arith, n.kind.0, f))) (by_cases u.is_name);
     }
   where
-    by_cases : (b : Bool) → false ≡ is_other (kind_of b) None
+    by_cases : (b : Bool) → false ≡ is_other (key_kind_of b) None
     by_cases true = refl
     by_cases false = refl
 
 -- the items that r gives are left, which the marks ls are for
 pub record Items (s S : List ℕ) (ls : List (Option KeyKind)) (r : Records) : Type 0 where
-  pub lines : FewLines s S
+  pub loaded : Loaded s S
+  pub few : line_count S ≤ most_lines
   pub walk : IterWalk grammar.Item nodes_at (λ ts. Passed s S (replicate most_lines None) ls (uses (model_in s) (model_in s).entries) (uses (model_in s) (entries_of ts))) s S r
 
 -- all of them are judged
-all_items : {s S : List ℕ} (ls : List (Option KeyKind)) (r : Result Unit Refusal) → FewLines s S → Judged s S (replicate most_lines None) ls (uses (model_in s) (model_in s).entries) r → Answers (check_key_kinds (model_in s)) (done_of s r)
+all_items : {s S : List ℕ} (ls : List (Option KeyKind)) (r : Result Unit Refusal) → line_count S ≤ most_lines → Judged s S (replicate most_lines None) ls (uses (model_in s) (model_in s).entries) r → Answers (check_key_kinds (model_in s)) (done_of s r)
 unfolding check_key_kinds
 all_items {s} {S} ls r f j = all_judged s S (replicate most_lines None) ls _ r (no_marks f) j
 
-pub items_start : (s S : List ℕ) (r : Records) → FewLines s S → r.lines.now ≡ S → r.left ≡ item_count S 0 → r.at ≡ 1 → Items s S (replicate most_lines None) r
-items_start s S r f l e a =
-    let q = items_at f.loaded in
+pub items_start : (s S : List ℕ) (r : Records) → Loaded s S → line_count S ≤ most_lines → r.lines.now ≡ S → r.left ≡ item_count S 0 → r.at ≡ 1 → Items s S (replicate most_lines None) r
+items_start s S r d f l e a =
+    let q = items_at d in
     record {
-      lines = f;
+      loaded = d;
+      few = f;
       walk = record {
         lines = l;
-        walk = rw (e, a) (record { loaded = f.loaded; row = q.1; known = passed_start s S _ _ _ (ap (λ m. uses (model_in s) m.entries) q.0) });
+        walk = rw (e, a) (record { loaded = d; row = q.1; known = passed_start s S _ _ _ (ap (λ m. uses (model_in s) m.entries) q.0) });
       };
     }
 
 module _ (s S : List ℕ) (ls : List (Option KeyKind)) (r : Records) (w : Items s S ls r) where
   pub items_over : r.left ≡ 0 → Answers (check_key_kinds (model_in s)) (done_of s (Ok tt))
   unfolding uses build
-  items_over h = all_items ls (Ok tt) w.lines (passed_over s S _ ls _ _ (iter_over records w.walk h) refl)
+  items_over h = all_items ls (Ok tt) w.few (passed_over s S _ ls _ _ (iter_over records w.walk h) refl)
 
   module _ (t : Records) (i : ℕ) (h : Steps r i t) where
-    here : Here S grammar.Item i
-    here = iter_here h w.walk
+    item_here : Here S grammar.Item i
+    item_here = iter_here h w.walk
 
-    pub item_here : ItemAt s S i
-    item_here = record { loaded = w.lines.loaded; here = here }
+    pub item-within : i < line_count S
+    item-within = item_here.within
 
     item_turn : (ts : List Node) → uses (model_in s) (entries_of (node_at s i ∷ ts)) ≡ item_uses s S i ++ uses (model_in s) (entries_of ts)
-    item_turn = item_next (model_in s) refl w.lines.loaded here
+    item_turn = item_next (model_in s) refl w.loaded item_here
 
     module _ (ms : List (Option KeyKind)) (d : Result Unit Refusal) (j : Judged s S ls ms (item_uses s S i) d) where
       pub items_next : d ≡ Ok tt → Items s S ms t
       items_next q =
           record {
-            lines = w.lines;
+            loaded = w.loaded;
+            few = w.few;
             walk = iter_onward h records w.walk (λ ts z. passed_next s S _ ls _ _ z ms _ _ d (item_turn ts) j q);
           }
 
       pub items_refused : (why : Refusal) → d ≡ Err why → Answers (check_key_kinds (model_in s)) (done_of s (Err why))
       items_refused why q =
           iter_found h records w.walk
-          (λ ts z. all_items ms (Err why) w.lines (passed_refused s S _ ls _ _ z ms _ _ d (item_turn ts) j why q))
+          (λ ts z. all_items ms (Err why) w.few (passed_refused s S _ ls _ _ z ms _ _ d (item_turn ts) j why q))

@@ -27,7 +27,7 @@ use Rattle.rules.proofs.Exprs.{ident_at}
 use Rattle.rules.proofs.Records.{entry_at_lem, field_at_lem, param_at_lem}
 use Rattle.rules.proofs.Rows.{params, iter_here, Seeking, seek_found, seek_next, among_any}
 use Rattle.lookups.specs.Found.{found_field, FieldNamed}
-use Rattle.lookups.specs.Lines.{EntryAt, ExprAt}
+use Rattle.lookups.specs.Lines.{KindAt}
 use Rattle.lookups.proofs.Tables.{one_found, either_word}
 use Rattle.lookups.proofs.Types.{type_name_lem}
 use Rattle.key_kinds.specs.Uses.{keyed_at, names_at, MapNamed}
@@ -94,7 +94,7 @@ module _ (s S : List ℕ) (x : Name) (d : Loaded s S) (r : Option ℕ) (n : Fiel
       unfolding is_keyed found_field is
       keyed =
           let g = field_at_lem d at.kind.0 at.kind.1 in
-          let q : type_name (field_at s f).ty ≡ y = rw g.0 (sym (ey ∙ ap (name_at s S) (add-one f) ∙ type_name_lem s S (suc f) (record { loaded = d; here = g.1 }))) in
+          let q : type_name (field_at s f).ty ≡ y = rw g.0 (sym (ey ∙ ap (name_at s S) (add-one f) ∙ type_name_lem s S (suc f) d)) in
           rw (is_keyed, ← at.found, q, eb, ec, ← either_word y "Map" "Registry") refl
 
       pub is-map : (o : Option ℕ) → o ≡ then_some (b || c) f → MapNamed s S x o
@@ -112,14 +112,14 @@ unfolding is
 name-param s S x y z i b c ey eb ez ec = rw (eb, ec, ey, ez, add-one i) refl
 
 -- What `is_name_key` meets.
-module _ (s S : List ℕ) (e key : ℕ) (h : EntryAt s S e) (g : ExprAt s S key) where
+module _ (s S : List ℕ) (e key : ℕ) (d : Loaded s S) (g : Here S grammar.Expr key) where
   pub no_name : kind_at S key ≢ kinds.id → false ≡ is_name_key (names_at s e) (expr_at s key)
   unfolding is_name_key
-  no_name q = rw (is_name_key, ident_at g.loaded g.here, ne_eqb (kind_at S key) kinds.id q) refl
+  no_name q = rw (is_name_key, ident_at d g, ne_eqb (kind_at S key) kinds.id q) refl
 
   its_name : kind_at S key ≡ kinds.id → is_name_key (names_at s e) (expr_at s key) ≡ among (name_at s S key) (names_at s e)
   unfolding is_name_key
-  its_name q = rw (is_name_key, ident_at g.loaded g.here, eq-eqb (kind_at S key) kinds.id q) refl
+  its_name q = rw (is_name_key, ident_at d g, eq-eqb (kind_at S key) kinds.id q) refl
 
 -- a Q_Name parameter of the name x
 abbrev name_of : Name → Param → Bool
@@ -129,19 +129,19 @@ name_of x p = is (type_name p.ty) "Q_Name" && same x p.name
 abbrev pub Looking : (s S : List ℕ) → (e key : ℕ) → Name → Records → Type 0
 Looking s S e key x r = Seeking grammar.Param params_at (name_of x) (is_name_key (names_at s e) (expr_at s key)) s S r
 
-pub look_start : (s S : List ℕ) (e key : ℕ) (x : Name) (r : Records) → EntryAt s S e → ExprAt s S key → kind_at S key ≡ kinds.id → x ≡ name_at s S key
+pub look_start : (s S : List ℕ) (e key : ℕ) (x : Name) (r : Records) → Loaded s S → KindAt kinds.entry S e → Here S grammar.Expr key → kind_at S key ≡ kinds.id → x ≡ name_at s S key
     → r.lines.now ≡ S → r.at ≡ e + 1 → r.left ≡ param_count S e → Looking s S e key x r
 unfolding names_at name_params
-look_start s S e key x r h g q ex l ea el =
-    let p = entry_at_lem h.loaded h.within h.kind in
+look_start s S e key x r d h g q ex l ea el =
+    let p = entry_at_lem d h.within h.kind in
     record {
       lines = l;
       walk = rw (ea, el, add-one e)
           (record {
-            loaded = h.loaded;
+            loaded = d;
             row = p.params;
             known =
-                its_name s S e key h g q
+                its_name s S e key d g q
                 ∙ rw (p.is, ← ex) (among_any (λ p. is (type_name p.ty) "Q_Name") (λ p. p.name) name_params refl (λ p ps. refl) x (params_at s (param_count S e) (suc e)));
           });
     }
@@ -157,7 +157,7 @@ module _ (s S : List ℕ) (e key : ℕ) (x : Name) (r t : Records) (i : ℕ) (l 
     told : b ≡ name_of x (param_at s i)
     told =
         let p = param_at_lem l.walk.loaded here.within (omega (arith, here.kind.0, here.kind.1)) in
-        eb ∙ rw (p.0, ← type_name_lem s S (suc i) (record { loaded = l.walk.loaded; here = p.1 })) refl
+        eb ∙ rw (p.0, ← type_name_lem s S (suc i) l.walk.loaded) refl
 
     pub look_found : b ≡ true → true ≡ is_name_key (names_at s e) (expr_at s key)
     look_found q = seek_found grammar.Param params_at s S _ _ r l param_at params i t h b told q

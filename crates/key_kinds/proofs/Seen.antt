@@ -24,7 +24,7 @@ use Rattle.refusals.specs.declared.refusal.Refusal.{Refusal}
 use Rattle.refusals.specs.declared.refusal.Refusal.TheVariants.{KeyKinds}
 use Rattle.refusals.proofs.Answers.{gives, passes, refuses}
 use Rattle.lookups.proofs.Fields.{one_line, one_name}
-use Rattle.key_kinds.specs.Uses.{kind_of, is_other, Noted, KeyMarks, Passed, Judged}
+use Rattle.key_kinds.specs.Uses.{key_kind_of, is_other, Noted, KeyMarks, Passed, Judged}
 use Rattle.sheet.specs.Line.{most_lines}
 use Rattle.key_kinds.specs.declared.marks.KeyKind.{KeyKind}
 use Rattle.key_kinds.specs.contracts.marks.KeyKind.{the_type}
@@ -62,8 +62,8 @@ module _ (ks : List (Option KeyKind)) (f : ℕ) (k : KeyKind) (map key : ℕ) (o
 -- ------------------------------------------------------------ one use
 
 -- what was seen, before and after a use of the same kind
-cells : (a b : Bool) (o : Option KeyKind) → is_other (kind_of b) o ≡ false → (not (beq a b) || is_other (kind_of a) o) ≡ is_other (kind_of a) (Some (kind_of b))
-unfolding kind_of is_other
+cells : (a b : Bool) (o : Option KeyKind) → is_other (key_kind_of b) o ≡ false → (not (beq a b) || is_other (key_kind_of a) o) ≡ is_other (key_kind_of a) (Some (key_kind_of b))
+unfolding key_kind_of is_other
 cells true true o e = e
 cells true false o e = refl
 cells false true o e = refl
@@ -83,8 +83,8 @@ module _ {s S : List ℕ} (d : Loaded s S) (u : Use) (f : ℕ) (n : FieldNamed s
           absurd (eqb-false g f p (one_line d a n))
       by_cases false p false q = refl
 
-  put_use : (seen : List Use) (ks : List (Option KeyKind)) → f < most_lines → KeyMarks s S seen ks → is_other (kind_of u.is_name) (get_or ks f None) ≡ false
-      → KeyMarks s S (u ∷ seen) (set ks f (Some (kind_of u.is_name)))
+  put_use : (seen : List Use) (ks : List (Option KeyKind)) → f < most_lines → KeyMarks s S seen ks → is_other (key_kind_of u.is_name) (get_or ks f None) ≡ false
+      → KeyMarks s S (u ∷ seen) (set ks f (Some (key_kind_of u.is_name)))
   unfolding any differs
   put_use seen ks h k e =
       record {
@@ -93,15 +93,15 @@ module _ {s S : List ℕ} (d : Loaded s S) (u : Use) (f : ℕ) (n : FieldNamed s
       }
     where
       by_cases : (v : Use) (g : ℕ) (t : Bool) → eqb g f ≡ t
-          → ((t && not (beq v.is_name u.is_name)) || is_other (kind_of v.is_name) (get_or ks g None)) ≡ is_other (kind_of v.is_name) (get_or (set ks f (Some (kind_of u.is_name))) g None)
+          → ((t && not (beq v.is_name u.is_name)) || is_other (key_kind_of v.is_name) (get_or ks g None)) ≡ is_other (key_kind_of v.is_name) (get_or (set ks f (Some (key_kind_of u.is_name))) g None)
       by_cases v g true q =
-          rw (eqb-true g f q, get_or-set_same ks f (Some (kind_of u.is_name)) None (omega (arith, h, k.size))) (cells v.is_name u.is_name (get_or ks f None) e)
-      by_cases v g false q = rw (get_or-set_other ks f g (Some (kind_of u.is_name)) None (eqb-false g f q)) refl
+          rw (eqb-true g f q, get_or-set_same ks f (Some (key_kind_of u.is_name)) None (omega (arith, h, k.size))) (cells v.is_name u.is_name (get_or ks f None) e)
+      by_cases v g false q = rw (get_or-set_other ks f g (Some (key_kind_of u.is_name)) None (eqb-false g f q)) refl
 
   -- What `check_use` meets: the answer of `note` to this use.
-  module _ (ks ls : List (Option KeyKind)) (map key : ℕ) (r : Result Unit Refusal) (w : Noted ks ls f (kind_of u.is_name) map key r) (h : f < most_lines) (ex : named_at s map ≡ u.map) (ey : span (expr_at s key) ≡ u.at) where
+  module _ (ks ls : List (Option KeyKind)) (map key : ℕ) (r : Result Unit Refusal) (w : Noted ks ls f (key_kind_of u.is_name) map key r) (h : f < most_lines) (ex : named_at s map ≡ u.map) (ey : span (expr_at s key) ≡ u.at) where
     abbrev other : Bool
-    other = is_other (kind_of u.is_name) (get_or ks f None)
+    other = is_other (key_kind_of u.is_name) (get_or ks f None)
 
     not_fine : other ≡ true → r ≡ Err (KeyKinds map key)
     unfolding expected

@@ -1,6 +1,6 @@
 -- The uses of maps line by line, and the marks that the code keeps of them.
-use Rattle.std.specs.Prelude.{ℕ, suc, ◌<◌, Bool, true, false, cond, not, ◌&&◌, List, [], ◌∷◌, ◌++◌, ◌≡◌, eqb, length, get_or, set, Option, Some, None, Result, Ok, Err, is_some}
-use Rattle.sheet.specs.Scratch.{kind_at, end_at, name_at, line_count, call_arg_count}
+use Rattle.std.specs.Prelude.{ℕ, suc, Bool, true, false, cond, not, ◌&&◌, List, [], ◌∷◌, ◌++◌, ◌≡◌, eqb, length, get_or, set, Option, Some, None, Result, Ok, Err, is_some}
+use Rattle.sheet.specs.Scratch.{kind_at, end_at, name_at, call_arg_count}
 use Rattle.rules.specs.Text.{Name, is_one}
 use Rattle.rules.specs.Asking.{Res, refused}
 use Rattle.rules.specs.Arithmetic.{any}
@@ -9,7 +9,6 @@ use Rattle.rules.specs.Standing.{expr_at, exprs_at, entry_at, model_in}
 use Rattle.rules.specs.Typing.{dot_of}
 use Rattle.refusals.specs.Answers.{Answers, expected}
 use Rattle.lookups.specs.Found.{FieldNamed}
-use Rattle.lookups.specs.Lines.{FewLines, EntryAt}
 use Rattle.refusals.specs.Refusal.{refusal_of}
 use Rattle.refusals.specs.declared.refusal.Refusal.{Refusal}
 use Rattle.refusals.specs.declared.refusal.Refusal.TheVariants.{KeyKinds}
@@ -52,9 +51,9 @@ pub record MapNamed (s S : List ℕ) (x : Name) (r : Option ℕ) : Type 0 where
 -- ------------------------------------------------------------ marks
 
 -- a map's keys are names, or not
-unfoldable pub kind_of : Bool → KeyKind
-kind_of true = Named
-kind_of false = Other
+unfoldable pub key_kind_of : Bool → KeyKind
+key_kind_of true = Named
+key_kind_of false = Other
 
 -- what was seen is of the other kind
 unfoldable pub is_other : KeyKind → Option KeyKind → Bool
@@ -72,7 +71,7 @@ pub record Noted (ks ls : List (Option KeyKind)) (f : ℕ) (k : KeyKind) (map ke
 -- the marks tell of each map whether a use of the other kind was seen
 pub record KeyMarks (s S : List ℕ) (seen : List Use) (ks : List (Option KeyKind)) : Type 0 where
   pub size : length ks ≡ most_lines
-  pub tells : (u : Use) (f : ℕ) → FieldNamed s S u.map (Some f) → any (differs u) seen ≡ is_other (kind_of u.is_name) (get_or ks f None)
+  pub tells : (u : Use) (f : ℕ) → FieldNamed s S u.map (Some f) → any (differs u) seen ≡ is_other (key_kind_of u.is_name) (get_or ks f None)
 
 -- with the marks from ks to ls, some uses are fine up to those that are left
 pub record Passed (s S : List ℕ) (ks ls : List (Option KeyKind)) (all left : List Use) : Type 0 where
@@ -83,15 +82,3 @@ pub record Passed (s S : List ℕ) (ks ls : List (Option KeyKind)) (all left : L
 pub record Judged (s S : List ℕ) (ks ls : List (Option KeyKind)) (all : List Use) (r : Result Unit Refusal) : Type 0 where
   pub fine : r ≡ Ok tt → Passed s S ks ls all []
   pub stops : (why : Refusal) → r ≡ Err why → (seen us : List Use) → KeyMarks s S seen ks → Answers (check_uses seen (all ++ us)) (refused (refusal_of s why))
-
--- ------------------------------------------------------------ what the code asks
-
--- an entry stands at line e
-pub record OneEntry (s S : List ℕ) (e : ℕ) : Type 0 where
-  pub lines : FewLines s S
-  pub entry : EntryAt s S e
-
--- ... and line i is there
-pub record InEntry (s S : List ℕ) (e i : ℕ) : Type 0 where
-  pub one : OneEntry s S e
-  pub within : i < line_count S

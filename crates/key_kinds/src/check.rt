@@ -1,11 +1,14 @@
 // `check_key_kinds`: the first use of a map by another kind of key than one before it is refused.
+ghost use Rattle.std.specs.Prelude.{◌<◌, ◌≤◌};
+ghost use Rattle.grammar.specs.Kinds as kinds;
+ghost use Rattle.sheet.specs.Line.{most_lines};
+ghost use Rattle.sheet.specs.Scratch.{line_count};
 ghost use Rattle.rules.specs.KeyKinds.{check_key_kinds};
 ghost use Rattle.rules.specs.Standing.{model_in};
 ghost use Rattle.refusals.specs.Answers.{Answers};
-ghost use Rattle.lookups.specs.Found.{ItemAt};
-ghost use Rattle.lookups.specs.Lines.{FewLines};
+ghost use Rattle.lookups.specs.Lines.{KindAt};
 ghost use Rattle.refusals.specs.Refusal.{done_of};
-ghost use Rattle.key_kinds.specs.Uses.{InEntry, Judged, OneEntry, entry_uses, item_uses, uses_at};
+ghost use Rattle.key_kinds.specs.Uses.{Judged, entry_uses, item_uses, uses_at};
 
 use crate::keyed::{is_keyed_call, is_name_key, map_named};
 use crate::marks::{KeyKind, Marks, note};
@@ -20,7 +23,9 @@ fn check_use(
     entry: usize,
     at: usize,
 ) -> Result<(), Refusal>
-    requires { InEntry sheet.now.bytes.now sheet.now.lines.now entry at }
+    requires few_lines { line_count sheet.now.lines.now ≤ most_lines }
+    requires entry_at { KindAt kinds.entry sheet.now.lines.now entry }
+    requires at_bound { at < line_count sheet.now.lines.now }
     ensures { Judged sheet.now.bytes.now sheet.now.lines.now marks.old marks.new (uses_at sheet.now.bytes.now sheet.now.lines.now entry at) result }
 {
     if !is_keyed_call(sheet, at) {
@@ -36,7 +41,8 @@ fn check_use(
 
 // The uses of an entry, in the order of its lines: an expression stands before its parts.
 fn check_entry(sheet: &LoadedSheet<'_>, marks: &mut Marks, entry: usize) -> Result<(), Refusal>
-    requires { OneEntry sheet.now.bytes.now sheet.now.lines.now entry }
+    requires few_lines { line_count sheet.now.lines.now ≤ most_lines }
+    requires entry_at { KindAt kinds.entry sheet.now.lines.now entry }
     ensures { Judged sheet.now.bytes.now sheet.now.lines.now marks.old marks.new (entry_uses sheet.now.bytes.now entry) result }
 {
     for at in entry + 1..sheet.end(entry) {
@@ -46,8 +52,8 @@ fn check_entry(sheet: &LoadedSheet<'_>, marks: &mut Marks, entry: usize) -> Resu
 }
 
 fn check_item(sheet: &LoadedSheet<'_>, marks: &mut Marks, item: usize) -> Result<(), Refusal>
-    requires few_lines { FewLines sheet.now.bytes.now sheet.now.lines.now }
-    requires item_at { ItemAt sheet.now.bytes.now sheet.now.lines.now item }
+    requires few_lines { line_count sheet.now.lines.now ≤ most_lines }
+    requires item_bound { item < line_count sheet.now.lines.now }
     ensures { Judged sheet.now.bytes.now sheet.now.lines.now marks.old marks.new (item_uses sheet.now.bytes.now sheet.now.lines.now item) result }
 {
     if !sheet.is(item, Kind::Entry) {
@@ -57,7 +63,7 @@ fn check_item(sheet: &LoadedSheet<'_>, marks: &mut Marks, item: usize) -> Result
 }
 
 pub fn check_key_kinds(sheet: &LoadedSheet<'_>) -> Result<(), Refusal>
-    requires { FewLines sheet.now.bytes.now sheet.now.lines.now }
+    requires { line_count sheet.now.lines.now ≤ most_lines }
     ensures { Answers (check_key_kinds (model_in sheet.now.bytes.now)) (done_of sheet.now.bytes.now result) }
 {
     let mut marks: Marks = [None; limits::MOST_LINES];

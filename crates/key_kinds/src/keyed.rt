@@ -1,11 +1,13 @@
 // Keyed calls, their maps and their keys.
 ghost use Rattle.std.specs.Prelude.{◌&&◌, ◌≡◌, ◌<◌, suc};
 ghost use Rattle.text.specs.Text.{same};
+ghost use Rattle.grammar.specs.Grammar.{Expr};
+ghost use Rattle.grammar.specs.Kinds as kinds;
 ghost use Rattle.sheet.specs.Scratch.{name_at, line_count};
 ghost use Rattle.rules.specs.KeyKinds.{is_name_key};
-ghost use Rattle.rules.specs.Standing.{expr_at};
+ghost use Rattle.rules.specs.Standing.{expr_at, Here};
 ghost use Rattle.rules.specs.Text.{is};
-ghost use Rattle.lookups.specs.Lines.{EntryAt, ExprAt};
+ghost use Rattle.lookups.specs.Lines.{KindAt};
 ghost use Rattle.key_kinds.specs.Uses.{MapNamed, keyed_at, names_at};
 
 use grammar::Kind;
@@ -48,8 +50,8 @@ fn is_name_param(sheet: &LoadedSheet<'_>, x: &[u8], param: usize) -> bool
 
 // Whether the key is a bare name of any Q_Name parameter of the entry.
 pub fn is_name_key(sheet: &LoadedSheet<'_>, entry: usize, key: usize) -> bool
-    requires entry_at { EntryAt sheet.now.bytes.now sheet.now.lines.now entry }
-    requires key_at { ExprAt sheet.now.bytes.now sheet.now.lines.now key }
+    requires entry_at { KindAt kinds.entry sheet.now.lines.now entry }
+    requires key_at { Here sheet.now.lines.now Expr key }
     ensures { result ≡ is_name_key (names_at sheet.now.bytes.now entry) (expr_at sheet.now.bytes.now key) }
 {
     if !sheet.is(key, Kind::Id) {

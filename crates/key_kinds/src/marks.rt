@@ -1,6 +1,6 @@
 // What keys each map, by the line of its field. `HashMap` becomes an array.
 ghost use Rattle.std.specs.Prelude.{◌≡◌, ◌<◌};
-ghost use Rattle.key_kinds.specs.Uses.{Noted, kind_of};
+ghost use Rattle.key_kinds.specs.Uses.{Noted, key_kind_of};
 ghost use Rattle.sheet.specs.Line.{most_lines};
 
 use refusals::Refusal;
@@ -17,9 +17,9 @@ pub enum KeyKind {
 pub type Marks = [Option<KeyKind>; limits::MOST_LINES];
 
 impl KeyKind {
-    #[tactic(auto, unfolding(crate::specs::Uses::kind_of))]
+    #[tactic(auto, unfolding(crate::specs::Uses::key_kind_of))]
     pub fn of(named: bool) -> KeyKind
-        ensures { result ≡ kind_of named }
+        ensures { result ≡ key_kind_of named }
     {
         if named {
             KeyKind::Named

@@ -12,16 +12,15 @@ use Rattle.grammar.specs.Grammar as grammar
 use Rattle.sheet.specs.Load.{sorts, copies}
 use Rattle.sheet.specs.Scratch.{kind_at, end_at, line_count}
 use Rattle.rules.specs.Ast.{nodes, param_of, field_of}
-use Rattle.rules.specs.Standing.{node_at, nodes_at, type_at, field_at, param_at, Loaded}
+use Rattle.rules.specs.Standing.{node_at, nodes_at, type_at, field_at, param_at, Loaded, Here}
 use Rattle.rules.proofs.Parts.{stop, ◌also◌, pick, parts}
 use Rattle.rules.proofs.Standing.{Stands, stands, nodes_next, parts_behind, row_behind, row_first}
 use Rattle.lookups.specs.Found.{FoundKind}
-use Rattle.lookups.specs.Lines.{TypeAt}
 use Rattle.grammar.specs.Kinds as kinds
 
 -- the line behind line i is its type
 pub record TypeBehind (s S : List ℕ) (i : ℕ) : Type 0 where
-  pub typed : TypeAt s S (suc i)
+  pub typed : Here S grammar.Ty (suc i)
   pub param : (param_at s i).ty ≡ type_at s (suc i)
   pub field : (field_at s i).ty ≡ type_at s (suc i)
 
@@ -31,7 +30,7 @@ first_type {s} {S} {i} d rs t e =
     let here = row_first (row_behind 1 rs t e) in
     let ps : nodes t.parts ≡ node_at s (suc i) ∷ nodes_at s (length rs) (end_at S (suc i)) =
     ap nodes (parts_behind t ∙ rw e refl) ∙ nodes_next d (length rs) (suc i) here.within in
-    record { typed = record { loaded = d; here = here }; param = rw (t.here, ps) refl; field = rw (t.here, ps) refl }
+    record { typed = here; param = rw (t.here, ps) refl; field = rw (t.here, ps) refl }
 
 type_behind : (s S : List ℕ) (i k : ℕ) → Loaded s S → i < line_count S → kind_at S i ≡ k → kinds.field ≤ k → k < kinds.type → TypeBehind s S i
 unfolding sorts copies
@@ -48,8 +47,8 @@ module _ (k : ℕ) (s S : List ℕ) (d : Loaded s S) (r : Option ℕ) (i : ℕ) 
   pub behind : TypeBehind s S i
   behind = let q : FoundKind S k (Some i) = rw e at o in type_behind s S i k d q.0 q.1 a b
 
-  pub found_typed : TypeAt s S (i + 1)
+  pub found_typed : Here S grammar.Ty (i + 1)
   found_typed = rw (add-one i) behind.typed
 
   pub found_next : length S < 18446744073709551616 → Fits w64 (i + 1)
-  found_next h = record { fits = omega (arith, behind.typed.here.within) }
+  found_next h = record { fits = omega (arith, behind.typed.within) }

@@ -1,8 +1,8 @@
 -- The type of a code, and what `compatible` compares. Assumes nothing.
 use mathlib.Core.Path.{◌≡◌, refl}
 use mathlib.Core.Bool.{Bool, true, false, ◌&&◌, ◌||◌}
-use mathlib.Core.Option.{some}
 use Prim.Native.Nat.{ℕ}
+use Rattle.std.specs.Prelude.{Some}
 use Rattle.rules.specs.Asking.{code}
 use Rattle.rules.specs.declared.ty.Ty.{Ty}
 use Rattle.rules.specs.declared.ty.Ty.TheVariants.{Name as TName, Collection, Unknown}
@@ -13,7 +13,7 @@ use Rattle.rules.specs.contracts.ty.Ty.{the_type}
 use Rattle.rules.proofs.Same.{told_ty}
 use Rattle.rules.proofs.AnyTable.{tells}
 
-pub code_of_lem : (c : ℕ) → IsCode c → (ty_of_mark c ≡ some (ty_from c)) × (code (ty_from c) ≡ c)
+pub code_of_lem : (c : ℕ) → IsCode c → (ty_of_mark c ≡ Some (ty_from c)) × (code (ty_from c) ≡ c)
 unfolding ty_from
 code_of_lem c h = let t = tells c h.0 h.1 in rw (ty_from, t.1) (refl, t.2)
 

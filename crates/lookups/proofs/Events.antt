@@ -2,7 +2,6 @@
 use mathlib.Core.Path.{◌≡◌, refl, sym, ◌∙◌}
 use mathlib.Core.List.{List, [], ◌∷◌, ◌++◌, map}
 use mathlib.Core.Bool.{Bool, true, false, cond, ◌&&◌, and-eq-true_iff}
-use mathlib.Core.Option.{some}
 use Prim.Native.Nat.{ℕ, ◌<◌, ◌≤◌}
 use native.Mathlib.Omega.{arith}
 use lib.Dec.{eqb}
@@ -40,24 +39,24 @@ item_events (node i l ps) a b =
 
 -- an event, or none, before others
 first_event : (x : Name) (es : List Event) (t : Node) (b : Bool)
-    → first_named event_name x (cond b (event_of t ∷ []) [] ++ es) ≡ cond (b && same x (node_name t)) (some (event_of t)) (first_named event_name x es)
+    → first_named event_name x (cond b (event_of t ∷ []) [] ++ es) ≡ cond (b && same x (node_name t)) (Some (event_of t)) (first_named event_name x es)
 unfolding first_named event_of node_name
 first_event x es (node i l ps) true = by_cases (same x l.name) refl
   where
     by_cases : (c : Bool) → same x l.name ≡ c
-        → first_named event_name x (event_of (node i l ps) ∷ es) ≡ cond c (some (event_of (node i l ps))) (first_named event_name x es)
+        → first_named event_name x (event_of (node i l ps) ∷ es) ≡ cond c (Some (event_of (node i l ps))) (first_named event_name x es)
     by_cases true e = rw (first_named, e) refl
     by_cases false e = rw (first_named, e) refl
 first_event x es t false = refl
 
 -- the same of records
 first_node : (x : Name) (ts : List Node) (t : Node)
-    → first_named node_name x (of_kind kinds.event (t ∷ ts)) ≡ cond (eqb (node_kind t) kinds.event && same x (node_name t)) (some t) (first_named node_name x (of_kind kinds.event ts))
+    → first_named node_name x (of_kind kinds.event (t ∷ ts)) ≡ cond (eqb (node_kind t) kinds.event && same x (node_name t)) (Some t) (first_named node_name x (of_kind kinds.event ts))
 unfolding first_named of_kind
 first_node x ts t = by_cases (eqb (node_kind t) kinds.event) (same x (node_name t)) refl refl
   where
     by_cases : (b c : Bool) → eqb (node_kind t) kinds.event ≡ b → same x (node_name t) ≡ c
-        → first_named node_name x (of_kind kinds.event (t ∷ ts)) ≡ cond (b && c) (some t) (first_named node_name x (of_kind kinds.event ts))
+        → first_named node_name x (of_kind kinds.event (t ∷ ts)) ≡ cond (b && c) (Some t) (first_named node_name x (of_kind kinds.event ts))
     by_cases false c e f = rw (of_kind, e) refl
     by_cases true true e f = rw (of_kind, e, first_named, f) refl
     by_cases true false e f = rw (of_kind, e, first_named, f) refl
@@ -90,14 +89,14 @@ module _ (s S : List ℕ) (x : Name) (r : Records) (g : EventsGoing s S x r) whe
     unfolding node_kind node_name
     here = let z = stands g.walk.loaded at item.within in rw z.here (sym z.says.kind, sym z.spells.name)
 
-    told : (ts : List Node) → first_named event_name x (build (map item_of (node_at s at ∷ ts))).events ≡ cond b (some (event_at s at)) (first_named event_name x (build (map item_of ts)).events)
+    told : (ts : List Node) → first_named event_name x (build (map item_of (node_at s at ∷ ts))).events ≡ cond b (Some (event_at s at)) (first_named event_name x (build (map item_of ts)).events)
     unfolding build joined event_at
     told ts =
         let first : (item_model (item_of (node_at s at))).events ≡ cond (eqb (node_kind (node_at s at)) kinds.event) (event_of (node_at s at) ∷ []) [] =
         item_events (node_at s at) (omega (arith, here.0, item.kind.0)) (omega (arith, here.0, item.kind.1)) in
         rw (first, first_event x (build (map item_of ts)).events (node_at s at) (eqb (node_kind (node_at s at)) kinds.event), here.0, here.1, q) refl
 
-    told_node : (ts : List Node) → first_named node_name x (of_kind kinds.event (node_at s at ∷ ts)) ≡ cond b (some (node_at s at)) (first_named node_name x (of_kind kinds.event ts))
+    told_node : (ts : List Node) → first_named node_name x (of_kind kinds.event (node_at s at ∷ ts)) ≡ cond b (Some (node_at s at)) (first_named node_name x (of_kind kinds.event ts))
     told_node ts = rw (first_node x ts (node_at s at), here.0, here.1, q) refl
 
     pub events_hit : b ≡ true → EventNamed s S x (Some at)

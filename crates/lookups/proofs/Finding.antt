@@ -2,54 +2,53 @@
 use mathlib.Core.Path.{◌≡◌, refl, sym, ◌∙◌}
 use mathlib.Core.List.{List, [], ◌∷◌, map}
 use mathlib.Core.Bool.{Bool, true, false, cond, ◌&&◌, and-eq-true_iff}
-use mathlib.Core.Option.{Option as Maybe, none, some}
 use Prim.Native.Nat.{ℕ, ◌<◌}
 use native.Mathlib.Omega.{arith}
 use lib.Dec.{eqb}
 use borrow.Author.Tests.{eqb-true}
-use Rattle.std.specs.Prelude.{Option, Some, None}
+use Rattle.std.specs.Option.{option_or}
+use Rattle.std.specs.Prelude.{Option, Some, None, is_some}
 use Rattle.text.specs.Text.{same}
 use Rattle.grammar.specs.Grammar as grammar
 use Rattle.sheet.specs.Scratch.{kind_at, name_at, line_count}
 use Rattle.sheet.specs.Records.{Steps}
 use Rattle.sheet.specs.declared.records.Records.{Records}
 use Rattle.sheet.specs.Tree.{Node}
-use Rattle.rules.specs.Text.{Name, among, last_named, or_else}
-use Rattle.rules.specs.Standing.{node_name, node_at, nodes_at}
+use Rattle.rules.specs.Text.{Name, among, last_named}
+use Rattle.rules.specs.Standing.{node_name, node_at, nodes_at, Loaded}
 use Rattle.rules.proofs.Lookups.{or_none, last_turn}
 use Rattle.rules.proofs.Rows.{records, IterWalk, iter_here, iter_onward, iter_over}
 use Rattle.rules.proofs.Standing.{stands}
-use Rattle.rules.specs.Typing.{is_some}
 use Rattle.lookups.specs.Found.{node_kind, of_kind, found_node, Stretch, FoundKind, Last}
 
 -- ------------------------------------------------------------ the last of a name
 
 -- a name is among those of a list where a search finds one of the list
 pub among_last : {A : Type 0} (f : A → Name) (x : Name) (as' : List A) → among x (map f as') ≡ is_some (last_named f x as')
-unfolding among last_named is_some
+unfolding among last_named
 among_last f x [] = refl
 among_last {A} f x (a ∷ as') = by_cases (last_named f x as') (same x (f a)) (among_last f x as')
   where
-    by_cases : (o : Maybe A) (b : Bool) → among x (map f as') ≡ is_some o
+    by_cases : (o : Option A) (b : Bool) → among x (map f as') ≡ is_some o
         → ◌≡◌ {A = Bool} (elim b as (λ _. Bool) [ true ↦ true | false ↦ among x (map f as') ])
-        (is_some {A = A} (elim o as (λ _. Maybe A) [ some y ↦ some y | none ↦ elim b as (λ _. Maybe A) [ true ↦ some a | false ↦ none ] ]))
-    by_cases (some y) true h = refl
-    by_cases none true h = refl
-    by_cases (some y) false h = h
-    by_cases none false h = h
+        (is_some {T = A} (elim o as (λ _. Option A) [ Some y ↦ Some y | None ↦ elim b as (λ _. Option A) [ true ↦ Some a | false ↦ None ] ]))
+    by_cases (Some y) true h = refl
+    by_cases None true h = refl
+    by_cases (Some y) false h = h
+    by_cases None false h = h
 
 -- ------------------------------------------------------------ line by line
 
 -- ... among those of a kind
-kind_turn : (k : ℕ) (x : Name) (t : Node) (ts : List Node) (o : Maybe Node)
-    → or_else (last_named node_name x (of_kind k (t ∷ ts))) o
-    ≡ or_else (last_named node_name x (of_kind k ts)) (cond (eqb (node_kind t) k) (cond (same x (node_name t)) (some t) o) o)
+kind_turn : (k : ℕ) (x : Name) (t : Node) (ts : List Node) (o : Option Node)
+    → option_or (last_named node_name x (of_kind k (t ∷ ts))) o
+    ≡ option_or (last_named node_name x (of_kind k ts)) (cond (eqb (node_kind t) k) (cond (same x (node_name t)) (Some t) o) o)
 unfolding of_kind
 kind_turn k x t ts o = by_cases (eqb (node_kind t) k)
   where
     by_cases : (b : Bool)
-        → or_else (last_named node_name x (elim b as (λ _. List Node) [ true ↦ t ∷ of_kind k ts | false ↦ of_kind k ts ])) o
-        ≡ or_else (last_named node_name x (of_kind k ts)) (cond b (cond (same x (node_name t)) (some t) o) o)
+        → option_or (last_named node_name x (elim b as (λ _. List Node) [ true ↦ t ∷ of_kind k ts | false ↦ of_kind k ts ])) o
+        ≡ option_or (last_named node_name x (of_kind k ts)) (cond b (cond (same x (node_name t)) (Some t) o) o)
     by_cases true = last_turn node_name x t (of_kind k ts) o
     by_cases false = refl
 
@@ -58,11 +57,11 @@ unfoldable newest : List ℕ → List ℕ → ℕ → Name → ℕ → Option �
 newest s S k x i f = cond (eqb (kind_at S i) k) (cond (same x (name_at s S i)) (Some i) f) f
 
 newest_node : (s S : List ℕ) (k : ℕ) (x : Name) (i : ℕ) (f : Option ℕ)
-    → found_node s (newest s S k x i f) ≡ cond (eqb (kind_at S i) k) (cond (same x (name_at s S i)) (some (node_at s i)) (found_node s f)) (found_node s f)
+    → found_node s (newest s S k x i f) ≡ cond (eqb (kind_at S i) k) (cond (same x (name_at s S i)) (Some (node_at s i)) (found_node s f)) (found_node s f)
 unfolding newest found_node
 newest_node s S k x i f = by_cases (eqb (kind_at S i) k) (same x (name_at s S i))
   where
-    by_cases : (b c : Bool) → found_node s (cond b (cond c (Some i) f) f) ≡ cond b (cond c (some (node_at s i)) (found_node s f)) (found_node s f)
+    by_cases : (b c : Bool) → found_node s (cond b (cond c (Some i) f) f) ≡ cond b (cond c (Some (node_at s i)) (found_node s f)) (found_node s f)
     by_cases true true = refl
     by_cases true false = refl
     by_cases false c = refl
@@ -79,13 +78,13 @@ newest_kind s S k x i f h o = by_cases (eqb (kind_at S i) k) refl (same x (name_
 -- what is found so far, before the records that r gives
 pub record Going (s S : List ℕ) (k : ℕ) (x : Name) (m i : ℕ) (r : Records) (f : Option ℕ) : Type 0 where
   pub sort : grammar.Sort
-  pub walk : IterWalk sort nodes_at (λ ts. last_named node_name x (of_kind k (nodes_at s m i)) ≡ or_else (last_named node_name x (of_kind k ts)) (found_node s f)) s S r
+  pub walk : IterWalk sort nodes_at (λ ts. last_named node_name x (of_kind k (nodes_at s m i)) ≡ option_or (last_named node_name x (of_kind k ts)) (found_node s f)) s S r
   pub kind : FoundKind S k f
 
-pub start : (s S : List ℕ) (k : ℕ) (x : Name) (m i : ℕ) (r : Records) → Stretch s S m i → r.lines.now ≡ S → r.left ≡ m → r.at ≡ i → Going s S k x m i r None
+pub start : (s S : List ℕ) (k : ℕ) (x : Name) (m i : ℕ) (r : Records) → Loaded s S → Stretch S m i → r.lines.now ≡ S → r.left ≡ m → r.at ≡ i → Going s S k x m i r None
 unfolding found_node
-start s S k x m i r h l e a =
-    record { sort = h.sort; walk = record { lines = l; walk = rw (e, a) (record { loaded = h.loaded; row = h.row; known = sym (or_none _) }) }; kind = tt }
+start s S k x m i r d h l e a =
+    record { sort = h.sort; walk = record { lines = l; walk = rw (e, a) (record { loaded = d; row = h.row; known = sym (or_none _) }) }; kind = tt }
 
 module _ (s S : List ℕ) (k : ℕ) (x : Name) (m i : ℕ) (r : Records) (f : Option ℕ) (g : Going s S k x m i r f) where
   -- what `is_named` tells of the line
@@ -120,5 +119,5 @@ module _ (s S : List ℕ) (k : ℕ) (x : Name) (m i : ℕ) (r : Records) (f : Op
         by_cases false d z = refl
 
   pub over : (o : Option ℕ) → o ≡ f → r.left ≡ 0 → Last s S k x m i o
-  unfolding of_kind last_named or_else
+  unfolding of_kind last_named
   over o q h = rw q (record { found = sym (iter_over records g.walk h); kind = g.kind })

@@ -6,7 +6,6 @@ pub mod Fields
 pub mod Finding
 pub mod Items
 pub mod Literals
-pub mod Options
 pub mod Rows
 pub mod Tables
 pub mod Types

@@ -10,7 +10,8 @@ use Rattle.sheet.specs.declared.records.Records.{Records}
 use Rattle.rules.specs.Asking.{Rule, for_each}
 use Rattle.rules.proofs.Rows.{exprs, clauses, stmts, params, Listed, IterWalk, iter_start, iter_here, iter_found, iter_onward, iter_over, seek_found, seek_next, seek_over}
 use Rattle.refusals.specs.Answers.{Answers}
-use Rattle.lookups.specs.Lines.{RecordAt, RecordsAt}
+use Rattle.rules.specs.Standing.{Loaded, Here, Row}
+use Rattle.rules.proofs.Standing.{loaded_sheet}
 use Rattle.refusals.specs.Refusal.{done_of}
 use Rattle.refusals.specs.declared.refusal.Refusal.{Refusal}
 use Rattle.refusals.proofs.Answers.{gives, answers_then, answers_cut}
@@ -24,11 +25,11 @@ abbrev pub Turns : {A : Type 0} → grammar.Sort → (List ℕ → ℕ → ℕ �
 Turns σ all f s S i m r = Turn σ all f (for_each (all s m i) f) s S r
 
 module _ {A : Type 0} (σ : grammar.Sort) (all : List ℕ → ℕ → ℕ → List A) (s S : List ℕ) (r : Records) where
-  pub turn_start : (f : A → Rule Unit) (m i : ℕ) → RecordsAt σ s S m i → r.lines.now ≡ S → r.left ≡ m → r.at ≡ i → Turns σ all f s S i m r
-  turn_start f m i h l e a = iter_start _ _ _ _ _ m i r (record { loaded = h.loaded; row = h.row; known = λ d x. x }) l e a
+  pub turn_start : (f : A → Rule Unit) (m i : ℕ) → Loaded s S → Row S σ m i → r.lines.now ≡ S → r.left ≡ m → r.at ≡ i → Turns σ all f s S i m r
+  turn_start f m i d h l e a = iter_start _ _ _ _ _ m i r (record { loaded = d; row = h; known = λ d x. x }) l e a
 
-  pub turn_here : (P : List A → Type 0) (t : Records) (i : ℕ) → IterWalk σ all P s S r → Steps r i t → RecordAt σ s S i
-  turn_here P t i w h = record { loaded = w.walk.loaded; here = iter_here h w }
+  pub turn_here : (P : List A → Type 0) (t : Records) (i : ℕ) → IterWalk σ all P s S r → Steps r i t → Here S σ i
+  turn_here P t i w h = iter_here h w
 
   module _ (f : A → Rule Unit) (whole : Rule Unit) (w : Turn σ all f whole s S r) (one : List ℕ → ℕ → A) (l : Listed one all) where
     pub turn_over : r.left ≡ 0 → Answers whole (done_of s (Ok tt))
@@ -45,6 +46,6 @@ module _ {A : Type 0} (σ : grammar.Sort) (all : List ℕ → ℕ → ℕ → Li
       turn_next e = iter_onward h l w (λ as' k x b. k x (answers_then s (f (one s i)) (for_each as' f) d a e x b))
 
 -- all that a loop asks that judges the records of a row, and one that looks for one of them
-pub ruleset turns = (rules, exprs, clauses, stmts, params, turn_start, turn_here, turn_refused, turn_next, turn_over)
+pub ruleset turns = (rules, loaded_sheet, exprs, clauses, stmts, params, turn_start, turn_here, turn_refused, turn_next, turn_over)
 
-pub ruleset seeks = (rules, clauses, params, turn_here, seek_found, seek_next, seek_over)
+pub ruleset seeks = (rules, loaded_sheet, clauses, params, turn_here, seek_found, seek_next, seek_over)

@@ -3,15 +3,14 @@ use mathlib.Core.Path.{◌≡◌, refl, sym, ap, ◌∙◌}
 use mathlib.Core.Logic.{◌≢◌}
 use mathlib.Core.List.{List, [], ◌∷◌, ◌++◌, map, append-nil}
 use mathlib.Core.Bool.{Bool, true, false}
-use mathlib.Core.Option.{none, some}
 use Prim.Native.Nat.{ℕ, zero, suc, ◌-◌, ◌<◌, ◌≤◌}
 use Prim.Native.String.{String}
 use native.Mathlib.Omega.{arith}
-use lib.ListN.{length, get_or, get_elem?, get_or-eq_default}
+use lib.ListN.{length, get_or, get_or-eq_default}
 use Rattle.text.specs.Text.{bytes, same, ended}
 use Rattle.text.specs.Word.{index_in, place_in, split}
 use Rattle.text.proofs.Words.{place_told}
-use Rattle.std.specs.Prelude.{Option, Some, None}
+use Rattle.std.specs.Prelude.{Option, Some, None, slice_get}
 use Rattle.std.specs.Bool.{then_some}
 use borrow.Author.Tests.{ltb-true, ltb-false}
 use lib.Dec.{ltb}
@@ -24,7 +23,7 @@ use Rattle.sheet.specs.Scratch.{name_at, kind_at, skip, type_arg_count}
 use Rattle.rules.specs.Text.{Name, is}
 use Rattle.rules.specs.Ast.{Arg, of_type, of_int, m_of_n, arg_list, type_name, type_of, arg_of, args_of, args, nodes}
 use Rattle.rules.specs.declared.ty.Ty.{Ty}
-use Rattle.rules.specs.declared.ty.Ty.TheVariants.{Int, Boolean, Address, Asset, Word64, Name as TName, Time, Collection, Unknown}
+use Rattle.rules.specs.declared.ty.Ty.TheVariants.{Int, Bool as Boolean, Address, Asset, Word64, Name as TName, Time, Collection, Unknown}
 use Rattle.rules.specs.Types.{is_integer_type, ty_of_name, ty_of_decl, ty_of_arg, declared_arg}
 use Rattle.rules.specs.Standing.{type_at, arg_at, nodes_at, Loaded, Here, Row}
 use Rattle.rules.proofs.Parts.{stop, ◌also◌, pick, parts}
@@ -33,7 +32,6 @@ use Rattle.rules.proofs.Records.{no_nodes}
 use Rattle.rules.proofs.Rows.{Listed}
 use Rattle.rules.proofs.Standing.{stands, beyond as no_record, nodes_next, parts_behind, row_behind, row_nth, node_nth, nodes-length}
 use Rattle.lookups.specs.Named.{named_types}
-use Rattle.lookups.specs.Lines.{TypeAt}
 use Rattle.lookups.proofs.Tables.{values_in, pick_place, one_of}
 use Rattle.grammar.specs.Kinds as kinds
 
@@ -83,17 +81,17 @@ module _ (x : Name) (o : Option ℕ) (e : o ≡ place_in x (split (bytes names))
       by_cases i true q f = absurd (let z : ◌≡◌ {A = ℕ} 0 1 = cc in omega arith)
       by_cases i false q f = sym (get_or-eq_default (values_in table) Unknown (ltb-false i 20 q))
 
-pub type_name_lem : (s S : List ℕ) (i : ℕ) → TypeAt s S i → name_at s S i ≡ type_name (type_at s i)
-type_name_lem s S i h = named_at_lem h.loaded i ∙ sym (type-name_at s i)
+pub type_name_lem : (s S : List ℕ) (i : ℕ) → Loaded s S → name_at s S i ≡ type_name (type_at s i)
+type_name_lem s S i d = named_at_lem d i ∙ sym (type-name_at s i)
 
 -- a test of a type's name
-pub named_word : (s S : List ℕ) (i : ℕ) (x : Name) (w : String) (r : Bool) → TypeAt s S i → x ≡ name_at s S i → r ≡ same x (bytes w) → r ≡ is (type_name (type_at s i)) w
+pub named_word : (s S : List ℕ) (i : ℕ) (x : Name) (w : String) (r : Bool) → Loaded s S → x ≡ name_at s S i → r ≡ same x (bytes w) → r ≡ is (type_name (type_at s i)) w
 unfolding is
-named_word s S i x w r h e f = f ∙ ap (λ y. same y (bytes w)) (e ∙ type_name_lem s S i h)
+named_word s S i x w r d e f = f ∙ ap (λ y. same y (bytes w)) (e ∙ type_name_lem s S i d)
 
-pub declared : (s S : List ℕ) (i : ℕ) (x : Name) (r : Ty) → TypeAt s S i → x ≡ name_at s S i → r ≡ ty_of_name x → r ≡ ty_of_decl (type_at s i)
+pub declared : (s S : List ℕ) (i : ℕ) (x : Name) (r : Ty) → Loaded s S → x ≡ name_at s S i → r ≡ ty_of_name x → r ≡ ty_of_decl (type_at s i)
 unfolding ty_of_decl
-declared s S i x r h e f = f ∙ ap ty_of_name (e ∙ type_name_lem s S i h)
+declared s S i x r d e f = f ∙ ap ty_of_name (e ∙ type_name_lem s S i d)
 
 -- ------------------------------------------------------------ arguments
 
@@ -111,11 +109,11 @@ unfolding args_at arg_at
 arguments = record { empty = λ s i. rw (no_nodes s i) refl; first = λ d m {i} w. rw (nodes_next d m i w) refl }
 
 -- the arguments of a type stand behind it
-args_at_lem : (s S : List ℕ) (i : ℕ) → TypeAt s S i → (args (type_at s i) ≡ args_at s (type_arg_count S i) (suc i)) × Row S grammar.Arg (type_arg_count S i) (suc i)
+args_at_lem : (s S : List ℕ) (i : ℕ) → Loaded s S → Here S grammar.Ty i → (args (type_at s i) ≡ args_at s (type_arg_count S i) (suc i)) × Row S grammar.Arg (type_arg_count S i) (suc i)
 unfolding type_at type_of args args_at nodes_at sorts
-args_at_lem s S i h =
-    let t = stands h.loaded i h.here.within in
-    let k : t.line.kind ≡ kinds.type = omega (arith, t.says.kind, h.here.kind.0, h.here.kind.1) in
+args_at_lem s S i d h =
+    let t = stands d i h.within in
+    let k : t.line.kind ≡ kinds.type = omega (arith, t.says.kind, h.kind.0, h.kind.1) in
     let g = parts t.line kinds.type t.parted k in
     let m : type_arg_count S i ≡ g.0 = rw (t.says.first, g.1) refl in
     rw (t.here, m) (
@@ -146,17 +144,16 @@ arg_told s S j k d e =
     (λ w. let t = stands d j w in rw (t.here, t.spells.name) (arg_of_lem j t.line t.parts (k - kinds.type) (ap (λ n. n - kinds.type) (sym (e ∙ t.says.kind)))))
     (λ w. rw (no_record d j w, e, no_kind_lem S j w) refl)
 
-pub arg_type : (s S : List ℕ) (i j k : ℕ) → TypeAt s S i → Here S grammar.Arg j → k ≡ kind_at S j → k ≡ kinds.type → TypeAt s S j
-arg_type s S i j k h a f e =
-    record { loaded = h.loaded; here = record { within = a.within; kind = (omega (arith, f), omega (arith, f)); after = a.after } }
+pub arg_type : (S : List ℕ) (j k : ℕ) → Here S grammar.Arg j → k ≡ kind_at S j → k ≡ kinds.type → Here S grammar.Ty j
+arg_type S j k a f e = record { within = a.within; kind = (omega (arith, f), omega (arith, f)); after = a.after }
 
-pub beyond : {A : Type 0} (xs : List A) (k : ℕ) → length xs ≤ k → get_elem? xs k ≡ none
+pub beyond : {A : Type 0} (xs : List A) (k : ℕ) → length xs ≤ k → slice_get xs k ≡ None
 beyond [] zero h = refl
 beyond [] (suc k) h = refl
 beyond (x ∷ xs) zero h = absurd (omega arith)
 beyond (x ∷ xs) (suc k) h = beyond xs k (omega arith)
 
-nth_map : {A B : Type 0} (f : A → B) (xs : List A) (k : ℕ) (x : A) → get_elem? xs k ≡ some x → get_elem? (map f xs) k ≡ some (f x)
+nth_map : {A B : Type 0} (f : A → B) (xs : List A) (k : ℕ) (x : A) → slice_get xs k ≡ Some x → slice_get (map f xs) k ≡ Some (f x)
 nth_map f [] zero x e = absurd (let z : ◌≡◌ {A = ℕ} 0 1 = cc in omega arith)
 nth_map f [] (suc k) x e = absurd (let z : ◌≡◌ {A = ℕ} 0 1 = cc in omega arith)
 nth_map f (y ∷ xs) zero x e = let q : y ≡ x = cc in rw q refl
@@ -167,21 +164,21 @@ length-map f [] = refl
 length-map f (x ∷ xs) = ap suc (length-map f xs)
 
 -- The arguments of the type at line i, m of them.
-module _ (s S : List ℕ) (i m : ℕ) (h : TypeAt s S i) (c : m ≡ type_arg_count S i) where
+module _ (s S : List ℕ) (i m : ℕ) (d : Loaded s S) (h : Here S grammar.Ty i) (c : m ≡ type_arg_count S i) where
   pub args_here : args (type_at s i) ≡ args_at s m (suc i)
-  args_here = rw c (args_at_lem s S i h).0
+  args_here = rw c (args_at_lem s S i d h).0
 
   pub args_row : Row S grammar.Arg m (suc i)
-  args_row = rw c (args_at_lem s S i h).1
+  args_row = rw c (args_at_lem s S i d h).1
 
   pub args_count : length (args (type_at s i)) ≡ m
   unfolding args_at
-  args_count = rw args_here (length-map arg_of (nodes_at s m (suc i)) ∙ nodes-length h.loaded args_row)
+  args_count = rw args_here (length-map arg_of (nodes_at s m (suc i)) ∙ nodes-length d args_row)
 
 -- What `declared_arg` meets: m arguments, of which it wants the one at line j, of kind n.
-module _ (s S : List ℕ) (i k m : ℕ) (h : TypeAt s S i) (c : m ≡ type_arg_count S i) where
-  pub nth_beyond : m ≤ k → get_elem? (args (type_at s i)) k ≡ none
-  nth_beyond e = beyond (args (type_at s i)) k (omega (arith, args_count s S i m h c))
+module _ (s S : List ℕ) (i k m : ℕ) (d : Loaded s S) (h : Here S grammar.Ty i) (c : m ≡ type_arg_count S i) where
+  pub nth_beyond : m ≤ k → slice_get (args (type_at s i)) k ≡ None
+  nth_beyond e = beyond (args (type_at s i)) k (omega (arith, args_count s S i m d h c))
 
   pub none_there : (r : Ty) → m ≤ k → r ≡ Unknown → r ≡ declared_arg (type_at s i) k
   unfolding declared_arg
@@ -189,20 +186,20 @@ module _ (s S : List ℕ) (i k m : ℕ) (h : TypeAt s S i) (c : m ≡ type_arg_c
 
   module _ (j : ℕ) (e : k < m) (f : j ≡ skip S k (suc i)) where
     pub there : Here S grammar.Arg j
-    there = rw f (row_nth k e (args_row s S i m h c))
+    there = rw f (row_nth k e (args_row s S i m d h c))
 
-    pub nth_there : get_elem? (args (type_at s i)) k ≡ some (arg_of_kind s S j (kind_at S j))
+    pub nth_there : slice_get (args (type_at s i)) k ≡ Some (arg_of_kind s S j (kind_at S j))
     unfolding arg_at args_at
     nth_there =
-        let q = nth_map arg_of (nodes_at s m (suc i)) k _ (node_nth k h.loaded e (args_row s S i m h c)) in
-        rw (args_here s S i m h c, q, ← f) (ap some (arg_told s S j (kind_at S j) h.loaded refl))
+        let q = nth_map arg_of (nodes_at s m (suc i)) k _ (node_nth k d e (args_row s S i m d h c)) in
+        rw (args_here s S i m d h c, q, ← f) (ap Some (arg_told s S j (kind_at S j) d refl))
 
     arg_there : declared_arg (type_at s i) k ≡ ty_of_arg (arg_of_kind s S j (kind_at S j))
     unfolding declared_arg
     arg_there = rw (declared_arg, nth_there) refl
 
-    pub type_there : kind_at S j ≡ kinds.type → TypeAt s S j
-    type_there = arg_type s S i j (kind_at S j) h there refl
+    pub type_there : kind_at S j ≡ kinds.type → Here S grammar.Ty j
+    type_there = arg_type S j (kind_at S j) there refl
 
     pub typed_there : (r : Ty) → kind_at S j ≡ kinds.type → r ≡ ty_of_decl (type_at s j) → r ≡ declared_arg (type_at s i) k
     unfolding ty_of_arg

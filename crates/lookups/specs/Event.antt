@@ -1,6 +1,5 @@
 -- What a search for an event finds among loaded lines.
-use Rattle.std.specs.Prelude.{ℕ, List, ◌≡◌, Option, Some, None}
-use Rattle.std.proofs.Math.Option.{Option as Maybe, none, some}
+use Rattle.std.specs.Prelude.{ℕ, List, ◌≡◌, Option, option_map}
 use Rattle.sheet.specs.Scratch.{item_count}
 use Rattle.rules.specs.Text.{Name, first_named}
 use Rattle.rules.specs.Ast.{Event}
@@ -9,9 +8,8 @@ use Rattle.rules.specs.Standing.{node_name, nodes_at, event_at, model_in}
 use Rattle.lookups.specs.Found.{of_kind, found_node, FoundKind}
 use Rattle.grammar.specs.Kinds as kinds
 
-unfoldable pub found_event : List ℕ → Option ℕ → Maybe Event
-found_event s (Some i) = some (event_at s i)
-found_event s None = none
+unfoldable pub found_event : List ℕ → Option ℕ → Option Event
+found_event s r = option_map (event_at s) r
 
 -- r is the first event of the name x, and its line is that of the record
 pub record EventNamed (s S : List ℕ) (x : Name) (r : Option ℕ) : Type 0 where

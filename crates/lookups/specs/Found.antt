@@ -1,14 +1,13 @@
 -- What a search by name finds among loaded lines.
-use Rattle.std.specs.Prelude.{ℕ, ◌<◌, true, false, List, [], ◌∷◌, ◌++◌, map, ◌≡◌, eqb, Option, Some, None}
-use Rattle.std.proofs.Math.Option.{Option as Maybe, none, some}
+use Rattle.std.specs.Option.{option_or}
+use Rattle.std.specs.Prelude.{ℕ, ◌<◌, true, false, List, [], ◌∷◌, ◌++◌, map, ◌≡◌, eqb, Option, Some, None, option_map}
 use Rattle.grammar.specs.Grammar.{Sort}
-use Rattle.grammar.specs.Grammar as grammar
 use Rattle.sheet.specs.Scratch.{kind_at, line_count, item_count}
 use Rattle.sheet.specs.Tree.{Node, node}
-use Rattle.rules.specs.Text.{Name, last_named, or_else}
+use Rattle.rules.specs.Text.{Name, last_named}
 use Rattle.rules.specs.Ast.{Field, item_of, nodes}
 use Rattle.rules.specs.Model.{Model, build, field_named}
-use Rattle.rules.specs.Standing.{node_name, node_at, nodes_at, field_at, model_in, Loaded, Here, Row}
+use Rattle.rules.specs.Standing.{node_name, node_at, nodes_at, field_at, model_in, Row}
 use Rattle.grammar.specs.Kinds as kinds
 
 unfoldable pub node_kind : Node → ℕ
@@ -18,17 +17,14 @@ unfoldable pub of_kind : ℕ → List Node → List Node
 of_kind k [] = []
 of_kind k (t ∷ ts) = elim (eqb (node_kind t) k) [ true ↦ t ∷ of_kind k ts | false ↦ of_kind k ts ]
 
-unfoldable pub found_node : List ℕ → Option ℕ → Maybe Node
-found_node s (Some i) = some (node_at s i)
-found_node s None = none
+unfoldable pub found_node : List ℕ → Option ℕ → Option Node
+found_node s r = option_map (node_at s) r
 
-unfoldable pub found_field : List ℕ → Option ℕ → Maybe Field
-found_field s (Some i) = some (field_at s i)
-found_field s None = none
+unfoldable pub found_field : List ℕ → Option ℕ → Option Field
+found_field s r = option_map (field_at s) r
 
 -- m records stand one behind another from line i on
-pub record Stretch (s S : List ℕ) (m i : ℕ) : Type 0 where
-  pub loaded : Loaded s S
+pub record Stretch (S : List ℕ) (m i : ℕ) : Type 0 where
   pub sort : Sort
   pub row : Row S sort m i
 
@@ -46,14 +42,9 @@ pub record Last (s S : List ℕ) (k : ℕ) (x : Name) (m i : ℕ) (r : Option �
 unfoldable pub item_fields : Node → List Node
 item_fields (node i l ps) = elim (eqb l.kind kinds.state) [ true ↦ nodes ps | false ↦ [] ]
 
--- an item stands at line i
-pub record ItemAt (s S : List ℕ) (i : ℕ) : Type 0 where
-  pub loaded : Loaded s S
-  pub here : Here S grammar.Item i
-
 -- r is the last field of the name x of the item at line i, or else f
 pub record Newest (s S : List ℕ) (x : Name) (i : ℕ) (f r : Option ℕ) : Type 0 where
-  pub found : found_node s r ≡ or_else (last_named node_name x (item_fields (node_at s i))) (found_node s f)
+  pub found : found_node s r ≡ option_or (last_named node_name x (item_fields (node_at s i))) (found_node s f)
   pub kind : FoundKind S kinds.field f → FoundKind S kinds.field r
 
 -- the fields that items declare

@@ -4,8 +4,10 @@ ghost use Rattle.text.specs.Text.{same};
 ghost use Rattle.grammar.specs.Grammar.{Item};
 ghost use Rattle.grammar.specs.Coded.{kind_number};
 ghost use Rattle.sheet.specs.Scratch.{kind_at, name_at};
-ghost use Rattle.lookups.specs.Found.{FieldNamed, FieldsNamed, ItemAt, Last, Newest, Stretch};
-ghost use Rattle.lookups.specs.Lines.{RecordsAt};
+ghost use Rattle.lookups.specs.Found.{FieldNamed, FieldsNamed, Last, Newest, Stretch};
+ghost use Rattle.lookups.specs.Lines.{KindAt};
+ghost use Rattle.rules.specs.Standing.{Row};
+ghost use Rattle.grammar.specs.Kinds as kinds;
 
 use grammar::Kind;
 use sheet::{LoadedSheet, field_count, item_count};
@@ -30,7 +32,7 @@ pub fn last_named(
     from: usize,
     count: usize,
 ) -> Option<usize>
-    requires { Stretch sheet.now.bytes.now sheet.now.lines.now count from }
+    requires { Stretch sheet.now.lines.now count from }
     ensures { Last sheet.now.bytes.now sheet.now.lines.now (kind_number k) x.now count from result }
 {
     let mut hit = false;
@@ -44,32 +46,29 @@ pub fn last_named(
     hit.then_some(line)
 }
 
-// The last field of the name x that the item at a line declares, else what was found before.
+// The last field of the name x that the state at a line declares, else what was found before.
 fn newest_field(
     sheet: &LoadedSheet<'_>,
     x: &[u8],
-    item: usize,
+    state: usize,
     found: Option<usize>,
 ) -> Option<usize>
-    requires { ItemAt sheet.now.bytes.now sheet.now.lines.now item }
-    ensures { Newest sheet.now.bytes.now sheet.now.lines.now x.now item found result }
+    requires { KindAt kinds.state sheet.now.lines.now state }
+    ensures { Newest sheet.now.bytes.now sheet.now.lines.now x.now state found result }
 {
-    if !sheet.is(item, Kind::State) {
-        return found;
-    }
     last_named(
         sheet,
         Kind::Field,
         x,
-        item + 1,
-        field_count(sheet.lines, item),
+        state + 1,
+        field_count(sheet.lines, state),
     )
     .or(found)
 }
 
 // The last state field of the name x among those of count items, the first of which stands at line from.
 pub fn fields_named(sheet: &LoadedSheet<'_>, x: &[u8], from: usize, count: usize) -> Option<usize>
-    requires { RecordsAt Item sheet.now.bytes.now sheet.now.lines.now count from }
+    requires { Row sheet.now.lines.now Item count from }
     ensures { FieldsNamed sheet.now.bytes.now sheet.now.lines.now x.now count from result }
 {
     let mut found = None;

@@ -4,10 +4,10 @@ ghost use Rattle.rules.specs.declared.ty.Ty.TheVariants.{Unknown};
 ghost use Rattle.rules.specs.Types.{compatible, numeric, one_word};
 ghost use Rattle.rules.specs.Types.{declared_arg, is_zero_literal, ty_of_decl, ty_of_name, zero_digit};
 ghost use Rattle.text.specs.Text.{all};
-ghost use Rattle.rules.specs.Standing.{expr_at, type_at};
+ghost use Rattle.rules.specs.Standing.{expr_at, Here, type_at};
+ghost use Rattle.grammar.specs.Grammar as grammar;
 ghost use Rattle.sheet.specs.Scratch.{skip, line_count};
 ghost use Rattle.lookups.specs.Named.{named_types};
-ghost use Rattle.lookups.specs.Lines.{ExprAt, TypeAt};
 
 use grammar::Kind;
 use rules::Ty;
@@ -22,6 +22,7 @@ fn named(place: usize) -> Ty
     NAMED[place]
 }
 
+// In the order of the words: a map would need a heap.
 const NAMED: [Ty; 20] = [
     Ty::Int,
     Ty::Int,
@@ -33,7 +34,7 @@ const NAMED: [Ty; 20] = [
     Ty::Int,
     Ty::Int,
     Ty::Int,
-    Ty::Boolean,
+    Ty::Bool,
     Ty::Address,
     Ty::Asset,
     Ty::Word64,
@@ -93,7 +94,7 @@ fn ty_of_name(name: &[u8]) -> Ty
     match n {
         2 => ty_by(name, b"u8", Ty::Int),
         3 => ty_of_three(name),
-        4 => ty_by(name, b"bool", Ty::Boolean),
+        4 => ty_by(name, b"bool", Ty::Bool),
         6 => ty_by(name, b"Q_Name", Ty::Name),
         7 => ty_by(name, b"Q_Asset", Ty::Asset),
         8 => ty_by(name, b"Registry", Ty::Collection),
@@ -105,7 +106,7 @@ fn ty_of_name(name: &[u8]) -> Ty
 
 // The type that the `type` record at line i declares.
 pub fn ty_of_decl(sheet: &LoadedSheet<'_>, i: usize) -> Ty
-    requires { TypeAt sheet.now.bytes.now sheet.now.lines.now i }
+    requires { Here sheet.now.lines.now grammar.Ty i }
     ensures { result ≡ ty_of_decl (type_at sheet.now.bytes.now i) }
 {
     ty_of_name(sheet.name(i))
@@ -122,7 +123,7 @@ pub fn numeric(ty: Ty) -> bool
 pub fn one_word(ty: Ty) -> bool
     ensures { result ≡ one_word ty }
 {
-    matches!(ty, Ty::Int | Ty::Time | Ty::Boolean)
+    matches!(ty, Ty::Int | Ty::Time | Ty::Bool)
 }
 
 // Whether a value of one type may stand where the other is wanted.
@@ -151,7 +152,7 @@ fn arg_line(lines: &[u16], ty: usize, index: usize) -> usize
 
 // The type of a declared type's argument, Unknown where it has no such type.
 pub fn declared_arg(sheet: &LoadedSheet<'_>, ty: usize, index: usize) -> Ty
-    requires ty_at { TypeAt sheet.now.bytes.now sheet.now.lines.now ty }
+    requires ty_at { Here sheet.now.lines.now grammar.Ty ty }
     requires index_bound { index < 2 }
     ensures { result ≡ declared_arg (type_at sheet.now.bytes.now ty) index }
 {
@@ -180,7 +181,7 @@ fn all_zero(text: &[u8]) -> bool
 
 // Whether line i is a literal of value zero.
 pub fn is_zero_literal(sheet: &LoadedSheet<'_>, i: usize) -> bool
-    requires { ExprAt sheet.now.bytes.now sheet.now.lines.now i }
+    requires { Here sheet.now.lines.now grammar.Expr i }
     ensures { result ≡ is_zero_literal (expr_at sheet.now.bytes.now i) }
 {
     if !sheet.is(i, Kind::Int) {

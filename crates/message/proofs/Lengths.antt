@@ -19,7 +19,7 @@ use Rattle.rules.specs.Text.{Piece, lit, raw, dec, digits, render}
 use Rattle.rules.specs.Ast.{Type', type_name, arg_of, args_of, type_of, field_of, param_of, nodes, blank_node, Arg, Args, anil, amore}
 use Rattle.rules.specs.Declarations.{type_text, arg_text, args_text}
 use Rattle.rules.specs.declared.ty.Ty.{Ty}
-use Rattle.rules.specs.declared.ty.Ty.TheVariants.{Int, Boolean, Address, Asset, Word64, Name as TName, Time, Str, Collection, Unknown}
+use Rattle.rules.specs.declared.ty.Ty.TheVariants.{Int, Bool as Boolean, Address, Asset, Word64, Name as TName, Time, Str, Collection, Unknown}
 use Rattle.rules.specs.Types.{describe}
 use Rattle.rules.specs.Verdict.{longest}
 use Rattle.rules.specs.Standing.{node_name, node_at, type_at, param_at, field_at, named_at, Loaded}

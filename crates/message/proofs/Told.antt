@@ -3,7 +3,6 @@ use mathlib.Core.Path.{◌≡◌, refl, sym, ap, ◌∙◌}
 use mathlib.Core.Logic.{◌≢◌}
 use mathlib.Core.List.{List, [], ◌++◌, append_assoc, append-nil}
 use mathlib.Core.Bool.{Bool, true, false}
-use mathlib.Core.Option.{Option as Maybe, none, some}
 use Prim.Native.Nat.{ℕ, zero, suc, ◌+◌, ◌<◌, ◌≤◌}
 use Prim.Native.String.{String}
 use native.Mathlib.Numerals.{add-one}
@@ -16,9 +15,7 @@ use Rattle.rules.specs.Text.{Name, Piece, render, digits}
 use Rattle.rules.specs.declared.ty.Ty.{Ty}
 use Rattle.rules.specs.Types.{describe, parse_u128}
 use Rattle.rules.specs.Declarations.{arity_of, type_text}
-use Rattle.std.specs.Prelude.{Option, unwrap_or}
-use Rattle.rules.specs.Text.{option_of}
-use Rattle.lookups.proofs.Options.{option_or}
+use Rattle.std.specs.Prelude.{Option, unwrap_or, Some, None}
 use Rattle.rules.specs.Ast.{type_name}
 use Rattle.rules.specs.Standing.{node_name, node_at, named_at, type_at, field_at, param_at, Loaded}
 use Rattle.rules.proofs.Standing.{beyond}
@@ -97,17 +94,14 @@ module _ (M N : Message) where
     type_first : (ps qs : List Piece) (v : List ℕ) → Adds (render ps) M N → Adds v N O → v ≡ render qs → render (ps ++ qs) ≡ g → Long M → Adds g M O
     type_first ps qs v p q f e l = parts (render ps) v p q (ap (λ w. render ps ++ w) f ∙ sym (render-append ps qs) ∙ e) l
 
-arity_or : (x : List ℕ) → unwrap_or (option_of (arity_of x)) 0 ≡ arity x
-unfolding arity
-arity_or x = option_or (arity_of x) 0
-
 -- Three parts that were added one behind another, which together are the text g. A name or a description stands between two texts.
 module _ (s : List ℕ) (i : ℕ) (t u g : List ℕ) (M N O P : Message) where
   -- 13
-  pub arity_said : (S x v : List ℕ) (o : Option ℕ) (k : ℕ) → Loaded s S → x ≡ name_at s S i → o ≡ option_of (arity_of x) → k ≡ unwrap_or o 0 → Adds (t ++ (named_at s i ++ u)) M N → Adds (digits 39 k) N O → Adds v O P
+  pub arity_said : (S x v : List ℕ) (o : Option ℕ) (k : ℕ) → Loaded s S → x ≡ name_at s S i → o ≡ arity_of x → k ≡ unwrap_or o 0 → Adds (t ++ (named_at s i ++ u)) M N → Adds (digits 39 k) N O → Adds v O P
       → t ++ (type_name (type_at s i) ++ (u ++ (digits 39 (arity (type_name (type_at s i))) ++ v))) ≡ g → Long M → Adds g M P
+  unfolding arity
   arity_said S x v o k h e f w p q r z l =
-      let n : k ≡ arity (type_name (type_at s i)) = w ∙ rw f (arity_or x) ∙ ap arity (e ∙ named_at_lem h i ∙ sym (type-name_at s i)) in
+      let n : k ≡ arity (type_name (type_at s i)) = w ∙ rw (f, e, named_at_lem h i, type-name_at s i) refl in
       name_first M N P g t (type_name (type_at s i)) u (digits 39 k ++ v) (as_type M N s i t u p)
       (parts N O P (digits 39 k ++ v) (digits 39 k) v q r refl (still_long M N _ p l)) (rw n z) l
 
@@ -183,18 +177,18 @@ module _ (s S : List ℕ) (i : ℕ) (d : Loaded s S) where
       unfolding number_in exceeds_of
       literal_there h y = rw number_is (by_cases (parse_u128 x) refl (sym g ∙ h))
         where
-          by_cases : (o : Maybe ℕ) → parse_u128 x ≡ o → exceeds_of x 0 ≡ true → Adds (digits 39 (number_in x)) M N
-          by_cases none z w = absurd (let f : ◌≡◌ {A = ℕ} 0 1 = cc (rw (exceeds_of, z) at w) in omega arith)
-          by_cases (some n) z w = rw (number_in, z) (y.number n (rw f (literal-plain s S i d (is_there d i (λ o. omega (arith, q, o))) q)) z)
+          by_cases : (o : Option ℕ) → parse_u128 x ≡ o → exceeds_of x 0 ≡ true → Adds (digits 39 (number_in x)) M N
+          by_cases None z w = absurd (let f : ◌≡◌ {A = ℕ} 0 1 = cc (rw (exceeds_of, z) at w) in omega arith)
+          by_cases (Some n) z w = rw (number_in, z) (y.number n (rw f (literal-plain s S i d (is_there d i (λ o. omega (arith, q, o))) q)) z)
 
       pub literal_zero : v ≡ false → Adds (bytes "0") M N → Adds (digits 39 (literal_at s i)) M N
       unfolding number_in exceeds_of
       literal_zero h y = rw number_is (by_cases (parse_u128 x) refl (sym g ∙ h))
         where
-          by_cases : (o : Maybe ℕ) → parse_u128 x ≡ o → exceeds_of x 0 ≡ false → Adds (digits 39 (number_in x)) M N
-          by_cases none z w = rw (number_in, z) (zero_said M N y)
-          by_cases (some zero) z w = rw (number_in, z) (zero_said M N y)
-          by_cases (some (suc n)) z w = absurd (let f : ◌≡◌ {A = ℕ} 0 1 = cc (rw (exceeds_of, z, lt-leb (suc n) 0 (omega arith)) at w) in omega arith)
+          by_cases : (o : Option ℕ) → parse_u128 x ≡ o → exceeds_of x 0 ≡ false → Adds (digits 39 (number_in x)) M N
+          by_cases None z w = rw (number_in, z) (zero_said M N y)
+          by_cases (Some zero) z w = rw (number_in, z) (zero_said M N y)
+          by_cases (Some (suc n)) z w = absurd (let f : ◌≡◌ {A = ℕ} 0 1 = cc (rw (exceeds_of, z, lt-leb (suc n) 0 (omega arith)) at w) in omega arith)
 
 -- ------------------------------------------------------------ the refusals
 

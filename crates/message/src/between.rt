@@ -40,7 +40,7 @@ fn describe(ty: Ty) -> &'static [u8]
 {
     match ty {
         Ty::Int => b"number",
-        Ty::Boolean => b"boolean",
+        Ty::Bool => b"boolean",
         Ty::Address => b"address",
         Ty::Asset => b"asset",
         Ty::Word64 => b"64 bit word",

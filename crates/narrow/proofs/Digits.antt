@@ -3,7 +3,6 @@ use mathlib.Core.Path.{◌≡◌, refl, sym, ap, ◌∙◌}
 use mathlib.Core.Logic.{◌≢◌}
 use mathlib.Core.List.{List, [], ◌∷◌}
 use mathlib.Core.Bool.{Bool, true, false, not, ◌&&◌}
-use mathlib.Core.Option.{Option, none, some}
 use Prim.Native.Nat.{ℕ, ◌+◌, ◌-◌, ◌*◌, ◌/◌, ◌^◌, ◌≤◌, ◌<◌}
 use native.Mathlib.Nat.{le_trans, mul-le-mul_right, add-le-add, le-add_right}
 use native.Mathlib.Numerals.{add-one}
@@ -14,6 +13,7 @@ use lib.Dec.{leb, ltb}
 use lib.ListN.{length, get_or, drop, drop_of_length-le}
 use lib.Seq.{drop-cons}
 use borrow.Author.Tests.{le-leb, lt-leb, le-ltb, lt-ltb, leb-true, leb-false, ne_eqb}
+use Rattle.std.specs.Prelude.{Option, Some, None}
 use Rattle.text.specs.Field.{value_from}
 use Rattle.text.proofs.Fields.{value_grows}
 use Rattle.rules.specs.Text.{Name}
@@ -29,7 +29,7 @@ top = 340282366920938463463374607431768211455
 abbrev pub between : ℕ → ℕ → Bool
 between most v = leb v top && not (leb v most)
 
-parsed : (most : ℕ) (x : Name) → elim (parse top x) as (λ _. Bool) [ none ↦ false | some n ↦ not (leb n most) ] ≡ between most (value_from 0 x)
+parsed : (most : ℕ) (x : Name) → elim (parse top x) as (λ _. Bool) [ None ↦ false | Some n ↦ not (leb n most) ] ≡ between most (value_from 0 x)
 unfolding parse value_from
 parsed most [] = rw (le-leb 0 most (omega arith)) refl
 parsed most (b ∷ bs) = by_cases (leb v top)
@@ -37,7 +37,7 @@ parsed most (b ∷ bs) = by_cases (leb v top)
     v : ℕ
     v = value_from 0 (b ∷ bs)
 
-    by_cases : (t : Bool) → elim (elim t as (λ _. Option ℕ) [ true ↦ some v | false ↦ none ]) as (λ _. Bool) [ none ↦ false | some n ↦ not (leb n most) ] ≡ (t && not (leb v most))
+    by_cases : (t : Bool) → elim (elim t as (λ _. Option ℕ) [ true ↦ Some v | false ↦ None ]) as (λ _. Bool) [ None ↦ false | Some n ↦ not (leb n most) ] ≡ (t && not (leb v most))
     by_cases true = refl
     by_cases false = refl
 
@@ -70,7 +70,7 @@ flipped a b = by_cases (leb b a) refl
     by_cases false e = lt-ltb a b (leb-false b a e)
 
 -- What `above` meets: limbs that tell of their own that the number is above most, or the number itself.
-module _ (n : Wide) (most : ℕ) (h : Held n) (f : most < 2 ^ 64) where
+module _ (n : Wide) (most : ℕ) (f : most < 2 ^ 64) where
   pub above_high : 0 < n.high → true ≡ not (leb (value_of n) most)
   unfolding value_of
   above_high e = rw (lt-leb (value_of n) most (omega arith)) refl

@@ -1,5 +1,5 @@
 // Literals as u128 numbers.
-ghost use Rattle.std.specs.Prelude.{◌≡◌, not, leb, ◌*◌, ◌+◌, ◌-◌};
+ghost use Rattle.std.specs.Prelude.{◌≡◌, not, leb, ◌*◌, ◌+◌, ◌-◌, ◌<◌, ◌^◌};
 ghost use Rattle.narrow.specs.Narrow.{exceeds_of};
 ghost use Rattle.narrow.specs.Wide.{Held, Grown, value_of};
 
@@ -36,7 +36,7 @@ fn with_digit(n: Wide, b: u8) -> Wide
 
 // Whether n is above most.
 fn above(n: Wide, most: u64) -> bool
-    requires { Held n }
+    requires { n.low < 2 ^ 48 }
     ensures { result ≡ not (leb (value_of n) most) }
 {
     if 0 < n.high {

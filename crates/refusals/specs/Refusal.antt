@@ -1,6 +1,5 @@
 -- The number, place and text of each refusal of the code (docs/REFUSALS.md). Lines are those of the sheet s.
-use Rattle.std.specs.Prelude.{ℕ, suc, List, [], ◌∷◌, Bool, cond, eqb, Result, Ok, Err}
-use Rattle.std.proofs.Math.Option.{none, some}
+use Rattle.std.specs.Prelude.{ℕ, suc, List, [], ◌∷◌, Bool, cond, eqb, Result, Ok, Err, Some, None, unwrap_or}
 use Rattle.sheet.specs.Tree.{Node, node}
 use Rattle.rules.specs.Text.{Name, lit}
 use Rattle.rules.specs.Ast.{span, type_name, type_span}
@@ -20,11 +19,11 @@ use Rattle.grammar.specs.Kinds as kinds
 
 -- the dot at a line
 unfoldable pub dot_at : List ℕ → ℕ → Dot
-dot_at s i = elim (dot_of (expr_at s i)) [ some d ↦ d | none ↦ record { base = expr_at s i; name = []; nspan = 0 } ]
+dot_at s i = elim (dot_of (expr_at s i)) [ Some d ↦ d | None ↦ record { base = expr_at s i; name = []; nspan = 0 } ]
 
 -- how many arguments a Map or Registry takes
 unfoldable pub arity : Name → ℕ
-arity x = elim (arity_of x) [ some n ↦ n | none ↦ 0 ]
+arity x = unwrap_or (arity_of x) 0
 
 -- the record is an `int`
 unfoldable pub is_literal : Node → Bool
@@ -32,7 +31,7 @@ is_literal (node i l ps) = eqb l.kind kinds.int
 
 -- the number of a literal's text
 unfoldable pub number_in : Name → ℕ
-number_in text = elim (parse_u128 text) [ none ↦ 0 | some n ↦ n ]
+number_in text = unwrap_or (parse_u128 text) 0
 
 -- the number of the literal at a line
 unfoldable pub literal_at : List ℕ → ℕ → ℕ

@@ -5,8 +5,8 @@ use mathlib.Core.List.Forall₂.{cons as cons₂}
 use mathlib.Core.List.Forall₂.{nil as nil₂}
 use mathlib.Core.List.{List, [], ◌∷◌, Forall₂}
 use mathlib.Core.Bool.{Bool, true, false}
-use mathlib.Core.Option.{Option, none, some}
 use Prim.Native.Nat.{ℕ}
+use Rattle.std.specs.Prelude.{Option, Some, None}
 use Rattle.sheet.proofs.Paired.{Opt, o_none, o_some, append₂}
 use Rattle.rules.specs.Asking.{Refusal, Rule, ret, refuse, ask, ◌>>=◌, ◌>>◌, provided, if_some, if_some_else, for_each, Res, ok, refused, Asking, Out, concluded, fresh}
 use Rattle.rules.specs.declared.ty.Ty.{Ty}
@@ -71,8 +71,8 @@ module _ {S : Setting} where
 
   pub a_maybe : {A : Type 0} {o u : Option A} {f g : A → Rule Unit} → o ≡ u → ((a : A) → Alike S (f a) (g a)) → Alike S (if_some o f) (if_some u g)
   unfolding if_some
-  a_maybe {u = none} e k = rw e (a_ret tt)
-  a_maybe {u = some a} e k = rw e (k a)
+  a_maybe {u = None} e k = rw e (a_ret tt)
+  a_maybe {u = Some a} e k = rw e (k a)
 
   pub a_else : {A B : Type 0} {R : A → B → Type 0} {o : Option A} {u : Option B} {f : A → Rule Unit} {g : B → Rule Unit} {p q : Rule Unit}
       → Opt R o u → ((a : A) (b : B) → R a b → Alike S (f a) (g b)) → Alike S p q → Alike S (if_some_else o f p) (if_some_else u g q)

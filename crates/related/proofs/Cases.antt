@@ -4,9 +4,9 @@ use mathlib.Core.Logic.{◌⊎◌, inl}
 use mathlib.Core.List.Forall₂.{cons as cons₂}
 use mathlib.Core.List.Forall₂.{nil as nil₂}
 use mathlib.Core.List.{List, [], ◌∷◌, ◌++◌}
-use mathlib.Core.Option.{none}
 use Prim.Native.Nat.{ℕ, ◌*◌}
 use lib.ListN.{take, drop}
+use Rattle.std.specs.Prelude.{None}
 use Rattle.text.specs.Text.{bytes, either}
 use Rattle.text.proofs.Pieces.{ended-append}
 use Rattle.grammar.specs.Grammar as grammar
@@ -131,7 +131,7 @@ abbrev second_lines : List (List ℕ)
 second_lines = bytes "invariant" ∷ bytes "bin,1,eq" ∷ bytes "id,2,y" ∷ bytes "now,3" ∷ []
 
 -- whatever the line's kind
-no_name : {n : Model} {l : Line} → field_named n l.name ≡ none → event_named n l.name ≡ none → Foreign n l
+no_name : {n : Model} {l : Line} → field_named n l.name ≡ None → event_named n l.name ≡ None → Foreign n l
 no_name e f = record { field = λ _. e; event = λ _. f }
 
 -- a first line, and the bytes of both

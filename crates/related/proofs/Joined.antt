@@ -3,9 +3,9 @@
 use mathlib.Core.Path.{◌≡◌, refl, sym, ap}
 use mathlib.Core.List.{List, [], ◌∷◌, ◌++◌, append_assoc, Forall₂}
 use mathlib.Core.Bool.{Bool, true, false, not, ◌&&◌, beq}
-use mathlib.Core.Option.{Option, none, some}
 use Prim.Native.Nat.{ℕ}
 use native.Mathlib.Omega.{arith}
+use Rattle.std.specs.Prelude.{Option, Some, None}
 use Rattle.text.specs.Text.{same}
 use Rattle.text.proofs.Words.{same-is}
 use Rattle.text.proofs.Tests.{or_parts}
@@ -29,17 +29,17 @@ use Rattle.related.proofs.Lookups.{field_in, last_before}
 
 -- ------------------------------------------------------------ fields that are the last of their names
 
-values-append : (fs gs : List Field) → All (λ f. field_in f.name gs ≡ none) fs → values (fs ++ gs) ≡ values fs ++ values gs
+values-append : (fs gs : List Field) → All (λ f. field_in f.name gs ≡ None) fs → values (fs ++ gs) ≡ values fs ++ values gs
 unfolding values
 values-append [] gs h = refl
 values-append (f ∷ fs) gs h = rw (values, last_before f.name fs gs h.0) (by_cases (field_in f.name fs) (values-append fs gs h.1))
   where
     by : List Field → Option Field → List Field
-    by vs o = elim o [ some g ↦ vs | none ↦ f ∷ vs ]
+    by vs o = elim o [ Some g ↦ vs | None ↦ f ∷ vs ]
 
     by_cases : (o : Option Field) → values (fs ++ gs) ≡ values fs ++ values gs → by (values (fs ++ gs)) o ≡ by (values fs) o ++ values gs
-    by_cases (some g) e = e
-    by_cases none e = ap (λ vs. f ∷ vs) e
+    by_cases (Some g) e = e
+    by_cases None e = ap (λ vs. f ∷ vs) e
 
 -- ------------------------------------------------------------ keys
 
@@ -131,7 +131,7 @@ nothing_seen (v ∷ vs) = (refl, nothing_seen vs)
 
 -- the first model M stands as A in the joined one, the second N as B
 module _ (M N A B : Model) (a : PartLike (renumbered M (joined A B)) M A) (b : PartLike (renumbered N (joined A B)) N B)
-    (last : All (λ f. field_in f.name B.fields ≡ none) A.fields) (disjoint : (x : Name) → is_keyed M x ≡ true → is_keyed N x ≡ true → ⊥) where
+    (last : All (λ f. field_in f.name B.fields ≡ None) A.fields) (disjoint : (x : Name) → is_keyed M x ≡ true → is_keyed N x ≡ true → ⊥) where
   abbrev J : Model
   J = joined A B
 

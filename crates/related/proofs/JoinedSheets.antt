@@ -6,10 +6,10 @@ use mathlib.Core.List.Forall₂.{cons as cons₂}
 use mathlib.Core.List.Forall₂.{nil as nil₂}
 use mathlib.Core.List.{List, ◌∷◌, ◌++◌, Forall₂}
 use mathlib.Core.Bool.{true, false}
-use mathlib.Core.Option.{none}
 use Prim.Native.Nat.{ℕ, ◌+◌}
 use native.Mathlib.Omega.{arith}
 use lib.ListN.{length}
+use Rattle.std.specs.Prelude.{None}
 use Rattle.text.specs.Text.{same}
 use Rattle.grammar.specs.Grammar as grammar
 use Rattle.sheet.specs.Line.{Line}
@@ -46,7 +46,7 @@ use Rattle.related.proofs.Unrefused.{Passes}
 -- fields with the same head, whose name is none of n's
 record HeadForeign (n : Model) (f g : Field) : Type 0 where
   head : Head f g
-  foreign : field_named n f.name ≡ none
+  foreign : field_named n f.name ≡ None
 
 -- the same record, which is foreign to n
 abbrev SameForeign : Model → Line → Line → Type 0
@@ -64,7 +64,7 @@ field_foreign n t u (formed {i = i} a p fs) (twin {j = j} l h r) =
 -- The model M of one sheet stands as A in the model of both; the other's model is N.
 record Half (N M A : Model) : Type 0 where
   heads : Heads (HeadForeign N) M A
-  part : (J : Model) → ((x : Name) → field_named N x ≡ none → SameField (renumbered M J) x) → ((x : Name) → event_named N x ≡ none → SameEvent (renumbered M J) x) → PartLike (renumbered M J) M A
+  part : (J : Model) → ((x : Name) → field_named N x ≡ None → SameField (renumbered M J) x) → ((x : Name) → event_named N x ≡ None → SameEvent (renumbered M J) x) → PartLike (renumbered M J) M A
 
 half : (s : List ℕ) (types scratch : ℕ) (c : Line) (r a : List Line) (i : ℕ) (N : Model) → load s types scratch ≡ lines (c ∷ r) → Forall₂ SameLine r a → All (Foreign N) r
     → Half N (model_of (c ∷ r)) (items_of (trees i a))
@@ -84,13 +84,13 @@ module _ {N M A : Model} (h : Half N M A) where
   heads_in : (x : Name) → Opt Head (field_in x M.fields) (field_in x A.fields)
   heads_in x = opt_imp (λ f g q. q.head) (in_both x)
 
-  none_there : (x : Name) → field_named M x ≡ none → field_in x A.fields ≡ none
+  none_there : (x : Name) → field_named M x ≡ None → field_in x A.fields ≡ None
   unfolding field_named
   none_there x e = opt_none (in_both x) e
 
 -- ------------------------------------------------------------ both
 
-keyed_none : (m : Model) (x : Name) → field_named m x ≡ none → is_keyed m x ≡ false
+keyed_none : (m : Model) (x : Name) → field_named m x ≡ None → is_keyed m x ≡ false
 unfolding is_keyed
 keyed_none m x e = rw (is_keyed, e)
 
@@ -110,22 +110,22 @@ module _ {M N A B : Model} (p : Half N M A) (q : Half M N B) where
       q.part J (λ x e. rw (last_behind x A.fields B.fields (none_there p x e)) (heads_in q x))
       (λ x e. rw (← p.heads.events, ← q.heads.events) (sym (first_behind x M.events N.events e)))
 
-  last : All (λ f. field_in f.name B.fields ≡ none) A.fields
+  last : All (λ f. field_in f.name B.fields ≡ None) A.fields
   last = by_cases p.heads.fields
     where
-      by_cases : {fs gs : List Field} → Forall₂ (HeadForeign N) fs gs → All (λ g. field_in g.name B.fields ≡ none) gs
+      by_cases : {fs gs : List Field} → Forall₂ (HeadForeign N) fs gs → All (λ g. field_in g.name B.fields ≡ None) gs
       by_cases nil₂ = tt
       by_cases (cons₂ {a = f} h r) = (rw (← h.head.name) (none_there q f.name h.foreign), by_cases r)
 
   disjoint : (x : Name) → is_keyed M x ≡ true → is_keyed N x ≡ true → ⊥
   unfolding field_named
-  disjoint x h k = by_cases (found (λ x. field_named N x ≡ none) x M.fields (foreign p.heads.fields))
+  disjoint x h k = by_cases (found (λ x. field_named N x ≡ None) x M.fields (foreign p.heads.fields))
     where
-      foreign : {fs gs : List Field} → Forall₂ (HeadForeign N) fs gs → All (λ f. field_named N f.name ≡ none) fs
+      foreign : {fs gs : List Field} → Forall₂ (HeadForeign N) fs gs → All (λ f. field_named N f.name ≡ None) fs
       foreign nil₂ = tt
       foreign (cons₂ h r) = (h.foreign, foreign r)
 
-      by_cases : (field_in x M.fields ≡ none) ⊎ (field_named N x ≡ none) → ⊥
+      by_cases : (field_in x M.fields ≡ None) ⊎ (field_named N x ≡ None) → ⊥
       by_cases (inl e) = let z : ◌≡◌ {A = ℕ} 0 1 = cc (keyed_none M x e, h) in omega arith
       by_cases (inr e) = let z : ◌≡◌ {A = ℕ} 0 1 = cc (keyed_none N x e, k) in omega arith
 

@@ -5,9 +5,9 @@ use mathlib.Core.List.Forall₂.{cons as cons₂}
 use mathlib.Core.List.Forall₂.{nil as nil₂}
 use mathlib.Core.List.{List, [], ◌∷◌, ◌++◌, Forall₂}
 use mathlib.Core.Bool.{Bool, true, false}
-use mathlib.Core.Option.{Option, none, some}
 use Prim.Native.Nat.{ℕ}
 use Prim.Native.String.{String}
+use Rattle.std.specs.Prelude.{Option, Some, None}
 use Rattle.text.specs.Text.{same}
 use Rattle.sheet.proofs.Paired.{Opt, o_none, o_some, opt_either}
 use Rattle.rules.specs.Text.{Name, last_named}
@@ -28,12 +28,12 @@ SameField S x = Opt Head (field_named S.left x) (field_named S.right x)
 
 -- the same value, of which P holds, or none
 pub data Both {A : Type 0} (P : A → Type 0) : Option A → Option A → Type 0 where
-  b_none : Both P none none
-  b_some : {a : A} → P a → Both P (some a) (some a)
+  b_none : Both P None None
+  b_some : {a : A} → P a → Both P (Some a) (Some a)
 
 pub data LeafLike (S : Setting) : Leaf → Leaf → Type 0 where
   l_text : {n k : Name} → S.Free → LeafLike S (int n) (int k)
-  l_same : {k : Leaf} → ((x : Name) → ident_leaf k ≡ some x → SameField S x) → LeafLike S k k
+  l_same : {k : Leaf} → ((x : Name) → ident_leaf k ≡ Some x → SameField S x) → LeafLike S k k
 
 mutual
   pub data ExprLike (S : Setting) : Expr → Expr → Type 0 where
@@ -116,15 +116,15 @@ unfolding ident_leaf
 ident_leaf_lem (l_text f) = b_none
 ident_leaf_lem {S} (l_same {k = k} h) = by_cases (ident_leaf k) h
   where
-    by_cases : (o : Option Name) → ((x : Name) → o ≡ some x → SameField S x) → Both (SameField S) o o
-    by_cases none f = b_none
-    by_cases (some x) f = b_some (f x refl)
+    by_cases : (o : Option Name) → ((x : Name) → o ≡ Some x → SameField S x) → Both (SameField S) o o
+    by_cases None f = b_none
+    by_cases (Some x) f = b_some (f x refl)
 
 pub ident_like : {S : Setting} {e f : Expr} → ExprLike S e f → Both (SameField S) (ident_of e) (ident_of f)
 unfolding ident_of
 ident_like {S} {e} {f} h = by_cases (leaf_like h)
   where
-    by_cases : {o u : Option Leaf} → Opt (LeafLike S) o u → Both (SameField S) (elim o [ none ↦ none | some k ↦ ident_leaf k ]) (elim u [ none ↦ none | some k ↦ ident_leaf k ])
+    by_cases : {o u : Option Leaf} → Opt (LeafLike S) o u → Both (SameField S) (elim o [ None ↦ None | Some k ↦ ident_leaf k ]) (elim u [ None ↦ None | Some k ↦ ident_leaf k ])
     by_cases o_none = b_none
     by_cases (o_some r) = ident_leaf_lem r
 
@@ -147,7 +147,7 @@ pub id_like : {S : Setting} (x : Name) → SameField S x → LeafLike S (id x) (
 unfolding ident_leaf
 id_like {S} x k = l_same (λ y e. same_field y e)
   where
-    same_field : (y : Name) → some x ≡ some y → SameField S y
+    same_field : (y : Name) → Some x ≡ Some y → SameField S y
     same_field y e = let q : x ≡ y = cc in rw (← q) k
 
 -- ------------------------------------------------------------ lookups
@@ -159,10 +159,10 @@ unfolding last_named
 last_like f g n x nil₂ = o_none
 last_like {R = R} f g n x (cons₂ {a = a} {b = b} h k) = by_cases (last_like f g n x k) (alike (ap (same x) (n a b h)))
   where
-    alike : {t u : Bool} → t ≡ u → Opt R (elim t [ true ↦ some a | false ↦ none ]) (elim u [ true ↦ some b | false ↦ none ])
+    alike : {t u : Bool} → t ≡ u → Opt R (elim t [ true ↦ Some a | false ↦ None ]) (elim u [ true ↦ Some b | false ↦ None ])
     alike {u = u} e = rw e (opt_either u (o_some h) o_none)
 
-    by_cases : {o u : Option _} {p q : Option _} → Opt R o u → Opt R p q → Opt R (elim o [ some b ↦ some b | none ↦ p ]) (elim u [ some b ↦ some b | none ↦ q ])
+    by_cases : {o u : Option _} {p q : Option _} → Opt R o u → Opt R p q → Opt R (elim o [ Some b ↦ Some b | None ↦ p ]) (elim u [ Some b ↦ Some b | None ↦ q ])
     by_cases o_none q = q
     by_cases (o_some r) q = o_some r
 

@@ -3,7 +3,7 @@ use mathlib.Core.Path.{◌≡◌, refl, ap}
 use mathlib.Core.List.Forall₂.{cons as cons₂}
 use mathlib.Core.List.Forall₂.{nil as nil₂}
 use mathlib.Core.List.{List, [], ◌∷◌, Forall₂}
-use mathlib.Core.Option.{Option, none, some}
+use Rattle.std.specs.Prelude.{Option, Some, None}
 use Rattle.sheet.proofs.Paired.{Opt, o_none, o_some}
 use Rattle.rules.specs.Text.{last_named}
 use Rattle.rules.specs.Ast.{Set, Expr, Field, Clause, Entry, Stmt}
@@ -122,7 +122,7 @@ module _ {S : Setting} where
       by_cases q (values_like k)
     where
       by : Field → List Field → Option Field → List Field
-      by f vs o = elim o [ some g ↦ vs | none ↦ f ∷ vs ]
+      by f vs o = elim o [ Some g ↦ vs | None ↦ f ∷ vs ]
 
       by_cases : {o u : Option Field} {vs ws : List Field} → Opt (FieldLike S) o u → Forall₂ (FieldLike S) vs ws → Forall₂ (FieldLike S) (by f vs o) (by g ws u)
       by_cases o_none q = cons₂ h q

@@ -4,8 +4,7 @@ use mathlib.Core.List.Forall₂.{cons as cons₂}
 use mathlib.Core.List.Forall₂.{nil as nil₂}
 use mathlib.Core.List.{List, [], ◌∷◌, ◌++◌, map, Forall₂}
 use mathlib.Core.Bool.{Bool, true, false, not, ◌&&◌, ◌||◌}
-use mathlib.Core.Option
-use mathlib.Core.Option.{Option, none, some}
+use Rattle.std.specs.Prelude.{Option, Some, None, option_map, is_some}
 use Rattle.text.specs.Text.{same}
 use Rattle.sheet.proofs.Paired.{Opt, o_none, o_some, opt_either, append₂}
 use Rattle.rules.specs.Text.{Name, is, is_one, among}
@@ -13,7 +12,7 @@ use Rattle.rules.specs.Ast.{Add, AssignOp, Set, AddTo, SubFrom, Leaf, Expr, Expr
 use Rattle.rules.specs.Asking.{Rule, ret, ◌>>=◌, for_each}
 use Rattle.rules.specs.declared.ty.Ty.{Ty}
 use Rattle.rules.specs.Types.{literal, int_of}
-use Rattle.rules.specs.Typing.{Dot, ident_of, is_some}
+use Rattle.rules.specs.Typing.{Dot, ident_of}
 use Rattle.rules.specs.Arithmetic.{any, is_op, acknowledged, amount_of, is_minted_amount, bounded_addend, sum_terms, mentions, mentions_any, subtracts, upper_bounds, caps_from_above, limits_cap, limits_bound, same_target, without, is_sum, addends, is_mints, asset_params, bounded, check_sum, check_arithmetic}
 use Rattle.rules.specs.KeyKinds.{Keyed, keyed_here, keyed_calls, keyed_calls_all, present, clause_exprs, body_exprs, entry_exprs, keyed_in, Use, name_params, is_keyed, is_name_key, uses_of, uses, check_key_kinds}
 use Rattle.related.proofs.Alike.{Setting, a_ret, Alike, a_same, a_bind, a_some, a_maybe, a_each}
@@ -30,7 +29,7 @@ pub data ClauseLike (S : Setting) : Clause → Clause → Type 0 where
 
 -- a clause that no rule reads
 pub data IdleClause : Clause → Type 0 where
-  idle : IdleClause (after none none)
+  idle : IdleClause (after None None)
 
 -- clauses one by one, but for idle ones on the left
 pub data ClausesLike (S : Setting) : List Clause → List Clause → Type 0 where
@@ -96,23 +95,23 @@ module _ {S : Setting} where
   amount_like xs h = by_cases (dot_like h)
     where
       one : Option Name → Bool
-      one o = elim o [ none ↦ false | some x ↦ among x xs ]
+      one o = elim o [ None ↦ false | Some x ↦ among x xs ]
 
       by : Option Dot → Bool
-      by o = elim o [ none ↦ false | some d ↦ is d.name "amount" && one (ident_of d.base) ]
+      by o = elim o [ None ↦ false | Some d ↦ is d.name "amount" && one (ident_of d.base) ]
 
       by_cases : {o u : Option Dot} → Opt (DotLike S) o u → by o ≡ by u
       by_cases o_none = refl
       by_cases (o_some r) = rw (r.name, ident_same r.base)
 
   is-int : {e f : Expr} → ExprLike S e f → is_some (int_of e) ≡ is_some (int_of f)
-  unfolding int_of is_some literal
+  unfolding int_of literal
   is-int h = by_cases (leaf_like h)
     where
       by : Option Leaf → Bool
-      by o = is_some {A = Name} (elim o [ none ↦ none | some k ↦ literal k ])
+      by o = is_some {T = Name} (elim o [ None ↦ None | Some k ↦ literal k ])
 
-      leaf : {a b : Leaf} → LeafLike S a b → by (some a) ≡ by (some b)
+      leaf : {a b : Leaf} → LeafLike S a b → by (Some a) ≡ by (Some b)
       leaf (l_text f) = refl
       leaf (l_same h) = refl
 
@@ -187,19 +186,19 @@ module _ {S : Setting} where
 
   target_like : {a b c d : Expr} → ExprLike S a c → ExprLike S b d → same_target a b ≡ same_target c d
   unfolding same_target
-  target_like {c = c} h k = rw (same_target, ident_same h) (ap (λ (o : Option Name). elim (ident_of c) [ none ↦ false | some x ↦ elim o [ none ↦ false | some y ↦ same x y ] ]) (ident_same k))
+  target_like {c = c} h k = rw (same_target, ident_same h) (ap (λ (o : Option Name). elim (ident_of c) [ None ↦ false | Some x ↦ elim o [ None ↦ false | Some y ↦ same x y ] ]) (ident_same k))
 
   without_like : {t u : Expr} {es fs : List Expr} → ExprLike S t u → Forall₂ (ExprLike S) es fs → Opt (Forall₂ (ExprLike S)) (without t es) (without u fs)
   unfolding without
   without_like h nil₂ = o_none
   without_like {t} {u} h (cons₂ {a = a} {b = b} {l₁ = as'} {l₂ = bs} k r) = rw (without, target_like h k) (by_cases (same_target u b) (without_like h r))
     where
-      others : {o v : Option (List Expr)} → Opt (Forall₂ (ExprLike S)) o v → Opt (Forall₂ (ExprLike S)) (Option.map (λ us. a ∷ us) o) (Option.map (λ us. b ∷ us) v)
+      others : {o v : Option (List Expr)} → Opt (Forall₂ (ExprLike S)) o v → Opt (Forall₂ (ExprLike S)) (option_map (λ us. a ∷ us) o) (option_map (λ us. b ∷ us) v)
       others o_none = o_none
       others (o_some q) = o_some (cons₂ k q)
 
       by_cases : (c : Bool) {o v : Option (List Expr)} → Opt (Forall₂ (ExprLike S)) o v
-          → Opt (Forall₂ (ExprLike S)) (elim c [ true ↦ some as' | false ↦ Option.map (λ us. a ∷ us) o ]) (elim c [ true ↦ some bs | false ↦ Option.map (λ us. b ∷ us) v ])
+          → Opt (Forall₂ (ExprLike S)) (elim c [ true ↦ Some as' | false ↦ option_map (λ us. a ∷ us) o ]) (elim c [ true ↦ Some bs | false ↦ option_map (λ us. b ∷ us) v ])
       by_cases true q = o_some r
       by_cases false q = others q
 
@@ -254,7 +253,7 @@ module _ {S : Setting} where
   here_like (o_some {b = d} r) (more~ {e = e} {f = f} h k) = rw r.name (by_cases (is_one d.name ("set" ∷ "get" ∷ "contains" ∷ "insert" ∷ "remove" ∷ "credit" ∷ "debit" ∷ [])) (ident_like r.base))
     where
       by : Bool → Expr → Option Name → List Keyed
-      by b k o = elim o [ none ↦ [] | some x ↦ elim b [ true ↦ (x, k) ∷ [] | false ↦ [] ] ]
+      by b k o = elim o [ None ↦ [] | Some x ↦ elim b [ true ↦ (x, k) ∷ [] | false ↦ [] ] ]
 
       by_cases : (b : Bool) {o u : Option Name} → Both (SameField S) o u → Forall₂ (KeyedLike S) (by b e o) (by b f u)
       by_cases b b_none = nil₂

@@ -5,9 +5,8 @@ use mathlib.Core.List.Forall₂.{cons as cons₂}
 use mathlib.Core.List.Forall₂.{nil as nil₂}
 use mathlib.Core.List.{List, [], ◌∷◌, zip, Forall₂}
 use mathlib.Core.Bool.{Bool, true, false, not, ◌&&◌, ◌||◌}
-use mathlib.Core.Option.{Option, none, some}
 use Prim.Native.Nat.{ℕ}
-use lib.ListN.{get_elem?}
+use Rattle.std.specs.Prelude.{Option, Some, None, slice_get}
 use Rattle.sheet.proofs.Paired.{Opt, o_none, o_some, at₂}
 use Rattle.rules.specs.Text.{Name, Piece, is}
 use Rattle.rules.specs.Ast.{AssignOp, Set, AddTo, SubFrom, Checked, Wrapping, Expr, Exprs, Param, Stmt, guard, bind, emit, assign, do', type_name, args}
@@ -47,7 +46,7 @@ zip_like (p ∷ ps) (cons₂ h k) = cons₂ (h, refl) (zip_like ps k)
 
 narrow_like : (m n : Model) (x : Name) → Opt Head (field_named m x) (field_named n x) → narrow_field m x ≡ narrow_field n x
 unfolding narrow_field
-narrow_like m n x h = of_type_lem none (λ f. narrow_max (type_name f.ty)) (λ f g e. rw e) h
+narrow_like m n x h = of_type_lem None (λ f. narrow_max (type_name f.ty)) (λ f g e. rw e) h
 
 address_like : (m n : Model) (x : Name) → Opt Head (field_named m x) (field_named n x) → is_address_field m x ≡ is_address_field n x
 unfolding is_address_field
@@ -73,8 +72,8 @@ a_name {S} {e} {g} {f} {h} l k = by_cases (ident_like l)
 
 t_some : {A : Type 0} (o : Option A) (f : A → Rule Unit) → ((a : A) → TextOnly (f a)) → TextOnly (if_some o f)
 unfolding if_some
-t_some none f h = t_ret
-t_some (some a) f h = h a
+t_some None f h = t_ret
+t_some (Some a) f h = h a
 
 t_literal : (Γ : Env) (x : Name) (v : Expr) → TextOnly (literal_into_narrow Γ x v)
 unfolding literal_into_narrow
@@ -118,7 +117,7 @@ module _ {S : Setting} {Γ Δ : Env} (same : SameEnv S Γ Δ) where
   params_like h = ap₂ ◌&&◌ same.genesis (by_cases (dot_like h))
     where
       by : Option Dot → Bool
-      by o = elim o [ none ↦ false | some d ↦ ident_is d.base "deploy_params" ]
+      by o = elim o [ None ↦ false | Some d ↦ ident_is d.base "deploy_params" ]
 
       by_cases : {o u : Option Dot} → Opt (DotLike S) o u → by o ≡ by u
       by_cases o_none = refl
@@ -177,7 +176,7 @@ unfolding makes_asset
 makes_like {S} {c} {d} h = by_cases (dot_like h)
   where
     by : Expr → Option Dot → Bool
-    by e o = elim o [ some d ↦ is d.name "split" | none ↦ ident_is e "mint" ]
+    by e o = elim o [ Some d ↦ is d.name "split" | None ↦ ident_is e "mint" ]
 
     by_cases : {o u : Option Dot} → Opt (DotLike S) o u → by c o ≡ by d u
     by_cases o_none = is_like "mint" h
@@ -235,7 +234,7 @@ module _ {S : Setting} where
 
 narrow_values_lem : (S : Setting) (x : Name) → SameField S x → narrow_values S.left x ≡ narrow_values S.right x
 unfolding narrow_values
-narrow_values_lem S x h = of_type_lem none (λ f. narrow_arg (get_elem? (args f.ty) 1)) (λ f g e. rw e) h
+narrow_values_lem S x h = of_type_lem None (λ f. narrow_arg (slice_get (args f.ty) 1)) (λ f g e. rw e) h
 
 module _ (S : Setting) where
   a_narrow_set : {e f : Expr} (xs : List Name) → ExprLike S e f → Alike S (narrow_set S.left xs e) (narrow_set S.right xs f)

@@ -5,14 +5,14 @@ use mathlib.Core.List.Forall₂.{cons as cons₂}
 use mathlib.Core.List.Forall₂.{nil as nil₂}
 use mathlib.Core.List.{List, [], ◌∷◌, Forall₂}
 use mathlib.Core.Bool.{Bool, true, false}
-use mathlib.Core.Option.{Option, none, some}
 use Prim.Native.Nat.{ℕ}
+use Rattle.std.specs.Prelude.{Option, Some, None}
 use Rattle.sheet.proofs.Paired.{Opt, o_none, o_some}
 use Rattle.rules.specs.Text.{Name, Piece, is, is_one, pick, get}
 use Rattle.rules.specs.Ast.{Type', UnaryOp, Not, Neg, BinOp, Or, And, Eq, Ne, Lt, Gt, Le, Ge, Add, Sub, Mul, Div, Rem, Shr, Leaf, int, id, date, str, caller, native, inasset, now, Expr, Exprs, Field, type_name}
 use Rattle.rules.specs.Asking.{Refusal, Rule, ret, refuse, expect}
 use Rattle.rules.specs.declared.ty.Ty.{Ty}
-use Rattle.rules.specs.declared.ty.Ty.TheVariants.{Name as TName, Asset, Unknown, Address, Boolean}
+use Rattle.rules.specs.declared.ty.Ty.TheVariants.{Name as TName, Asset, Unknown, Address, Bool as Boolean}
 use Rattle.rules.specs.Types.{literal, int_of, is_zero_literal, ty_of_decl, eq_ty}
 use Rattle.rules.specs.Model.{field_named}
 use Rattle.rules.specs.Typing.{Env, ident_leaf, Dot, ident_is, Asked, is_name_param, state_field_of, keyed_field, is_pool, judge_key, check_keys, check_amount, check_keyed_call, expect_keyed_op, expect_asset_receiver, ty_of_ident, ty_of_leaf, ty_of_get, ty_of_call, ask_each, type_call, expect_numeric_or, expect_number, judge_unary, logical, arithmetic, ordering, equality, judge_binary, ty_of_unary, ty_of_binary, asked, typing, typings, ask_of, ty_of}
@@ -37,7 +37,7 @@ t_expect false n at ps h = t_refuse h
 
 -- what is told of a field by its type alone
 abbrev or : {A : Type 0} → A → (Field → A) → Option Field → A
-or a f o = elim o [ none ↦ a | some g ↦ f g ]
+or a f o = elim o [ None ↦ a | Some g ↦ f g ]
 
 pub of_type_lem : {A : Type 0} {o u : Option Field} (a : A) (f : Field → A) → ((g h : Field) → g.ty ≡ h.ty → f g ≡ f h) → Opt Head o u → or a f o ≡ or a f u
 of_type_lem a f k o_none = refl
@@ -64,21 +64,21 @@ module _ {S : Setting} {Γ Δ : Env} (same : SameEnv S Γ Δ) where
   param_like h = ap₂ by same.params (ident_same h)
     where
       by : List (Name × Ty) → Option Name → Bool
-      by ps o = elim o [ none ↦ false | some x ↦ elim (get x ps) [ none ↦ false | some t ↦ eq_ty t TName ] ]
+      by ps o = elim o [ None ↦ false | Some x ↦ elim (get x ps) [ None ↦ false | Some t ↦ eq_ty t TName ] ]
 
   field_like : {e f : Expr} → ExprLike S e f → Opt Head (state_field_of Γ e) (state_field_of Δ f)
   unfolding state_field_of
   field_like h = by_cases (ident_like h)
     where
       at : Env → Name → Option Ty → Option Field
-      at Θ x o = elim o [ some t ↦ none | none ↦ field_named Θ.model x ]
+      at Θ x o = elim o [ Some t ↦ None | None ↦ field_named Θ.model x ]
 
       look : (x : Name) (o : Option Ty) → SameField S x → Opt Head (at Γ x o) (at Δ x o)
-      look x none k = field_in_lem x k
-      look x (some t) k = o_none
+      look x None k = field_in_lem x k
+      look x (Some t) k = o_none
 
       by : Env → Option Name → Option Field
-      by Θ o = elim o [ none ↦ none | some x ↦ at Θ x (get x Θ.params) ]
+      by Θ o = elim o [ None ↦ None | Some x ↦ at Θ x (get x Θ.params) ]
 
       by_cases : {o u : Option Name} → Both (SameField S) o u → Opt Head (by Γ o) (by Δ u)
       by_cases b_none = o_none
@@ -91,12 +91,12 @@ module _ {S : Setting} {Γ Δ : Env} (same : SameEnv S Γ Δ) where
       is_keyed : Type' → Bool
       is_keyed t = is_one (type_name t) ("Map" ∷ "Registry" ∷ [])
 
-      kind : {f g : Field} {b c : Bool} → b ≡ c → Head f g → Opt Head (elim b [ true ↦ some f | false ↦ none ]) (elim c [ true ↦ some g | false ↦ none ])
+      kind : {f g : Field} {b c : Bool} → b ≡ c → Head f g → Opt Head (elim b [ true ↦ Some f | false ↦ None ]) (elim c [ true ↦ Some g | false ↦ None ])
       kind {c = true} e k = rw e (o_some k)
       kind {c = false} e k = rw e o_none
 
       by : Option Field → Option Field
-      by o = elim o [ none ↦ none | some f ↦ elim (is_keyed f.ty) [ true ↦ some f | false ↦ none ] ]
+      by o = elim o [ None ↦ None | Some f ↦ elim (is_keyed f.ty) [ true ↦ Some f | false ↦ None ] ]
 
       by_cases : {o u : Option Field} → Opt Head o u → Opt Head (by o) (by u)
       by_cases o_none = o_none
@@ -114,19 +114,19 @@ module _ {S : Setting} {Γ Δ : Env} (same : SameEnv S Γ Δ) where
       deployer = elim (is x "deployer") [ true ↦ Address | false ↦ Unknown ]
 
       by : Env → Option Ty → Option Ty → Ty
-      by Θ o u = elim o [ some t ↦ t | none ↦ elim u [ some t ↦ t | none ↦ elim (field_named Θ.model x) [ some f ↦ ty_of_decl f.ty | none ↦ deployer ] ] ]
+      by Θ o u = elim o [ Some t ↦ t | None ↦ elim u [ Some t ↦ t | None ↦ elim (field_named Θ.model x) [ Some f ↦ ty_of_decl f.ty | None ↦ deployer ] ] ]
 
       by_cases : (o u : Option Ty) → by Γ o u ≡ by Δ o u
-      by_cases (some t) u = refl
-      by_cases none (some t) = refl
-      by_cases none none = of_type_lem deployer (λ f. ty_of_decl f.ty) (λ f g e. rw e) (field_in_lem x h)
+      by_cases (Some t) u = refl
+      by_cases None (Some t) = refl
+      by_cases None None = of_type_lem deployer (λ f. ty_of_decl f.ty) (λ f g e. rw e) (field_in_lem x h)
 
   leaf_type : {a b : Leaf} → LeafLike S a b → ty_of_leaf Γ a ≡ ty_of_leaf Δ b
   unfolding ty_of_leaf ident_leaf
   leaf_type (l_text f) = refl
   leaf_type (l_same {k = k} h) = by_cases k h
     where
-      by_cases : (k : Leaf) → ((x : Name) → ident_leaf k ≡ some x → SameField S x) → ty_of_leaf Γ k ≡ ty_of_leaf Δ k
+      by_cases : (k : Leaf) → ((x : Name) → ident_leaf k ≡ Some x → SameField S x) → ty_of_leaf Γ k ≡ ty_of_leaf Δ k
       by_cases (int n) f = refl
       by_cases (id x) f = name_like x (f x refl)
       by_cases date f = refl
@@ -147,7 +147,7 @@ module _ {S : Setting} {Γ Δ : Env} (same : SameEnv S Γ Δ) where
       mint b = elim b [ true ↦ Asset | false ↦ Unknown ]
 
       by : Env → Expr → Option Dot → Ty
-      by Θ c o = elim o [ some d ↦ of Θ d | none ↦ mint (ident_is c "mint") ]
+      by Θ c o = elim o [ Some d ↦ of Θ d | None ↦ mint (ident_is c "mint") ]
 
       by_cases : {o u : Option Dot} → Opt (DotLike S) o u → by Γ c o ≡ by Δ d u
       by_cases o_none = ap mint (is_like "mint" h)
@@ -213,7 +213,7 @@ module _ {S : Setting} where
   int_like h = by_cases (leaf_like h)
     where
       by : Option Leaf → Option Name
-      by o = elim o [ none ↦ none | some k ↦ literal k ]
+      by o = elim o [ None ↦ None | Some k ↦ literal k ]
 
       by_cases : {o u : Option Leaf} → Opt (LeafLike S) o u → (by o ≡ by u) ⊎ S.Free
       by_cases o_none = inl refl

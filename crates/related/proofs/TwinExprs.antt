@@ -5,12 +5,12 @@ use mathlib.Core.List.Forall₂.{cons as cons₂}
 use mathlib.Core.List.Forall₂.{nil as nil₂}
 use mathlib.Core.List.{List, [], Forall₂}
 use mathlib.Core.Bool.{Bool, true, false}
-use mathlib.Core.Option.{none, map}
 use Prim.Native.Nat.{ℕ, zero, suc, ◌-◌, ◌≤◌}
 use package.native.Mathlib.Omega.{arith}
 use lib.Dec.{ltb}
 use borrow.Author.Tests.{ltb-true, ltb-false}
-use lib.ListN.{get_or, get_elem?, get_or-eq_default}
+use lib.ListN.{get_or, get_or-eq_default}
+use Rattle.std.specs.Prelude.{None, option_map, slice_get}
 use Rattle.grammar.specs.Grammar as grammar
 use Rattle.sheet.specs.Line.{Line}
 use Rattle.sheet.specs.Tree.{Node, node, Nodes}
@@ -51,7 +51,7 @@ same_name {Free} {l} {k} h f = by_cases h.name
 
 -- ------------------------------------------------------------ expressions
 
-plain : {S : Setting} (k : Leaf) → ident_leaf k ≡ none → LeafLike S k k
+plain : {S : Setting} (k : Leaf) → ident_leaf k ≡ None → LeafLike S k k
 plain {S} k e = l_same {k = k} (λ x q. absurd (let z : ◌≡◌ {A = ℕ} 0 1 = cc (e, q) in omega arith))
 
 first_like : {S : Setting} {es fs : Exprs} → ExprsLike S es fs → ExprLike S (first_expr es) (first_expr fs)
@@ -125,7 +125,7 @@ module _ {S : Setting} where
   at_twin zero (cons₂ h k) = expr_twin h
   at_twin (suc n) (cons₂ h k) = at_twin n k
 
-  pub maybe_twin : {ns ms : List Node} (n : ℕ) → Forall₂ (SettingTwin S) ns ms → Opt (ExprLike S) (map expr_of (get_elem? ns n)) (map expr_of (get_elem? ms n))
+  pub maybe_twin : {ns ms : List Node} (n : ℕ) → Forall₂ (SettingTwin S) ns ms → Opt (ExprLike S) (option_map expr_of (slice_get ns n)) (option_map expr_of (slice_get ms n))
   maybe_twin n h = opt_map expr_of expr_of (λ t u k. expr_twin k) (at₂ n h)
 
 -- ------------------------------------------------------------ statements and clauses

@@ -1,6 +1,5 @@
 -- What the theorems about two sheets speak of.
-use Rattle.std.specs.Prelude.{ℕ, ◌≡◌, ◌⊎◌, List, ◌∷◌, ◌++◌, map, length}
-use Rattle.std.proofs.Math.Option.{none}
+use Rattle.std.specs.Prelude.{ℕ, ◌≡◌, ◌⊎◌, List, ◌∷◌, ◌++◌, map, length, None}
 use Rattle.sheet.specs.Line.{Line}
 use Rattle.sheet.specs.Load.{lines, load}
 use Rattle.sheet.specs.Tree.{trees}
@@ -49,5 +48,5 @@ pub record Around (c e : Line) (a m z : List Line) : Type 0 where
 
 -- the line names no state field of the model n, by an `id` or as a `field`, and no event of it, by an `emit`
 pub record Foreign (n : Model) (l : Line) : Type 0 where
-  pub field : (l.kind ≡ kinds.id) ⊎ (l.kind ≡ kinds.field) → field_named n l.name ≡ none
-  pub event : l.kind ≡ kinds.emit → event_named n l.name ≡ none
+  pub field : (l.kind ≡ kinds.id) ⊎ (l.kind ≡ kinds.field) → field_named n l.name ≡ None
+  pub event : l.kind ≡ kinds.emit → event_named n l.name ≡ None

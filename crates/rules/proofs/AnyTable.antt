@@ -2,14 +2,14 @@
 -- Assumes nothing.
 use mathlib.Core.Path.{◌≡◌, refl, ◌∙◌}
 use mathlib.Core.Bool.{true, false}
-use mathlib.Core.Option.{none, some}
 use Prim.Native.Nat.{ℕ, ◌≤◌}
 use native.Mathlib.Omega.{arith}
 use lib.ListN.{get_or, set}
+use Rattle.std.specs.Prelude.{Some, None}
 use Rattle.rules.specs.Ast.{Expr, line}
 use Rattle.rules.specs.Asking.{code, code_r, Res, ok, refused, ret}
 use Rattle.rules.specs.declared.ty.Ty.{Ty}
-use Rattle.rules.specs.declared.ty.Ty.TheVariants.{Int, Boolean, Address, Asset, Word64, Name as TName, Time, Str, Collection, Unknown}
+use Rattle.rules.specs.declared.ty.Ty.TheVariants.{Int, Bool as Boolean, Address, Asset, Word64, Name as TName, Time, Str, Collection, Unknown}
 use Rattle.rules.specs.Kept.{Table, ty_of_mark, stored, retyped, kept}
 use Rattle.rules.specs.Typing.{Env, stale, asked, typing, ask_of, ty_of}
 use Rattle.rules.proofs.Parts.{stop, ◌also◌, pick}
@@ -18,7 +18,7 @@ use Rattle.rules.specs.Codes as codes
 
 -- the marks 1 to 10 tell a type, each its own
 abbrev Tells : ℕ → Type 0
-Tells c = (t : Ty) × (ty_of_mark c ≡ some t) × (code t ≡ c)
+Tells c = (t : Ty) × (ty_of_mark c ≡ Some t) × (code t ≡ c)
 
 pub tells : (c : ℕ) → codes.int ≤ c → c ≤ codes.unknown → Tells c
 unfolding ty_of_mark code
@@ -39,18 +39,18 @@ tells c h k =
 
 module _ (Γ : Env) (e : Expr) (T : Table) where
   -- a line that holds a type is answered from the table, which stays as it was
-  pub from_table : (t : Ty) → stale Γ e ≡ false → ty_of_mark (get_or T (line e) 0) ≡ some t → kept (ty_of Γ e) T ≡ record { res = ok t; table = T }
+  pub from_table : (t : Ty) → stale Γ e ≡ false → ty_of_mark (get_or T (line e) 0) ≡ Some t → kept (ty_of Γ e) T ≡ record { res = ok t; table = T }
   unfolding ty_of ask_of asked kept
   from_table t h q = kept_some (stale Γ e) (line e) (typing Γ e) ret T t h q
 
   -- the exception: it is typed again, and keeps its type, or gets 11
-  pub again : (t : Ty) → stale Γ e ≡ true → ty_of_mark (get_or T (line e) 0) ≡ some t
+  pub again : (t : Ty) → stale Γ e ≡ true → ty_of_mark (get_or T (line e) 0) ≡ Some t
       → kept (ty_of Γ e) T ≡ retyped (line e) (kept (typing Γ e) T).res (kept (typing Γ e) T).table (λ u U. record { res = ok u; table = U })
   unfolding ty_of ask_of asked kept
   again t h q = kept_again (stale Γ e) (line e) (typing Γ e) ret T t h q
 
   -- any other line is typed, and gets the code answered, or 11
-  pub first_time : ty_of_mark (get_or T (line e) 0) ≡ none
+  pub first_time : ty_of_mark (get_or T (line e) 0) ≡ None
       → kept (ty_of Γ e) T
       ≡ record { res = (kept (typing Γ e) T).res; table = set (kept (typing Γ e) T).table (line e) (code_r (kept (typing Γ e) T).res) }
   unfolding ty_of ask_of asked kept stored

@@ -3,11 +3,11 @@ use mathlib.Core.Logic.{◌≢◌}
 use mathlib.Core.Path.{◌≡◌, refl, sym, ap, ◌∙◌}
 use mathlib.Core.List.{List, [], ◌∷◌, ◌++◌}
 use mathlib.Core.Bool.{Bool, true, false}
-use mathlib.Core.Option.{Option, none, some}
 use Prim.Native.Nat.{ℕ}
 use native.Mathlib.Omega.{arith}
 use lib.ListN.{length, get_or, set, length-set}
 use lib.Seq.{get_or-set_other}
+use Rattle.std.specs.Prelude.{Option, Some, None}
 use Rattle.rules.specs.Asking.{Res, ok, refused, Refusal, code_r, Rule, ret, refuse, ask, ◌>>=◌, for_each}
 use Rattle.rules.specs.declared.ty.Ty.{Ty}
 use Rattle.rules.specs.Kept.{Table, ty_of_mark, Kept, stored, retyped, kept}
@@ -16,9 +16,9 @@ use Rattle.rules.specs.Codes as codes
 
 -- one asking, by what the table has for its line
 abbrev asking : {A : Type 0} → Option Ty → Bool → ℕ → Kept Ty → Table → (Ty → Table → Kept A) → Kept A
-asking none b l o T f = stored o.res (set o.table l (code_r o.res)) f
-asking (some t) false l o T f = f t T
-asking (some t) true l o T f = retyped l o.res o.table f
+asking None b l o T f = stored o.res (set o.table l (code_r o.res)) f
+asking (Some t) false l o T f = f t T
+asking (Some t) true l o T f = retyped l o.res o.table f
 
 kept_ask : {A : Type 0} (g : Bool) (l : ℕ) (p : Rule Ty) (k : Ty → Rule A) (T : Table)
     → kept (ask g l p k) T ≡ asking (ty_of_mark (get_or T l 0)) g l (kept p T) T (λ t U. kept (k t) U)
@@ -30,11 +30,11 @@ kept_ask {A} g l p k T = by_cases (ty_of_mark (get_or T l 0)) g
 
     by_cases : (m : Option Ty) (b : Bool)
         → ◌≡◌ {A = Kept A}
-        (elim m [ none ↦ stored (kept p T).res (set (kept p T).table l (code_r (kept p T).res)) f | some t ↦ elim b [ false ↦ f t T | true ↦ retyped l (kept p T).res (kept p T).table f ] ])
+        (elim m [ None ↦ stored (kept p T).res (set (kept p T).table l (code_r (kept p T).res)) f | Some t ↦ elim b [ false ↦ f t T | true ↦ retyped l (kept p T).res (kept p T).table f ] ])
         (asking m b l (kept p T) T f)
-    by_cases none b = refl
-    by_cases (some t) false = refl
-    by_cases (some t) true = refl
+    by_cases None b = refl
+    by_cases (Some t) false = refl
+    by_cases (Some t) true = refl
 
 -- ------------------------------------------------------------ one rule behind another
 
@@ -54,9 +54,9 @@ module _ {A B : Type 0} (f' : Ty → Table → Kept B) (f : Ty → Table → Kep
   retyped_then l (refused r) T = refl
 
   asked_then : (m : Option Ty) (b : Bool) (l : ℕ) (o : Kept Ty) (T : Table) → asking m b l o T f' ≡ and_then (asking m b l o T f) g
-  asked_then none b l o T = stored_then o.res (set o.table l (code_r o.res))
-  asked_then (some t) false l o T = e t T
-  asked_then (some t) true l o T = retyped_then l o.res o.table
+  asked_then None b l o T = stored_then o.res (set o.table l (code_r o.res))
+  asked_then (Some t) false l o T = e t T
+  asked_then (Some t) true l o T = retyped_then l o.res o.table
 
 pub kept_bind : {A B : Type 0} (p : Rule A) (f : A → Rule B) (T : Table) → kept (p >>= f) T ≡ and_then (kept p T) (λ a U. kept (f a) U)
 unfolding kept ◌>>=◌ and_then
@@ -143,11 +143,11 @@ each_append f (a ∷ as') bs T =
 module _ {A : Type 0} (f : Ty → Table → Kept A) (n l : ℕ) (h : (t : Ty) (T : Table) → length T ≡ n → length (f t T).table ≡ n) where
   asking_length : (m : Option Ty) (b : Bool) (r : Res Ty) (U T : Table) → length T ≡ n → length U ≡ n → length (asking m b l (record { res = r; table = U }) T f).table ≡ n
   unfolding stored retyped code_r
-  asking_length none b (ok t) U T e q = h t _ (length-set U l _ ∙ q)
-  asking_length none b (refused r) U T e q = length-set U l codes.refused ∙ q
-  asking_length (some t) false r U T e q = h t T e
-  asking_length (some t) true (ok u) U T e q = h u U q
-  asking_length (some t) true (refused r) U T e q = length-set U l codes.refused ∙ q
+  asking_length None b (ok t) U T e q = h t _ (length-set U l _ ∙ q)
+  asking_length None b (refused r) U T e q = length-set U l codes.refused ∙ q
+  asking_length (Some t) false r U T e q = h t T e
+  asking_length (Some t) true (ok u) U T e q = h u U q
+  asking_length (Some t) true (refused r) U T e q = length-set U l codes.refused ∙ q
 
 pub kept-length : {A : Type 0} (p : Rule A) (T : Table) → length (kept p T).table ≡ length T
 unfolding kept
@@ -159,16 +159,16 @@ kept-length (ask g l p k) T =
 
 -- a line that has a type keeps it, unless a refusal ends all
 module _ {A : Type 0} (f : Ty → Table → Kept A) (a : A) (l i c : ℕ) (h : (t : Ty) (T : Table) → (f t T).res ≡ ok a → get_or T i 0 ≡ c → get_or (f t T).table i 0 ≡ c) where
-  asking_holds : (m : Option Ty) (b : Bool) (r : Res Ty) (U T : Table) → (m ≡ none → i ≢ l) → get_or T i 0 ≡ c → ((t : Ty) → r ≡ ok t → get_or U i 0 ≡ c)
+  asking_holds : (m : Option Ty) (b : Bool) (r : Res Ty) (U T : Table) → (m ≡ None → i ≢ l) → get_or T i 0 ≡ c → ((t : Ty) → r ≡ ok t → get_or U i 0 ≡ c)
       → (asking m b l (record { res = r; table = U }) T f).res ≡ ok a → get_or (asking m b l (record { res = r; table = U }) T f).table i 0 ≡ c
   unfolding stored retyped code_r
-  asking_holds none b (ok t) U T d e q w = h t _ w (get_or-set_other U l i _ 0 (d refl) ∙ q t refl)
-  asking_holds none b (refused r) U T d e q w = absurd (let z : ◌≡◌ {A = ℕ} 0 1 = cc in omega arith)
-  asking_holds (some t) false r U T d e q w = h t T w e
-  asking_holds (some t) true (ok u) U T d e q w = h u U w (q u refl)
-  asking_holds (some t) true (refused r) U T d e q w = absurd (let z : ◌≡◌ {A = ℕ} 0 1 = cc in omega arith)
+  asking_holds None b (ok t) U T d e q w = h t _ w (get_or-set_other U l i _ 0 (d refl) ∙ q t refl)
+  asking_holds None b (refused r) U T d e q w = absurd (let z : ◌≡◌ {A = ℕ} 0 1 = cc in omega arith)
+  asking_holds (Some t) false r U T d e q w = h t T w e
+  asking_holds (Some t) true (ok u) U T d e q w = h u U w (q u refl)
+  asking_holds (Some t) true (refused r) U T d e q w = absurd (let z : ◌≡◌ {A = ℕ} 0 1 = cc in omega arith)
 
-pub kept_holds : {A : Type 0} (p : Rule A) (T : Table) (a : A) (i : ℕ) (t : Ty) → ty_of_mark (get_or T i 0) ≡ some t → (kept p T).res ≡ ok a → get_or (kept p T).table i 0 ≡ get_or T i 0
+pub kept_holds : {A : Type 0} (p : Rule A) (T : Table) (a : A) (i : ℕ) (t : Ty) → ty_of_mark (get_or T i 0) ≡ Some t → (kept p T).res ≡ ok a → get_or (kept p T).table i 0 ≡ get_or T i 0
 unfolding kept
 kept_holds (ret b) T a i t h e = refl
 kept_holds (refuse r) T a i t h e = refl
@@ -177,7 +177,7 @@ kept_holds (ask g l p k) T a i t h e =
     ap (λ o. get_or o.table i 0) q
     ∙ asking_holds (λ u U. kept (k u) U) a l i (get_or T i 0) (λ u U w z. kept_holds (k u) U a i t (ap ty_of_mark z ∙ h) w ∙ z)
     (ty_of_mark (get_or T l 0)) g (kept p T).res (kept p T).table T
-    (λ n z. absurd (let y : none ≡ some t = sym n ∙ ap (λ j. ty_of_mark (get_or T j 0)) (sym z) ∙ h in (let x : ◌≡◌ {A = ℕ} 0 1 = cc in omega arith)))
+    (λ n z. absurd (let y : None ≡ Some t = sym n ∙ ap (λ j. ty_of_mark (get_or T j 0)) (sym z) ∙ h in (let x : ◌≡◌ {A = ℕ} 0 1 = cc in omega arith)))
     refl (λ u w. kept_holds p T u i t h w) (sym (ap (λ o. o.res) q) ∙ e)
 
 -- a line that is asked nowhere keeps what it holds
@@ -187,11 +187,11 @@ Off i = Throughout (OfLine (λ l. i ≢ l)) Any
 module _ {A : Type 0} (f : Ty → Table → Kept A) (l i c : ℕ) (d : i ≢ l) (h : (t : Ty) (T : Table) → get_or T i 0 ≡ c → get_or (f t T).table i 0 ≡ c) where
   asking_off : (m : Option Ty) (b : Bool) (r : Res Ty) (U T : Table) → get_or T i 0 ≡ c → get_or U i 0 ≡ c → get_or (asking m b l (record { res = r; table = U }) T f).table i 0 ≡ c
   unfolding stored retyped code_r
-  asking_off none b (ok t) U T e q = h t _ (get_or-set_other U l i _ 0 d ∙ q)
-  asking_off none b (refused r) U T e q = get_or-set_other U l i codes.refused 0 d ∙ q
-  asking_off (some t) false r U T e q = h t T e
-  asking_off (some t) true (ok u) U T e q = h u U q
-  asking_off (some t) true (refused r) U T e q = get_or-set_other U l i codes.refused 0 d ∙ q
+  asking_off None b (ok t) U T e q = h t _ (get_or-set_other U l i _ 0 d ∙ q)
+  asking_off None b (refused r) U T e q = get_or-set_other U l i codes.refused 0 d ∙ q
+  asking_off (Some t) false r U T e q = h t T e
+  asking_off (Some t) true (ok u) U T e q = h u U q
+  asking_off (Some t) true (refused r) U T e q = get_or-set_other U l i codes.refused 0 d ∙ q
 
 pub kept_off : {A : Type 0} (p : Rule A) (T : Table) (i : ℕ) → Off i p → get_or (kept p T).table i 0 ≡ get_or T i 0
 unfolding kept

@@ -2,13 +2,13 @@
 use mathlib.Core.Path.{◌≡◌, refl, ◌∙◌, ap}
 use mathlib.Core.List.{List, [], ◌∷◌, ◌++◌, append_assoc}
 use mathlib.Core.Bool.{Bool, cond}
-use mathlib.Core.Option.{Option, none, some}
 use mathlib.Core.Logic.{inl}
 use Prim.Native.Nat.{ℕ, ◌<◌, ◌≤◌}
 use native.Mathlib.Omega.{arith}
 use lib.Dec.{ltb}
 use lib.ListN.{length, replicate, length-replicate}
 use borrow.Author.Tests.{lt-ltb, le-ltb}
+use Rattle.std.specs.Prelude.{Option, Some, None}
 use Rattle.sheet.specs.Line.{Line}
 use Rattle.sheet.specs.Load.{LoadResult, lines, refused as unread, load}
 use Rattle.sheet.specs.Tree.{trees}
@@ -210,8 +210,8 @@ module _ (m : ℕ → Out Ty) (n : ℕ) where
 
   c_default : (M : Model) (f : Field) (o : Option Expr) → FitsEach Q (new M []) (present o) → C Q Afresh (if_some o (check_default (new M []) f))
   unfolding if_some present
-  c_default M f none h = tt
-  c_default M f (some v) h = w_default Q M f v h.0
+  c_default M f None h = tt
+  c_default M f (Some v) h = w_default Q M f v h.0
 
   c_field : (M : Model) (f : Field) → FitsEach Q (new M []) (present f.default) → C Q Afresh (check_field (new M []) f)
   unfolding check_field

@@ -2,9 +2,9 @@
 use mathlib.Core.Path.{◌≡◌, refl, ◌∙◌, ap}
 use mathlib.Core.List.{List, [], ◌∷◌}
 use mathlib.Core.Bool.{Bool, true, false}
-use mathlib.Core.Option.{Option, none, some}
 use Prim.Native.Nat.{ℕ}
 use Prim.Native.String.{String}
+use Rattle.std.specs.Prelude.{Option, Some, None}
 use Rattle.rules.specs.Text.{Name, Piece}
 use Rattle.rules.specs.Ast.{UnaryOp, Not, Neg, BinOp, Or, And, Eq, Ne, Lt, Gt, Le, Ge, Add, Sub, Mul, Div, Rem, Shr, Expr, leaf, unary, binary, field, call, wrap, Exprs, nil, more, line}
 use Rattle.rules.specs.Asking.{Rule, ret, refuse, ask, ◌>>=◌, ◌>>◌, provided, if_some, expect, for_each, Out, fresh, ok}
@@ -38,8 +38,8 @@ module _ (Q : Bool → ℕ → Rule Ty → Type 0) (R : Rule Ty → Ty → Type 
 
   pub c_some : {A : Type 0} (o : Option A) (f : A → Rule Unit) → ((a : A) → C (f a)) → C (if_some o f)
   unfolding if_some
-  c_some none f k = tt
-  c_some (some a) f k = k a
+  c_some None f k = tt
+  c_some (Some a) f k = k a
 
   pub c_expect : (b : Bool) (k at : ℕ) (ps : List Piece) → C (expect b k at ps)
   unfolding expect

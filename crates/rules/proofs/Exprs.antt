@@ -2,12 +2,12 @@
 use mathlib.Core.Path.{◌≡◌, refl, sym, ap, ◌∙◌}
 use mathlib.Core.List.{List, [], ◌∷◌, append-nil}
 use mathlib.Core.Bool.{Bool, true, false, cond}
-use mathlib.Core.Option.{some, none}
 use Prim.Native.Nat.{ℕ, suc, ◌-◌, ◌<◌, ◌≤◌}
 use package.native.Mathlib.Omega.{arith}
 use lib.Dec.{eqb, ltb}
 use lib.ListN.{get_or}
 use borrow.Author.Tests.{ltb-true, ltb-false, ne_eqb}
+use Rattle.std.specs.Prelude.{Some, None}
 use Rattle.grammar.specs.Grammar as grammar
 use Rattle.sheet.specs.Load.{copies, sorts}
 use Rattle.sheet.specs.Scratch.{kind_at, op_at, end_at, name_at, call_arg_count}
@@ -141,38 +141,38 @@ module _ {s S : List ℕ} (d : Loaded s S) {i : ℕ} (h : Here S grammar.Expr i)
   line_at = by_kind (λ k e. line e ≡ i) (λ k a b. refl) refl refl refl refl (λ k w a. refl)
 
   -- `Expr::Int`, `Expr::Ident` and `Expr::Field` by the line's kind
-  pub int_at : int_of (expr_at s i) ≡ cond (eqb (kind_at S i) kinds.int) (some (name_at s S i)) none
+  pub int_at : int_of (expr_at s i) ≡ cond (eqb (kind_at S i) kinds.int) (Some (name_at s S i)) None
   unfolding int_of leaf_of literal
   int_at =
-      by_kind (λ k e. int_of e ≡ cond (eqb k kinds.int) (some (name_at s S i)) none)
+      by_kind (λ k e. int_of e ≡ cond (eqb k kinds.int) (Some (name_at s S i)) None)
       (λ k a b.
-      pick {P = λ k. literal (leaf_at k (name_at s S i)) ≡ cond (eqb k kinds.int) (some (name_at s S i)) none} {i = kinds.int} {n = 8} k
+      pick {P = λ k. literal (leaf_at k (name_at s S i)) ≡ cond (eqb k kinds.int) (Some (name_at s S i)) None} {i = kinds.int} {n = 8} k
       (refl also refl also refl also refl also refl also refl also refl also refl also stop) a b)
       refl refl refl refl
       (λ k w a. rw (ne_eqb k kinds.int (omega arith)) refl)
 
-  pub ident_at : ident_of (expr_at s i) ≡ cond (eqb (kind_at S i) kinds.id) (some (name_at s S i)) none
+  pub ident_at : ident_of (expr_at s i) ≡ cond (eqb (kind_at S i) kinds.id) (Some (name_at s S i)) None
   unfolding ident_of leaf_of ident_leaf
   ident_at =
-      by_kind (λ k e. ident_of e ≡ cond (eqb k kinds.id) (some (name_at s S i)) none)
+      by_kind (λ k e. ident_of e ≡ cond (eqb k kinds.id) (Some (name_at s S i)) None)
       (λ k a b.
-      pick {P = λ k. ident_leaf (leaf_at k (name_at s S i)) ≡ cond (eqb k kinds.id) (some (name_at s S i)) none} {i = kinds.int} {n = 8} k
+      pick {P = λ k. ident_leaf (leaf_at k (name_at s S i)) ≡ cond (eqb k kinds.id) (Some (name_at s S i)) None} {i = kinds.int} {n = 8} k
       (refl also refl also refl also refl also refl also refl also refl also refl also stop) a b)
       refl refl refl refl
       (λ k w a. rw (ne_eqb k kinds.id (omega arith)) refl)
 
-  pub is_dot_at : dot_of (expr_at s i) ≡ cond (eqb (kind_at S i) kinds.dot) (some (record { base = expr_at s (suc i); name = name_at s S i; nspan = nspan_at s S i })) none
+  pub is_dot_at : dot_of (expr_at s i) ≡ cond (eqb (kind_at S i) kinds.dot) (Some (record { base = expr_at s (suc i); name = name_at s S i; nspan = nspan_at s S i })) None
   unfolding dot_of
   is_dot_at =
-      by_kind (λ k e. dot_of e ≡ cond (eqb k kinds.dot) (some (record { base = expr_at s (suc i); name = name_at s S i; nspan = nspan_at s S i })) none)
+      by_kind (λ k e. dot_of e ≡ cond (eqb k kinds.dot) (Some (record { base = expr_at s (suc i); name = name_at s S i; nspan = nspan_at s S i })) None)
       (λ k a b. rw (ne_eqb k kinds.dot (omega arith)) refl)
       refl refl refl refl
       (λ k w a. rw (ne_eqb k kinds.dot (omega arith)) refl)
 
-  pub is-call_at : call_of (expr_at s i) ≡ cond (eqb (kind_at S i) kinds.call) (some (record { callee = expr_at s (suc i); args = exprs_at s (call_arg_count S i) (end_at S (suc i)) })) none
+  pub is-call_at : call_of (expr_at s i) ≡ cond (eqb (kind_at S i) kinds.call) (Some (record { callee = expr_at s (suc i); args = exprs_at s (call_arg_count S i) (end_at S (suc i)) })) None
   unfolding call_of
   is-call_at =
-      by_kind (λ k e. call_of e ≡ cond (eqb k kinds.call) (some (record { callee = expr_at s (suc i); args = exprs_at s (call_arg_count S i) (end_at S (suc i)) })) none)
+      by_kind (λ k e. call_of e ≡ cond (eqb k kinds.call) (Some (record { callee = expr_at s (suc i); args = exprs_at s (call_arg_count S i) (end_at S (suc i)) })) None)
       (λ k a b. rw (ne_eqb k kinds.call (omega arith)) refl)
       refl refl refl refl
       (λ k w a. rw (ne_eqb k kinds.call (omega arith)) refl)

@@ -3,16 +3,16 @@ use mathlib.Core.Path.{◌≡◌, refl, sym, ◌∙◌, ap}
 use mathlib.Core.Logic.{◌⊎◌, inl, inr}
 use mathlib.Core.List.{List, [], ◌∷◌, ◌++◌}
 use mathlib.Core.Bool.{Bool, true, false, ◌||◌}
-use mathlib.Core.Option.{none, some}
 use Prim.Native.Nat.{ℕ, zero, suc, ◌<◌}
 use native.Mathlib.Omega.{arith}
 use lib.Dec.{eqb}
 use lib.ListN.{length, get_or, set, replicate, length-set}
 use lib.Seq.{get_or-set_same, get_or-set_other, set-get_or}
 use borrow.Author.Tests.{eqb-true, eqb-false, eq-eqb}
+use Rattle.std.specs.Prelude.{Some, None}
 use Rattle.rules.specs.Asking.{code, Res, ok, refused, Rule, ret, refuse, ask, Asking, code_r, Out, concluded, fresh, Refusal}
 use Rattle.rules.specs.declared.ty.Ty.{Ty}
-use Rattle.rules.specs.declared.ty.Ty.TheVariants.{Int, Boolean, Address, Asset, Word64, Name as TName, Time, Str, Collection, Unknown}
+use Rattle.rules.specs.declared.ty.Ty.TheVariants.{Int, Bool as Boolean, Address, Asset, Word64, Name as TName, Time, Str, Collection, Unknown}
 use Rattle.rules.specs.Kept.{Table, ty_of_mark, Kept, stored, retyped, kept, put_if, mark, marks}
 use Rattle.rules.proofs.All.{All, all_append, all_map}
 use Rattle.rules.specs.Codes as codes
@@ -97,7 +97,7 @@ Above T T1 = (l : ℕ) → Marked T l → Marked T1 l
 settled_above : (T T1 : Table) (as' : List Asking) → Above T T1 → All (Settled T) as' → All (Settled T1) as'
 settled_above T T1 as' u h = all_map (Settled T) (Settled T1) (λ a k. (u a.0 k.0, k.1)) as' h
 
-pub code_tells : (t : Ty) → ty_of_mark (code t) ≡ some t
+pub code_tells : (t : Ty) → ty_of_mark (code t) ≡ Some t
 unfolding ty_of_mark code
 code_tells Int = refl
 code_tells Boolean = refl
@@ -123,16 +123,16 @@ code-marks Str = (refl, refl)
 code-marks Collection = (refl, refl)
 code-marks Unknown = (refl, refl)
 
-pub kept_some : {A : Type 0} (g : Bool) (l : ℕ) (p : Rule Ty) (k : Ty → Rule A) (T : Table) (t : Ty) → g ≡ false → ty_of_mark (get_or T l 0) ≡ some t → kept (ask g l p k) T ≡ kept (k t) T
+pub kept_some : {A : Type 0} (g : Bool) (l : ℕ) (p : Rule Ty) (k : Ty → Rule A) (T : Table) (t : Ty) → g ≡ false → ty_of_mark (get_or T l 0) ≡ Some t → kept (ask g l p k) T ≡ kept (k t) T
 unfolding kept
 kept_some g l p k T t h e = rw (e, h, kept)
 
-pub kept_again : {A : Type 0} (g : Bool) (l : ℕ) (p : Rule Ty) (k : Ty → Rule A) (T : Table) (t : Ty) → g ≡ true → ty_of_mark (get_or T l 0) ≡ some t
+pub kept_again : {A : Type 0} (g : Bool) (l : ℕ) (p : Rule Ty) (k : Ty → Rule A) (T : Table) (t : Ty) → g ≡ true → ty_of_mark (get_or T l 0) ≡ Some t
     → kept (ask g l p k) T ≡ retyped l (kept p T).res (kept p T).table (λ u U. kept (k u) U)
 unfolding kept
 kept_again g l p k T t h e = rw (e, h, kept)
 
-pub kept_unmarked : {A : Type 0} (g : Bool) (l : ℕ) (p : Rule Ty) (k : Ty → Rule A) (T : Table) → ty_of_mark (get_or T l 0) ≡ none
+pub kept_unmarked : {A : Type 0} (g : Bool) (l : ℕ) (p : Rule Ty) (k : Ty → Rule A) (T : Table) → ty_of_mark (get_or T l 0) ≡ None
     → kept (ask g l p k) T ≡ stored (kept p T).res (set (kept p T).table l (code_r (kept p T).res)) (λ t T1. kept (k t) T1)
 unfolding kept
 kept_unmarked g l p k T e = rw (e, kept)

@@ -1,11 +1,11 @@
 -- The expressions of a sheet that is loaded stand in the order of its lines. Assumes nothing.
 use mathlib.Core.Path.{◌≡◌, refl, ap}
 use mathlib.Core.List.{List, [], ◌∷◌, ◌++◌, map, append-nil}
-use mathlib.Core.Option
 use Prim.Native.Nat.{ℕ, zero, suc, ◌+◌, ◌<◌, ◌≤◌}
 use native.Mathlib.Omega.{arith}
-use lib.ListN.{length, take, drop, get_elem?}
+use lib.ListN.{length, take, drop}
 use lib.Seq.{drop-drop}
+use Rattle.std.specs.Prelude.{option_map, slice_get}
 use Rattle.grammar.specs.Grammar as grammar
 use Rattle.sheet.specs.Line.{Line}
 use Rattle.sheet.specs.Load.{lines, load, copies, sorts}
@@ -122,7 +122,7 @@ in_items ts = all_exprs (map item_of ts)
 
 -- of an expression that may be there
 abbrev in_first : List Node → List Expr
-in_first ts = present (Option.map expr_of (get_elem? ts 0))
+in_first ts = present (option_map expr_of (slice_get ts 0))
 
 -- g has the expressions of trees of the sort s: those of a tree come before those of the trees behind it
 abbrev Leads : List ℕ → ℕ → grammar.Sort → (List Node → List Expr) → Type 0
@@ -188,7 +188,7 @@ module _ {S : List ℕ} {n : ℕ} (i : ℕ) (l : Line) (ps : Nodes) (fs : Formed
       (from (end_at S i) (in_first (nodes c.back)) (omega (arith, spread c.front_held))
       (maybe m c.mid (end_at S i) c.back c.back_formed c.back_held))
 
-second : (ts : List Node) → get_elem? ts 1 ≡ get_elem? (drop 1 ts) 0
+second : (ts : List Node) → slice_get ts 1 ≡ slice_get (drop 1 ts) 0
 second [] = refl
 second (t ∷ ts) = refl
 

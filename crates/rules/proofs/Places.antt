@@ -3,11 +3,11 @@ use mathlib.Core.Path.{◌≡◌, refl, sym, ◌∙◌}
 use mathlib.Core.Logic.{◌≢◌}
 use mathlib.Core.List.{List}
 use mathlib.Core.Bool.{Bool, true, false}
-use mathlib.Core.Option.{none, some}
 use Prim.Native.Nat.{ℕ, suc, ◌-◌, ◌<◌, ◌≤◌}
 use native.Mathlib.Omega.{arith}
 use lib.Dec.{ltb}
 use borrow.Author.Tests.{ltb-true, ltb-false, le-ltb}
+use Rattle.std.specs.Prelude.{Some, None}
 use Rattle.grammar.specs.Grammar as grammar
 use Rattle.sheet.specs.Held.{Among, spanless}
 use Rattle.sheet.specs.Line.{Line}
@@ -38,10 +38,10 @@ by_place {P} k f g = by_cases (ltb k 14) refl
     by_cases false q = let h = ltb-false k 14 q in rw (let e : k ≡ fourteen_more (k - 14) = omega (arith, h) in e) (g (k - 14))
 
 -- a record as an expression: its span, and that it is a dot only where its kind is `kinds.dot`
-as_expr : (i : ℕ) (l : Line) (ps : Nodes) → (span (expr_of (node i l ps)) ≡ span_of l) × (l.kind ≢ kinds.dot → dot_of (expr_of (node i l ps)) ≡ none)
+as_expr : (i : ℕ) (l : Line) (ps : Nodes) → (span (expr_of (node i l ps)) ≡ span_of l) × (l.kind ≢ kinds.dot → dot_of (expr_of (node i l ps)) ≡ None)
 unfolding span dot_of expr_of
 as_expr i l ps =
-    by_place {P = λ k. l.kind - kinds.int ≡ k → (span (expr_of (node i l ps)) ≡ span_of l) × (l.kind ≢ kinds.dot → dot_of (expr_of (node i l ps)) ≡ none)} (l.kind - kinds.int)
+    by_place {P = λ k. l.kind - kinds.int ≡ k → (span (expr_of (node i l ps)) ≡ span_of l) × (l.kind ≢ kinds.dot → dot_of (expr_of (node i l ps)) ≡ None)} (l.kind - kinds.int)
     ((λ e. rw e (refl, λ h. refl))
     also (λ e. rw e (refl, λ h. refl))
     also (λ e. rw e (refl, λ h. refl))
@@ -120,7 +120,7 @@ module _ {s S : List ℕ} (d : Loaded s S) (i : ℕ) where
   unfolding place_at node_span
   unplaced h = there_or_not (λ w. let t = stands d i w in rw t.here (t.spells.bare (rw (← t.says.kind) h))) no_place
 
-  pub not_dot_at : kind_at S i ≢ kinds.dot → dot_of (expr_at s i) ≡ none
+  pub not_dot_at : kind_at S i ≢ kinds.dot → dot_of (expr_at s i) ≡ None
   unfolding expr_at
   not_dot_at h =
       there_or_not
@@ -133,6 +133,6 @@ module _ {s S : List ℕ} (d : Loaded s S) (i : ℕ) where
       let w = is_there (λ e. omega (arith, a.0)) in
       record { within = w; kind = a; after = all_le (stands d i w).held }
 
-  pub dot_there : kind_at S i ≡ kinds.dot → dot_of (expr_at s i) ≡ some (record { base = expr_at s (suc i); name = name_at s S i; nspan = nspan_at s S i })
+  pub dot_there : kind_at S i ≡ kinds.dot → dot_of (expr_at s i) ≡ Some (record { base = expr_at s (suc i); name = name_at s S i; nspan = nspan_at s S i })
   unfolding dot_of
   dot_there e = rw (dot_at_lem d (here_at (omega (arith, e), omega (arith, e))) e).0 refl

@@ -2,9 +2,9 @@
 use mathlib.Core.Path.{◌≡◌, refl}
 use mathlib.Core.List.{List, [], ◌∷◌}
 use mathlib.Core.Bool.{Bool, true, false}
-use mathlib.Core.Option.{Option, none, some}
 use Prim.Native.Nat.{ℕ}
 use lib.Dec.{leb}
+use Rattle.std.specs.Prelude.{Option, Some, None}
 use Rattle.rules.specs.Text.{Name, Piece}
 use Rattle.rules.specs.Ast.{Type', Arg, of_type, of_int, m_of_n, AssignOp, Expr, leaf, unary, binary, field, call, wrap, Exprs, nil, more, Param, Clause, limits, denies, mints, after, Entry, Stmt, guard, bind, emit, assign, do'}
 use Rattle.rules.specs.Asking.{Refusal, Rule, ret, refuse, ◌>>=◌, ◌>>◌, expect, provided, if_some, if_some_else, for_each}
@@ -50,13 +50,13 @@ p_expect false n at ps h = p_refuse _ h
 
 pub p_some : {A : Type 0} (o : Option A) {f : A → Rule Unit} → ((a : A) → Pure (f a)) → Pure (if_some o f)
 unfolding if_some
-p_some none k = p_ret tt
-p_some (some a) k = k a
+p_some None k = p_ret tt
+p_some (Some a) k = k a
 
 pub p_else : {A : Type 0} (o : Option A) {f : A → Rule Unit} {p : Rule Unit} → ((a : A) → Pure (f a)) → Pure p → Pure (if_some_else o f p)
 unfolding if_some_else
-p_else none k h = h
-p_else (some a) k h = k a
+p_else None k h = h
+p_else (Some a) k h = k a
 
 pub p_for : {A : Type 0} (as' : List A) {f : A → Rule Unit} → ((a : A) → Pure (f a)) → Pure (for_each as' f)
 unfolding for_each
@@ -90,8 +90,8 @@ p_known t = search pure
 
 p_as : (o : Option ℕ) (t : Type') → Pure (storable_as o t)
 unfolding storable_as
-p_as none t = p_known t
-p_as (some k) t = p_keyed t k
+p_as None t = p_known t
+p_as (Some k) t = p_keyed t k
 
 pub p_storable : (t : Type') → Pure (storable t)
 unfolding storable

@@ -1,10 +1,10 @@
 -- The record at a line that is no expression, by the line's kind. Assumes nothing.
 use mathlib.Core.Path.{◌≡◌, refl, sym, ap, ◌∙◌, subst}
 use mathlib.Core.List.{List, [], ◌∷◌, ◌++◌, map, append-nil}
-use mathlib.Core.Option
 use Prim.Native.Nat.{ℕ, suc, ◌+◌, ◌<◌, ◌≤◌}
 use native.Mathlib.Omega.{arith}
-use lib.ListN.{length, length-append, get_or, take, drop, get_elem?}
+use lib.ListN.{length, length-append, get_or, take, drop}
+use Rattle.std.specs.Prelude.{option_map, slice_get}
 use Rattle.grammar.specs.Grammar as grammar
 use Rattle.sheet.specs.Held.{Flagged}
 use Rattle.sheet.specs.Line.{Line}
@@ -52,7 +52,7 @@ drop_both (a ∷ as') bs cs j k e f = rw (← e, let z : suc (length as') + k �
 
 module _ (i : ℕ) (l : Line) (ps : Nodes) (P Q R : List Node) where
   after_from : (a b : ℕ) → l.kind ≡ kinds.after → l.parts ≡ (a, grammar.Expr) ∷ (b, grammar.Expr) ∷ [] → nodes ps ≡ P ++ Q → length P ≡ a
-      → clause_of (node i l ps) ≡ after (Option.map expr_of (get_elem? P 0)) (Option.map expr_of (get_elem? Q 0))
+      → clause_of (node i l ps) ≡ after (option_map expr_of (slice_get P 0)) (option_map expr_of (slice_get Q 0))
   unfolding clause_of
   after_from a b k p n e = rw (k, p, n, take_first P Q a e, drop_first P Q a e) refl
 
@@ -179,7 +179,7 @@ module _ {s S : List ℕ} (d : Loaded s S) {i : ℕ} (h : Here S grammar.Clause 
 
   -- `after`: a target and a `from`, each of which may be there
   pub after_at : kind_at S i ≡ kinds.after
-      → (clause_at s i ≡ after (Option.map expr_of (get_elem? (nodes_at s (target_count S i) (suc i)) 0)) (Option.map expr_of (get_elem? (nodes_at s (from_count S i) (skip S (target_count S i) (suc i))) 0)))
+      → (clause_at s i ≡ after (option_map expr_of (slice_get (nodes_at s (target_count S i) (suc i)) 0)) (option_map expr_of (slice_get (nodes_at s (from_count S i) (skip S (target_count S i) (suc i))) 0)))
       × Row S grammar.Expr (target_count S i + from_count S i) (suc i)
       × (skip S (target_count S i + from_count S i) (suc i) ≡ end_at S i)
       × (target_count S i ≤ 1)
@@ -262,7 +262,7 @@ module _ {s S : List ℕ} (d : Loaded s S) {i : ℕ} (w : i < line_count S) wher
       (rw (et.here, one_part d w grammar.Ty p, et.spells.name) refl, row_first (group d w grammar.Ty 1 p).2)
 
   pub field_at_lem : kind_at S i ≡ kinds.field
-      → (field_at s i ≡ record { name = name_at s S i; nspan = place_at s i; ty = type_at s (suc i); default = Option.map expr_of (get_elem? (nodes_at s (default_count S i) (end_at S (suc i))) 0) })
+      → (field_at s i ≡ record { name = name_at s S i; nspan = place_at s i; ty = type_at s (suc i); default = option_map expr_of (slice_get (nodes_at s (default_count S i) (end_at S (suc i))) 0) })
       × Here S grammar.Ty (suc i)
       × Row S grammar.Expr (default_count S i) (end_at S (suc i))
       × (default_count S i ≤ 1)

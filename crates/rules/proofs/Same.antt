@@ -8,7 +8,7 @@ use denote.Enum.Declared.{tag_of}
 use Rattle.rules.specs.Asking.{code}
 use Rattle.rules.specs.Types.{eq_ty}
 use Rattle.rules.specs.declared.ty.Ty.{Ty}
-use Rattle.rules.specs.declared.ty.Ty.TheVariants.{Int, Boolean, Address, Asset, Word64, Name as TName, Time, Str, Collection, Unknown}
+use Rattle.rules.specs.declared.ty.Ty.TheVariants.{Int, Bool as Boolean, Address, Asset, Word64, Name as TName, Time, Str, Collection, Unknown}
 use Rattle.rules.specs.contracts.ty.Ty.{the_type}
 
 code_tag : (t : Ty) → code t ≡ suc (tag_of the_type t)

@@ -2,9 +2,9 @@
 use mathlib.Core.Path.{◌≡◌, refl, sym, ap, ◌∙◌}
 use mathlib.Core.List.{List, [], ◌∷◌, ◌++◌}
 use Prim.Native.Nat.{ℕ, zero, suc, ◌+◌, ◌-◌, ◌*◌, ◌<◌, ◌≤◌}
+use native.Mathlib.Numerals.{add-one}
 use native.Mathlib.Omega.{arith}
-use mathlib.Core.Option.{some}
-use lib.ListN.{length, get_elem?, take, length-take}
+use lib.ListN.{length, take, length-take}
 use Rattle.grammar.specs.Grammar.{Sort, Contract}
 use Rattle.sheet.specs.Line.{Line}
 use Rattle.sheet.specs.Load.{lines, load, sorts, copies}
@@ -14,7 +14,7 @@ use Rattle.sheet.specs.Held.{Says, Held, held, HeldAll, no_tree, tree, Every, ev
 use Rattle.sheet.specs.Promise.{answer, scratch_after}
 use Rattle.sheet.specs.Scan.{scan_all}
 use Rattle.sheet.specs.declared.refusal.Refused.{Refused}
-use Rattle.std.specs.Prelude.{Result, Ok}
+use Rattle.std.specs.Prelude.{Result, Ok, Some, slice_get}
 use Rattle.sheet.proofs.Holds.{all_le}
 use Rattle.sheet.proofs.Loaded.{whole, loaded, left_size, left_few, answer_lines}
 use Rattle.rules.specs.Ast.{more as more_exprs, blank_node, nodes, exprs_of}
@@ -240,12 +240,21 @@ row_take zero h r = stop
 row_take (suc k) h (next x r) = next x (row_take k (omega arith) r)
 row_take (suc k) h stop = absurd (omega arith)
 
+-- one more behind them
+row_last : {S : List ℕ} {σ : Sort} {k i : ℕ} → Row S σ k i → Here S σ (skip S k i) → Row S σ (suc k) i
+unfolding skip
+row_last stop h = next h stop
+row_last (next x r) h = next x (row_last r h)
+
+pub row_more : (S : List ℕ) (σ : Sort) (k i at : ℕ) → Row S σ k i → Here S σ at → at ≡ skip S k i → Row S σ (k + 1) i
+row_more S σ k i at r h e = rw (add-one k) (row_last r (rw e at h))
+
 pub skip_next : (S : List ℕ) (k i : ℕ) → skip S (suc k) i ≡ end_at S (skip S k i)
 unfolding skip
 skip_next S zero i = refl
 skip_next S (suc k) i = skip_next S k (end_at S i)
 
-pub node_nth : {s S : List ℕ} {σ : Sort} {m i : ℕ} (k : ℕ) → Loaded s S → k < m → Row S σ m i → get_elem? (nodes_at s m i) k ≡ some (node_at s (skip S k i))
+pub node_nth : {s S : List ℕ} {σ : Sort} {m i : ℕ} (k : ℕ) → Loaded s S → k < m → Row S σ m i → slice_get (nodes_at s m i) k ≡ Some (node_at s (skip S k i))
 unfolding skip
 node_nth {m = suc m} {i} zero d h (next x r) = rw (nodes_next d m i x.within) refl
 node_nth {m = suc m} {i} (suc k) d h (next x r) = rw (nodes_next d m i x.within) (node_nth k d (omega arith) r)

@@ -2,10 +2,9 @@
 use mathlib.Core.Path.{◌≡◌, refl}
 use mathlib.Core.List.{List, [], ◌∷◌, zip}
 use mathlib.Core.Bool.{Bool}
-use mathlib.Core.Option.{Option, none, some}
 use Prim.Native.Nat.{ℕ, zero, suc}
 use native.Mathlib.Omega.{arith}
-use lib.ListN.{get_elem?}
+use Rattle.std.specs.Prelude.{Option, Some, None, slice_get}
 use Rattle.rules.specs.Text.{Name}
 use Rattle.rules.specs.Ast.{AssignOp, Expr, leaf, unary, binary, field, call, wrap, Exprs, nil, more, Param, Field, Clause, limits, denies, mints, after, Entry, Stmt, guard, bind, emit, assign, do', list, line_after}
 use Rattle.rules.specs.Asking.{Rule, ret, ◌>>◌, fresh, ok, for_each, if_some}
@@ -60,12 +59,12 @@ module _ (Q : Bool → ℕ → Rule Ty → Type 0) where
   w_do Γ e h = c_bind Q Afresh (ty_of Γ e) _ (c_ty_of Q Afresh Γ e h) (λ _. w_use Γ e h)
 
   -- the rule is asked only of what the option holds
-  w_some : {A : Type 0} (o : Option A) (f : A → Rule Unit) → ((a : A) → o ≡ some a → C Q Afresh (f a)) → C Q Afresh (if_some o f)
+  w_some : {A : Type 0} (o : Option A) (f : A → Rule Unit) → ((a : A) → o ≡ Some a → C Q Afresh (f a)) → C Q Afresh (if_some o f)
   unfolding if_some
-  w_some none f k = tt
-  w_some (some a) f k = k a refl
+  w_some None f k = tt
+  w_some (Some a) f k = k a refl
 
-  fits_at : (Γ : Env) (es : Exprs) (k : ℕ) (a : Expr) → FitsAll Q Afresh Γ es → get_elem? (list es) k ≡ some a → Fits Q Afresh Γ a
+  fits_at : (Γ : Env) (es : Exprs) (k : ℕ) (a : Expr) → FitsAll Q Afresh Γ es → slice_get (list es) k ≡ Some a → Fits Q Afresh Γ a
   unfolding list
   fits_at Γ nil k a h e = absurd (let z : ◌≡◌ {A = ℕ} 0 1 = cc in omega arith)
   fits_at Γ (more x es) zero a h e = let q : x ≡ a = cc in rw q at h.0
@@ -77,7 +76,7 @@ module _ (Q : Bool → ℕ → Rule Ty → Type 0) where
       w_call Γ e _ h
       (λ c k.
       c_for Q Afresh _ _
-      (λ i. w_some (get_elem? (list c.args) i) _ (λ a q. c_bind Q Afresh (ty_of Γ a) _ (c_ty_of Q Afresh Γ a (fits_at Γ c.args i a k q)) (λ _. c_expect Q Afresh _ _ _ _))))
+      (λ i. w_some (slice_get (list c.args) i) _ (λ a q. c_bind Q Afresh (ty_of Γ a) _ (c_ty_of Q Afresh Γ a (fits_at Γ c.args i a k q)) (λ _. c_expect Q Afresh _ _ _ _))))
 
   w_emit_field : (Γ : Env) (e : Expr) (p : Param) → Fits Q Afresh Γ e → C Q Afresh (check_emit_field Γ e p)
   unfolding check_emit_field

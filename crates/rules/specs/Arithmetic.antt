@@ -1,7 +1,5 @@
 -- `check_arithmetic`: sums that may overflow unchecked.
-use Rattle.std.specs.Prelude.{ℕ, List, [], ◌∷◌, ◌++◌, map, Bool, true, false, not, ◌&&◌, ◌||◌, eqb}
-use Rattle.std.proofs.Math.Option
-use Rattle.std.proofs.Math.Option.{Option, none, some}
+use Rattle.std.specs.Prelude.{ℕ, List, [], ◌∷◌, ◌++◌, map, Bool, true, false, not, ◌&&◌, ◌||◌, eqb, Option, Some, None, option_map, is_some}
 use Rattle.text.specs.Text.{same}
 use Rattle.rules.specs.Text.{Name, is, among, get, Piece, lit, raw}
 use Rattle.rules.specs.Ast.{BinOp, Or, And, Eq, Ne, Lt, Gt, Le, Ge, Add, Sub, Mul, Div, Rem, Shr, AssignOp, Set, AddTo, SubFrom, Expr, leaf, unary, binary, field, call, wrap, Exprs, nil, more, Param, Clause, limits, denies, mints, after, Entry, Stmt, guard, bind, emit, assign, do'}
@@ -9,7 +7,7 @@ use Rattle.rules.specs.Asking.{Rule, ret, expect, if_some, for_each}
 use Rattle.rules.specs.declared.ty.Ty.{Ty}
 use Rattle.rules.specs.Types.{int_of}
 use Rattle.rules.specs.Model.{is_asset_param}
-use Rattle.rules.specs.Typing.{ident_of, dot_of, is_some, leaf_has}
+use Rattle.rules.specs.Typing.{ident_of, dot_of, leaf_has}
 use Rattle.grammar.specs.Operators as ops
 
 unfoldable pub any : {A : Type 0} → (A → Bool) → List A → Bool
@@ -50,9 +48,9 @@ acknowledged (wrap l s w e) = true
 unfoldable pub amount_of : Expr → List Name → Bool
 amount_of value names =
     elim (dot_of value) [
-      | none ↦ false
-      | some d ↦
-          is d.name "amount" && elim (ident_of d.base) [ none ↦ false | some x ↦ among x names ]
+      | None ↦ false
+      | Some d ↦
+          is d.name "amount" && elim (ident_of d.base) [ None ↦ false | Some x ↦ among x names ]
     ]
 
 unfoldable pub is_minted_amount : Expr → Entry → Bool
@@ -122,15 +120,15 @@ limits_bound entry x = any (limits_cap x) entry.clauses
 unfoldable pub same_target : Expr → Expr → Bool
 same_target a b =
     elim (ident_of a) [
-      | none ↦ false
-      | some x ↦
-          elim (ident_of b) [ none ↦ false | some y ↦ same x y ]
+      | None ↦ false
+      | Some x ↦
+          elim (ident_of b) [ None ↦ false | Some y ↦ same x y ]
     ]
 
 -- the terms without the first that is the target, if one is
 unfoldable pub without : (target : Expr) → List Expr → Option (List Expr)
-without target [] = none
-without target (t ∷ ts) = elim (same_target target t) [ true ↦ some ts | false ↦ Option.map (λ us. t ∷ us) (without target ts) ]
+without target [] = None
+without target (t ∷ ts) = elim (same_target target t) [ true ↦ Some ts | false ↦ option_map (λ us. t ∷ us) (without target ts) ]
 
 unfoldable pub is_sum : Expr → Bool
 is_sum (leaf l s k) = false
@@ -142,9 +140,9 @@ is_sum (wrap l s w e) = false
 
 -- what an assignment adds to its target, if it adds
 unfoldable pub addends : AssignOp → (target value : Expr) → Option (List Expr)
-addends Set target value = elim (is_sum value) [ true ↦ without target (sum_terms value) | false ↦ none ]
-addends AddTo target value = some (sum_terms value)
-addends SubFrom target value = none
+addends Set target value = elim (is_sum value) [ true ↦ without target (sum_terms value) | false ↦ None ]
+addends AddTo target value = Some (sum_terms value)
+addends SubFrom target value = None
 
 unfoldable pub is_mints : Clause → Bool
 is_mints (limits e) = false
@@ -169,7 +167,7 @@ check_sum entry params (guard e) = ret tt
 check_sum entry params (bind x e) = ret tt
 check_sum entry params (emit x es) = ret tt
 check_sum entry params (assign s op target value) =
-    if_some (elim (acknowledged value) [ true ↦ none | false ↦ addends op target value ]) λ terms.
+    if_some (elim (acknowledged value) [ true ↦ None | false ↦ addends op target value ]) λ terms.
     if_some (ident_of target) λ name.
     expect (is_some (get name params) || not (any (λ t. not (bounded entry t)) terms) || limits_bound entry name) 45 s (overflow_text name)
 check_sum entry params (do' e) = ret tt

@@ -1,11 +1,10 @@
 -- How a rule is written: it gives a value, refuses, or asks a line's type and goes on with the answer.
 -- `fresh` is what a rule means: its result, and its askings in the order in which they end.
-use Rattle.std.specs.Prelude.{ℕ, zero, suc, List, [], ◌∷◌, ◌++◌, Bool, true, false, ◌&&◌, ◌||◌, cond, eqb}
-use Rattle.std.proofs.Math.Option.{Option, none, some}
+use Rattle.std.specs.Prelude.{ℕ, zero, suc, List, [], ◌∷◌, ◌++◌, Bool, true, false, ◌&&◌, ◌||◌, cond, eqb, Option, Some, None}
 use Rattle.rules.specs.Text.{Piece}
 use Rattle.rules.specs.Codes as codes
 use Rattle.rules.specs.declared.ty.Ty.{Ty}
-use Rattle.rules.specs.declared.ty.Ty.TheVariants.{Int, Boolean, Address, Asset, Word64, Name as TName, Time, Str, Collection, Unknown}
+use Rattle.rules.specs.declared.ty.Ty.TheVariants.{Int, Bool as Boolean, Address, Asset, Word64, Name as TName, Time, Str, Collection, Unknown}
 
 unfoldable pub code : Ty → ℕ
 code Int = codes.int
@@ -57,13 +56,13 @@ provided false p = ret tt
 
 -- `if let Some(a) = o`
 unfoldable pub if_some : {A : Type 0} → Option A → (A → Rule Unit) → Rule Unit
-if_some none f = ret tt
-if_some (some a) f = f a
+if_some None f = ret tt
+if_some (Some a) f = f a
 
 -- `if let Some(a) = o`, with an `else`
 unfoldable pub if_some_else : {A : Type 0} → Option A → (A → Rule Unit) → Rule Unit → Rule Unit
-if_some_else none f p = p
-if_some_else (some a) f p = f a
+if_some_else None f p = p
+if_some_else (Some a) f p = f a
 
 -- `for a in list`
 unfoldable pub for_each : {A : Type 0} → List A → (A → Rule Unit) → Rule Unit

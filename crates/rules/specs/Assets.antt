@@ -1,21 +1,19 @@
 -- Asset use (`asset_calls_consumed`), and the flow of wrapping values to narrow slots (`narrow_wrapping`).
-use Rattle.std.specs.Prelude.{ℕ, Bool, true, false, cond, not, ◌&&◌, ◌||◌}
+use Rattle.std.specs.Prelude.{ℕ, Bool, true, false, cond, not, ◌&&◌, ◌||◌, Option, Some, None, slice_get, is_some}
 use mathlib.Core.List.{List, [], ◌∷◌, ◌++◌, zip}
-use Rattle.std.proofs.Math.Option.{Option, none, some}
-use Rattle.std.proofs.Math.ListN.{get_elem?}
 use Rattle.rules.specs.Text.{Name, is, Piece, lit, raw}
 use Rattle.rules.specs.Ast.{Arg, of_type, of_int, m_of_n, Checked, Wrapping, Expr, leaf, unary, binary, field, call, wrap, Exprs, nil, more, Entry, Stmt, guard, bind, emit, assign, do', span, list, type_name, args}
 use Rattle.rules.specs.Asking.{Rule, ret, ◌>>◌, expect, provided, if_some, if_some_else, for_each}
 use Rattle.rules.specs.Types.{narrow_max}
 use Rattle.rules.specs.Model.{Model, field_named, event_named}
-use Rattle.rules.specs.Typing.{ident_of, ident_is, dot_of, call_of, is_some, leaf_has}
+use Rattle.rules.specs.Typing.{ident_of, ident_is, dot_of, call_of, leaf_has}
 use Rattle.rules.specs.Statements.{narrow_field}
 
 -- ------------------------------------------------------------ asset use
 
 -- a call of this callee is an asset call
 unfoldable pub makes_asset : (callee : Expr) → Bool
-makes_asset callee = elim (dot_of callee) [ some d ↦ is d.name "split" | none ↦ ident_is callee "mint" ]
+makes_asset callee = elim (dot_of callee) [ Some d ↦ is d.name "split" | None ↦ ident_is callee "mint" ]
 
 abbrev pub dropped_text : List Piece
 dropped_text = lit "an asset made here would be dropped; bind it with `let` or pass it straight to send, merge or credit" ∷ []
@@ -82,14 +80,14 @@ reaches wrapped narrow value slot =
     expect (not (is_some narrow && wraps wrapped value)) 22 (span value) (reaches_text slot)
 
 unfoldable pub narrow_arg : Option Arg → Option ℕ
-narrow_arg none = none
-narrow_arg (some (of_type t)) = narrow_max (type_name t)
-narrow_arg (some (of_int n)) = none
-narrow_arg (some m_of_n) = none
+narrow_arg None = None
+narrow_arg (Some (of_type t)) = narrow_max (type_name t)
+narrow_arg (Some (of_int n)) = None
+narrow_arg (Some m_of_n) = None
 
 -- of whatever state field has the name: the second argument of its type
 unfoldable pub narrow_values : Model → Name → Option ℕ
-narrow_values m x = elim (field_named m x) [ none ↦ none | some f ↦ narrow_arg (get_elem? (args f.ty) 1) ]
+narrow_values m x = elim (field_named m x) [ None ↦ None | Some f ↦ narrow_arg (slice_get (args f.ty) 1) ]
 
 unfoldable pub narrow_set : Model → (wrapped : List Name) → Expr → Rule Unit
 narrow_set m wrapped e =
@@ -97,7 +95,7 @@ narrow_set m wrapped e =
     if_some (dot_of c.callee) λ d.
     provided (is d.name "set") (
     if_some (ident_of d.base) λ map.
-    if_some (get_elem? (list c.args) 1) λ value.
+    if_some (slice_get (list c.args) 1) λ value.
     reaches wrapped (narrow_values m map) value (values_slot map))
 
 unfoldable pub narrow_stmt : Model → (wrapped : List Name) → Stmt → Rule Unit

@@ -1,8 +1,5 @@
 -- The tree of ast.rs, from the tree of a sheet's records. Each expression has its line, counted from 0, and its span.
-use Rattle.std.specs.Prelude.{ℕ, suc, ◌+◌, ◌-◌, List, [], ◌∷◌, map, get_or, take, drop}
-use Rattle.std.proofs.Math.Option
-use Rattle.std.proofs.Math.Option.{Option, none, some}
-use Rattle.std.proofs.Math.ListN.{get_elem?}
+use Rattle.std.specs.Prelude.{ℕ, suc, ◌+◌, ◌-◌, List, [], ◌∷◌, map, get_or, take, drop, Option, Some, None, option_map, slice_get}
 use Rattle.grammar.specs.Grammar.{Contract}
 use Rattle.sheet.specs.Line.{Line}
 use Rattle.sheet.specs.Tree.{Node, node, Nodes, nil as done, more as then}
@@ -128,12 +125,12 @@ abbrev mutual
 
 -- which leaf the expression is, where it has no parts
 unfoldable pub leaf_of : Expr → Option Leaf
-leaf_of (leaf l s k) = some k
-leaf_of (unary l s o e) = none
-leaf_of (binary l s o a b) = none
-leaf_of (field l s e n m) = none
-leaf_of (call l s c es) = none
-leaf_of (wrap l s w e) = none
+leaf_of (leaf l s k) = Some k
+leaf_of (unary l s o e) = None
+leaf_of (binary l s o a b) = None
+leaf_of (field l s e n m) = None
+leaf_of (call l s c es) = None
+leaf_of (wrap l s w e) = None
 
 unfoldable pub list : Exprs → List Expr
 list nil = []
@@ -239,7 +236,7 @@ abbrev group_count : Line → ℕ → ℕ
 group_count l k = (get_or l.parts k (0, Contract)).0
 
 abbrev field_from : Line → List Node → Field
-field_from l ns = record { name = l.name; nspan = span_of l; ty = type_of (at ns 0); default = Option.map expr_of (get_elem? ns 1) }
+field_from l ns = record { name = l.name; nspan = span_of l; ty = type_of (at ns 0); default = option_map expr_of (slice_get ns 1) }
 
 unfoldable pub field_of : Node → Field
 field_of (node i l ns) = field_from l (nodes ns)
@@ -253,7 +250,7 @@ clause_kinds =
     (λ l ns. limits (expr_in ns 0))
     ∷ (λ l ns. denies (expr_in ns 0))
     ∷ (λ l ns. mints)
-    ∷ (λ l ns. after (Option.map expr_of (get_elem? (take (group_count l 0) ns) 0)) (Option.map expr_of (get_elem? (drop (group_count l 0) ns) 0)))
+    ∷ (λ l ns. after (option_map expr_of (slice_get (take (group_count l 0) ns) 0)) (option_map expr_of (slice_get (drop (group_count l 0) ns) 0)))
     ∷ []
 
 unfoldable pub clause_of : Node → Clause

@@ -1,12 +1,11 @@
 -- Declarations: state fields, event fields, guardian sets, digest names.
-use Rattle.std.specs.Prelude.{ℕ, ◌+◌, List, [], ◌∷◌, ◌++◌, Bool, true, false, cond, not, ◌&&◌, ◌||◌, eqb, leb, length}
+use Rattle.std.specs.Prelude.{ℕ, ◌+◌, List, [], ◌∷◌, ◌++◌, Bool, true, false, cond, not, ◌&&◌, ◌||◌, eqb, leb, length, Option, Some, None}
 use Prim.Native.String.{String}
-use Rattle.std.proofs.Math.Option.{Option, none, some}
 use Rattle.text.specs.Text.{bytes}
 use Rattle.rules.specs.Text.{Name, is, pick, Piece, lit, raw, dec}
 use Rattle.rules.specs.Ast.{Type', type, Arg, of_type, of_int, m_of_n, Args, anil, amore, type_name, type_span, args}
 use Rattle.rules.specs.Asking.{Rule, ret, ◌>>◌, expect}
-use Rattle.rules.specs.declared.ty.Ty.TheVariants.{Int, Boolean, Address, Asset, Word64, Name as TName, Time, Str, Collection, Unknown}
+use Rattle.rules.specs.declared.ty.Ty.TheVariants.{Int, Bool as Boolean, Address, Asset, Word64, Name as TName, Time, Str, Collection, Unknown}
 use Rattle.rules.specs.Types.{parse_u64, ty_of_decl, eq_ty, is_ty}
 
 -- ------------------------------------------------------------ guardian_bound
@@ -15,16 +14,16 @@ abbrev MAX_GUARDIAN_SET : ℕ
 MAX_GUARDIAN_SET = 256
 
 unfoldable pub members_of : List Arg → Option ℕ
-members_of [] = none
-members_of (of_type t ∷ as') = none
+members_of [] = None
+members_of (of_type t ∷ as') = None
 members_of (of_int text ∷ as') = parse_u64 text
-members_of (m_of_n ∷ as') = none
+members_of (m_of_n ∷ as') = None
 
 -- the type is no guardian set, or has 1 to 256 members
 unfoldable pub guardian_fits : Type' → Bool
 guardian_fits ty =
     not (is (type_name ty) "GuardianSet")
-    || elim (members_of (args ty)) [ none ↦ false | some n ↦ leb 1 n && leb n MAX_GUARDIAN_SET ]
+    || elim (members_of (args ty)) [ None ↦ false | Some n ↦ leb 1 n && leb n MAX_GUARDIAN_SET ]
 
 abbrev pub guardian_text : List Piece
 guardian_text = lit "a guardian set must declare between 1 and " ∷ dec MAX_GUARDIAN_SET ∷ lit " members" ∷ []
@@ -98,11 +97,11 @@ known ty = do
 
 -- how many arguments a Map or Registry takes
 unfoldable pub arity_of : Name → Option ℕ
-arity_of n = pick n (("Map", some 2) ∷ ("Registry", some 1) ∷ []) none
+arity_of n = pick n (("Map", Some 2) ∷ ("Registry", Some 1) ∷ []) None
 
 unfoldable pub storable_as : Option ℕ → Type' → Rule Unit
-storable_as (some arity) ty = storable_keyed ty arity
-storable_as none ty = known ty
+storable_as (Some arity) ty = storable_keyed ty arity
+storable_as None ty = known ty
 
 abbrev pub name_text : List Piece
 name_text = lit "a name cannot be stored, a slot keeps only its first eight bytes; key a map or registry by the name instead" ∷ []

@@ -1,10 +1,8 @@
 -- The same rules with the types kept in a table, on any table; and the marks that a list of askings makes.
-use Rattle.std.specs.Prelude.{ℕ, zero, suc, ◌≤◌, List, [], ◌∷◌, Bool, true, false, ◌||◌, eqb, get_or, set}
-use Rattle.std.proofs.Math.Option.{Option, none, some}
-use Rattle.std.proofs.Math.ListN.{get_elem?}
+use Rattle.std.specs.Prelude.{ℕ, zero, suc, ◌≤◌, List, [], ◌∷◌, Bool, true, false, ◌||◌, eqb, get_or, set, Option, Some, None, slice_get, unwrap_or}
 use Rattle.rules.specs.Asking.{Res, ok, refused, Rule, ret, refuse, ask, Asking, code_r}
 use Rattle.rules.specs.declared.ty.Ty.{Ty}
-use Rattle.rules.specs.declared.ty.Ty.TheVariants.{Int, Boolean, Address, Asset, Word64, Name as TName, Time, Str, Collection, Unknown}
+use Rattle.rules.specs.declared.ty.Ty.TheVariants.{Int, Bool as Boolean, Address, Asset, Word64, Name as TName, Time, Str, Collection, Unknown}
 use Rattle.rules.specs.Codes as codes
 
 abbrev pub Table : Type 0
@@ -16,8 +14,8 @@ types = Int ∷ Boolean ∷ Address ∷ Asset ∷ Word64 ∷ TName ∷ Time ∷ 
 
 -- the type that a mark tells, if it tells one
 unfoldable pub ty_of_mark : ℕ → Option Ty
-ty_of_mark zero = none
-ty_of_mark (suc n) = get_elem? types n
+ty_of_mark zero = None
+ty_of_mark (suc n) = slice_get types n
 
 -- a code of a type
 abbrev pub IsCode : ℕ → Type 0
@@ -25,7 +23,7 @@ IsCode c = (codes.int ≤ c) × (c ≤ codes.unknown)
 
 -- the type that a code tells; Unknown where it is no code
 unfoldable pub ty_from : ℕ → Ty
-ty_from c = elim (ty_of_mark c) [ none ↦ Unknown | some t ↦ t ]
+ty_from c = unwrap_or (ty_of_mark c) Unknown
 
 pub record Kept (A : Type 0) : Type 0 where
   pub res : Res A
@@ -46,8 +44,8 @@ kept (ret a) T = record { res = ok a; table = T }
 kept (refuse r) T = record { res = refused r; table = T }
 kept (ask g l p k) T =
     elim (ty_of_mark (get_or T l 0)) [
-      | none ↦ let o = kept p T in stored o.res (set o.table l (code_r o.res)) (λ t T1. kept (k t) T1)
-      | some t ↦ elim g [ false ↦ kept (k t) T | true ↦ let o = kept p T in retyped l o.res o.table (λ t T1. kept (k t) T1) ]
+      | None ↦ let o = kept p T in stored o.res (set o.table l (code_r o.res)) (λ t T1. kept (k t) T1)
+      | Some t ↦ elim g [ false ↦ kept (k t) T | true ↦ let o = kept p T in retyped l o.res o.table (λ t T1. kept (k t) T1) ]
     ]
 
 unfoldable pub put_if : Bool → Table → ℕ → ℕ → Table

@@ -1,7 +1,6 @@
 -- `check_key_kinds`: one kind of key for each Map or Registry.
-use Rattle.std.specs.Prelude.{ℕ, List, [], ◌∷◌, ◌++◌, Bool, true, false, not, ◌&&◌}
+use Rattle.std.specs.Prelude.{ℕ, List, [], ◌∷◌, ◌++◌, Bool, true, false, not, ◌&&◌, Option, Some, None}
 use Rattle.std.specs.Bool.{beq}
-use Rattle.std.proofs.Math.Option.{Option, none, some}
 use Rattle.text.specs.Text.{same}
 use Rattle.rules.specs.Text.{Name, is, is_one, among, Piece, lit, raw}
 use Rattle.rules.specs.Ast.{Expr, leaf, unary, binary, field, call, wrap, Exprs, nil, more, Param, Clause, limits, denies, mints, after, Entry, Stmt, guard, bind, emit, assign, do', span, type_name}
@@ -17,12 +16,12 @@ Keyed = Name × Expr
 
 -- a keyed call with this callee and these arguments: its map's name, and its key
 unfoldable pub keyed_here : Option Dot → Exprs → List Keyed
-keyed_here none es = []
-keyed_here (some d) nil = []
-keyed_here (some d) (more key es) =
+keyed_here None es = []
+keyed_here (Some d) nil = []
+keyed_here (Some d) (more key es) =
     elim (ident_of d.base) [
-      | none ↦ []
-      | some map ↦
+      | None ↦ []
+      | Some map ↦
           elim (is_one d.name ("set" ∷ "get" ∷ "contains" ∷ "insert" ∷ "remove" ∷ "credit" ∷ "debit" ∷ [])) [ true ↦ (map, key) ∷ [] | false ↦ [] ]
     ]
 
@@ -42,8 +41,8 @@ unfoldable mutual
 -- ------------------------------------------------------------ entry_exprs
 
 unfoldable pub present : Option Expr → List Expr
-present none = []
-present (some e) = e ∷ []
+present None = []
+present (Some e) = e ∷ []
 
 unfoldable pub clause_exprs : List Clause → List Expr
 clause_exprs [] = []
@@ -81,10 +80,10 @@ name_params (p ∷ ps) = elim (is (type_name p.ty) "Q_Name") [ true ↦ p.name �
 
 -- neither a parameter nor a local hides it here
 unfoldable pub is_keyed : Model → Name → Bool
-is_keyed m x = elim (field_named m x) [ none ↦ false | some f ↦ is_one (type_name f.ty) ("Map" ∷ "Registry" ∷ []) ]
+is_keyed m x = elim (field_named m x) [ None ↦ false | Some f ↦ is_one (type_name f.ty) ("Map" ∷ "Registry" ∷ []) ]
 
 unfoldable pub is_name_key : (names : List Name) → Expr → Bool
-is_name_key names key = elim (ident_of key) [ none ↦ false | some x ↦ among x names ]
+is_name_key names key = elim (ident_of key) [ None ↦ false | Some x ↦ among x names ]
 
 unfoldable pub uses_of : Model → (names : List Name) → List Keyed → List Use
 uses_of m names [] = []

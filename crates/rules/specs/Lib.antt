@@ -15,4 +15,5 @@ pub mod Check
 pub mod Verdict
 pub mod Standing
 pub mod Computed
+pub mod Once
 pub mod Operators

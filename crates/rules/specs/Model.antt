@@ -1,6 +1,5 @@
 -- `Model::build`: of model.rs only what the rules read, and the contract's items parted by their kind.
-use Rattle.std.specs.Prelude.{List, [], ◌∷◌, ◌++◌, Bool}
-use Rattle.std.proofs.Math.Option.{Option, none, some}
+use Rattle.std.specs.Prelude.{List, [], ◌∷◌, ◌++◌, Bool, Option, Some, None}
 use Rattle.rules.specs.Text.{Name, is, first_named, last_named}
 use Rattle.rules.specs.Ast.{Field, Param, Event, Entry, Expr, Stmt, Item, state, event, invariant, genesis, entry, type_name}
 
@@ -40,7 +39,7 @@ field_named m x = last_named (λ f. f.name) x m.fields
 -- `model.state.values()`, in sheet order
 unfoldable pub values : List Field → List Field
 values [] = []
-values (f ∷ fs) = elim (last_named (λ g. g.name) f.name fs) [ some g ↦ values fs | none ↦ f ∷ values fs ]
+values (f ∷ fs) = elim (last_named (λ g. g.name) f.name fs) [ Some g ↦ values fs | None ↦ f ∷ values fs ]
 
 -- an event is the first of its name
 unfoldable pub event_named : Model → Name → Option Event

@@ -1,17 +1,15 @@
 -- Statements, conditions, emits and recipients.
-use Rattle.std.specs.Prelude.{ℕ, Bool, true, false, not, ◌&&◌, ◌||◌, leb}
+use Rattle.std.specs.Prelude.{ℕ, Bool, true, false, not, ◌&&◌, ◌||◌, leb, Option, Some, None, slice_get, is_some}
 use mathlib.Core.List.{List, [], ◌∷◌, ◌++◌, zip}
-use Rattle.std.proofs.Math.Option.{Option, none, some}
-use Rattle.std.proofs.Math.ListN.{get_elem?}
 use Rattle.rules.specs.Text.{Name, is, pick, Piece, lit, raw, dec}
 use Rattle.rules.specs.Ast.{AssignOp, Set, AddTo, SubFrom, Wrap, Checked, Wrapping, Expr, leaf, unary, binary, field, call, wrap, Param, Stmt, guard, bind, emit, assign, do', span, list, type_name}
 use Rattle.rules.specs.Asking.{Rule, ret, ◌>>=◌, ◌>>◌, expect, if_some, for_each}
 use Rattle.rules.specs.declared.ty.Ty.{Ty}
-use Rattle.rules.specs.declared.ty.Ty.TheVariants.{Boolean, Address, Asset, Name as TName, Collection, Unknown}
+use Rattle.rules.specs.declared.ty.Ty.TheVariants.{Bool as Boolean, Address, Asset, Name as TName, Collection, Unknown}
 use Rattle.rules.specs.Types.{parse_u128, int_of, narrow_max, ty_of_decl, eq_ty, is_ty, describe, numeric, one_word, compatible}
 use Rattle.rules.specs.Declarations.{type_text}
 use Rattle.rules.specs.Model.{Model, field_named, event_named}
-use Rattle.rules.specs.Typing.{Env, Asked, ident_of, ident_is, dot_of, call_of, is_some, is_name_param, check_keyed_call, typings, ask_of, ty_of}
+use Rattle.rules.specs.Typing.{Env, Asked, ident_of, ident_is, dot_of, call_of, is_name_param, check_keyed_call, typings, ask_of, ty_of}
 
 -- ------------------------------------------------------------ check_emit_fields
 
@@ -41,7 +39,7 @@ check_emit_fields Γ name args =
 
 -- the largest number of the narrow field of this name, whatever hides the name
 unfoldable pub narrow_field : Model → Name → Option ℕ
-narrow_field m x = elim (field_named m x) [ none ↦ none | some f ↦ narrow_max (type_name f.ty) ]
+narrow_field m x = elim (field_named m x) [ None ↦ None | Some f ↦ narrow_max (type_name f.ty) ]
 
 unfoldable pub is_set : AssignOp → Bool
 is_set Set = true
@@ -49,7 +47,7 @@ is_set AddTo = false
 is_set SubFrom = false
 
 unfoldable pub is_address_field : Model → Name → Bool
-is_address_field m x = elim (field_named m x) [ none ↦ false | some f ↦ is (type_name f.ty) "Q_Address" ]
+is_address_field m x = elim (field_named m x) [ None ↦ false | Some f ↦ is (type_name f.ty) "Q_Address" ]
 
 abbrev pub address_text : Name → List Piece
 address_text x = lit "a name cannot become an address; `" ∷ raw x ∷ lit "` authorises signatures and receives sends, and a name window is not a key anyone holds" ∷ []
@@ -88,7 +86,7 @@ literal_into_narrow Γ x value =
     expect (leb literal max) 27 (span value) (literal_text x literal max)
 
 unfoldable pub from_deploy_params : Env → Expr → Bool
-from_deploy_params Γ value = Γ.genesis && elim (dot_of value) [ none ↦ false | some d ↦ ident_is d.base "deploy_params" ]
+from_deploy_params Γ value = Γ.genesis && elim (dot_of value) [ None ↦ false | Some d ↦ ident_is d.base "deploy_params" ]
 
 unfoldable pub slot_fits : Env → AssignOp → Expr → (slot given : Ty) → Bool
 slot_fits Γ Set value slot given =
@@ -142,8 +140,8 @@ expect_predicate Γ e = do
 unfoldable pub positions : (callee : Expr) → List ℕ
 positions callee =
     elim (ident_of callee) [
-      | none ↦ []
-      | some x ↦
+      | None ↦ []
+      | Some x ↦
           pick x (("send", 0 ∷ []) ∷ ("mint_asset", 0 ∷ []) ∷ ("send_asset", 0 ∷ 1 ∷ []) ∷ []) []
     ]
 
@@ -154,6 +152,6 @@ unfoldable pub refuse_name_recipient : Env → Expr → Rule Unit
 refuse_name_recipient Γ e =
     if_some (call_of e) λ c.
     for_each (positions c.callee) λ index.
-    if_some (get_elem? (list c.args) index) λ arg. do
+    if_some (slice_get (list c.args) index) λ arg. do
       ty ← ty_of Γ arg
       expect (not (eq_ty ty TName)) 29 (span arg) recipient_text

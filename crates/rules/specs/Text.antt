@@ -1,17 +1,10 @@
 -- Names, fixed words and messages.
-use Rattle.std.specs.Prelude.{ℕ, zero, suc, ◌+◌, ◌/◌, ◌%◌, List, [], ◌∷◌, ◌++◌, Bool, true, false, eqb}
+use Rattle.std.specs.Prelude.{ℕ, zero, suc, ◌+◌, ◌/◌, ◌%◌, List, [], ◌∷◌, ◌++◌, Bool, true, false, eqb, Option, Some, None}
 use Prim.Native.String.{String}
-use Rattle.std.proofs.Math.Option.{Option, none, some}
-use Rattle.std.specs.Prelude as code
 use Rattle.text.specs.Text.{bytes, same}
 
 abbrev pub Name : Type 0
 Name = List ℕ
-
--- an Option of the definitions as the code has it
-unfoldable pub option_of : {A : Type 0} → Option A → code.Option A
-option_of none = code.None
-option_of (some a) = code.Some a
 
 -- the name is this word
 unfoldable pub is : Name → String → Bool
@@ -34,23 +27,18 @@ among x (y ∷ ys) = elim (same x y) [ true ↦ true | false ↦ among x ys ]
 
 -- the first of a name, whose name f tells
 unfoldable pub first_named : {A : Type 0} → (A → Name) → Name → List A → Option A
-first_named f x [] = none
-first_named f x (a ∷ as') = elim (same x (f a)) [ true ↦ some a | false ↦ first_named f x as' ]
+first_named f x [] = None
+first_named f x (a ∷ as') = elim (same x (f a)) [ true ↦ Some a | false ↦ first_named f x as' ]
 
 -- the last of a name: what a map has that was filled in this order
 unfoldable pub last_named : {A : Type 0} → (A → Name) → Name → List A → Option A
-last_named f x [] = none
+last_named f x [] = None
 last_named f x (a ∷ as') =
-    elim (last_named f x as') [ some b ↦ some b | none ↦ elim (same x (f a)) [ true ↦ some a | false ↦ none ] ]
-
--- the first, or else the second
-unfoldable pub or_else : {A : Type 0} → Option A → Option A → Option A
-or_else none o = o
-or_else (some a) o = some a
+    elim (last_named f x as') [ Some b ↦ Some b | None ↦ elim (same x (f a)) [ true ↦ Some a | false ↦ None ] ]
 
 -- what a map has that was filled in this order
 unfoldable pub get : {A : Type 0} → Name → List (Name × A) → Option A
-get x es = elim (last_named (λ e. e.0) x es) [ none ↦ none | some e ↦ some e.1 ]
+get x es = elim (last_named (λ e. e.0) x es) [ None ↦ None | Some e ↦ Some e.1 ]
 
 -- A message: fixed texts, names and numbers, in order.
 pub data Piece : Type 0 where

@@ -1,15 +1,13 @@
 -- Declared types. Names are those of types.rs, where it has one; `is_integer_type` is model.rs's.
-use Rattle.std.specs.Prelude.{ℕ, List, [], ◌∷◌, Bool, true, false, ◌&&◌, ◌||◌, eqb, leb}
+use Rattle.std.specs.Prelude.{ℕ, List, [], ◌∷◌, Bool, true, false, ◌&&◌, ◌||◌, eqb, leb, Option, Some, None, slice_get}
 use Prim.Native.String.{String}
-use Rattle.std.proofs.Math.Option.{Option, none, some}
-use Rattle.std.proofs.Math.ListN.{get_elem?}
 use Rattle.text.specs.Text.{all}
 use Rattle.text.specs.Field.{value_from}
 use Rattle.rules.specs.Text.{Name, is_one, pick}
 use Rattle.rules.specs.Ast.{Type', Arg, of_type, of_int, m_of_n, Leaf, int, id, date, str, caller, native, inasset, now, Expr, leaf_of, type_name, args}
 use Rattle.rules.specs.Asking.{code}
 use Rattle.rules.specs.declared.ty.Ty.{Ty}
-use Rattle.rules.specs.declared.ty.Ty.TheVariants.{Int, Boolean, Address, Asset, Word64, Name as TName, Time, Str, Collection, Unknown}
+use Rattle.rules.specs.declared.ty.Ty.TheVariants.{Int, Bool as Boolean, Address, Asset, Word64, Name as TName, Time, Str, Collection, Unknown}
 
 -- ------------------------------------------------------------ numbers
 
@@ -20,8 +18,8 @@ no_underscores (b ∷ bs) = elim (eqb b 95) [ true ↦ no_underscores bs | false
 
 -- `parse` of a text of digits: fails on an empty one and above the type's largest number
 unfoldable pub parse : (most : ℕ) → Name → Option ℕ
-parse most [] = none
-parse most (b ∷ bs) = elim (leb (value_from 0 (b ∷ bs)) most) [ true ↦ some (value_from 0 (b ∷ bs)) | false ↦ none ]
+parse most [] = None
+parse most (b ∷ bs) = elim (leb (value_from 0 (b ∷ bs)) most) [ true ↦ Some (value_from 0 (b ∷ bs)) | false ↦ None ]
 
 unfoldable pub parse_u64 : Name → Option ℕ
 parse_u64 text = parse 18446744073709551615 (no_underscores text)
@@ -34,26 +32,26 @@ abbrev pub zero_digit : ℕ → Bool
 zero_digit b = eqb b 48 || eqb b 95
 
 unfoldable pub literal : Leaf → Option Name
-literal (int n) = some n
-literal (id n) = none
-literal date = none
-literal str = none
-literal caller = none
-literal native = none
-literal inasset = none
-literal now = none
+literal (int n) = Some n
+literal (id n) = None
+literal date = None
+literal str = None
+literal caller = None
+literal native = None
+literal inasset = None
+literal now = None
 
 -- `Expr::Int(n)`
 unfoldable pub int_of : Expr → Option Name
-int_of e = elim (leaf_of e) [ none ↦ none | some k ↦ literal k ]
+int_of e = elim (leaf_of e) [ None ↦ None | Some k ↦ literal k ]
 
 unfoldable pub is_zero_literal : Expr → Bool
-is_zero_literal e = elim (int_of e) [ none ↦ false | some n ↦ all zero_digit n ]
+is_zero_literal e = elim (int_of e) [ None ↦ false | Some n ↦ all zero_digit n ]
 
 -- ------------------------------------------------------------ declared types
 
 unfoldable pub narrow_max : Name → Option ℕ
-narrow_max ty = pick ty (("bool", some 1) ∷ ("u8", some 255) ∷ ("u16", some 65535) ∷ ("u32", some 4294967295) ∷ []) none
+narrow_max ty = pick ty (("bool", Some 1) ∷ ("u8", Some 255) ∷ ("u16", Some 65535) ∷ ("u32", Some 4294967295) ∷ []) None
 
 unfoldable pub is_integer_type : Name → Bool
 is_integer_type n = is_one n ("u8" ∷ "u16" ∷ "u32" ∷ "u64" ∷ "u128" ∷ "i8" ∷ "i16" ∷ "i32" ∷ "i64" ∷ "i128" ∷ [])
@@ -78,7 +76,7 @@ ty_of_arg (of_int n) = Unknown
 ty_of_arg m_of_n = Unknown
 
 unfoldable pub declared_arg : Type' → ℕ → Ty
-declared_arg ty index = elim (get_elem? (args ty) index) [ none ↦ Unknown | some a ↦ ty_of_arg a ]
+declared_arg ty index = elim (slice_get (args ty) index) [ None ↦ Unknown | Some a ↦ ty_of_arg a ]
 
 -- ------------------------------------------------------------ types
 

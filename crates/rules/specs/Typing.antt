@@ -1,12 +1,11 @@
 -- Typing: `ty_of` and its branches, `check_keyed_call`.
-use Rattle.std.specs.Prelude.{ℕ, List, [], ◌∷◌, ◌++◌, Bool, true, false, not, ◌&&◌, ◌||◌, ltb}
+use Rattle.std.specs.Prelude.{ℕ, List, [], ◌∷◌, ◌++◌, Bool, true, false, not, ◌&&◌, ◌||◌, ltb, Option, Some, None}
 use Prim.Native.String.{String}
-use Rattle.std.proofs.Math.Option.{Option, none, some}
 use Rattle.rules.specs.Text.{Name, is, is_one, pick, among, get, Piece, lit, raw}
 use Rattle.rules.specs.Ast.{UnaryOp, Not, Neg, BinOp, Or, And, Eq, Ne, Lt, Gt, Le, Ge, Add, Sub, Mul, Div, Rem, Shr, Type', Leaf, int, id, date, str, caller, native, inasset, now, Expr, leaf, unary, binary, field, call, wrap, Exprs, nil, more, Field, span, line, leaf_of, type_name}
 use Rattle.rules.specs.Asking.{Rule, ret, ask, ◌>>=◌, ◌>>◌, expect, provided, if_some}
 use Rattle.rules.specs.declared.ty.Ty.{Ty}
-use Rattle.rules.specs.declared.ty.Ty.TheVariants.{Int, Boolean, Address, Asset, Word64, Name as TName, Time, Str, Unknown}
+use Rattle.rules.specs.declared.ty.Ty.TheVariants.{Int, Bool as Boolean, Address, Asset, Word64, Name as TName, Time, Str, Unknown}
 use Rattle.rules.specs.Types.{is_zero_literal, ty_of_decl, declared_arg, eq_ty, is_ty, describe, numeric, compatible}
 use Rattle.rules.specs.Declarations.{type_text}
 use Rattle.rules.specs.Model.{Model, field_named}
@@ -33,18 +32,18 @@ bound Γ x t i =
 -- ------------------------------------------------------------ views of an expression
 
 unfoldable pub ident_leaf : Leaf → Option Name
-ident_leaf (int n) = none
-ident_leaf (id n) = some n
-ident_leaf date = none
-ident_leaf str = none
-ident_leaf caller = none
-ident_leaf native = none
-ident_leaf inasset = none
-ident_leaf now = none
+ident_leaf (int n) = None
+ident_leaf (id n) = Some n
+ident_leaf date = None
+ident_leaf str = None
+ident_leaf caller = None
+ident_leaf native = None
+ident_leaf inasset = None
+ident_leaf now = None
 
 -- `Expr::Ident(id)`
 unfoldable pub ident_of : Expr → Option Name
-ident_of e = elim (leaf_of e) [ none ↦ none | some k ↦ ident_leaf k ]
+ident_of e = elim (leaf_of e) [ None ↦ None | Some k ↦ ident_leaf k ]
 
 pub record Dot : Type 0 where
   pub base : Expr
@@ -53,12 +52,12 @@ pub record Dot : Type 0 where
 
 -- `Expr::Field { base, name, .. }`
 unfoldable pub dot_of : Expr → Option Dot
-dot_of (leaf l s k) = none
-dot_of (unary l s o e) = none
-dot_of (binary l s o a b) = none
-dot_of (field l s e n m) = some (record { base = e; name = n; nspan = m })
-dot_of (call l s c es) = none
-dot_of (wrap l s w e) = none
+dot_of (leaf l s k) = None
+dot_of (unary l s o e) = None
+dot_of (binary l s o a b) = None
+dot_of (field l s e n m) = Some (record { base = e; name = n; nspan = m })
+dot_of (call l s c es) = None
+dot_of (wrap l s w e) = None
 
 pub record Call : Type 0 where
   pub callee : Expr
@@ -66,20 +65,16 @@ pub record Call : Type 0 where
 
 -- `Expr::Call { callee, args, .. }`
 unfoldable pub call_of : Expr → Option Call
-call_of (leaf l s k) = none
-call_of (unary l s o e) = none
-call_of (binary l s o a b) = none
-call_of (field l s e n m) = none
-call_of (call l s c es) = some (record { callee = c; args = es })
-call_of (wrap l s w e) = none
-
-unfoldable pub is_some : {A : Type 0} → Option A → Bool
-is_some none = false
-is_some (some a) = true
+call_of (leaf l s k) = None
+call_of (unary l s o e) = None
+call_of (binary l s o a b) = None
+call_of (field l s e n m) = None
+call_of (call l s c es) = Some (record { callee = c; args = es })
+call_of (wrap l s w e) = None
 
 -- the expression is this bare name
 unfoldable pub ident_is : Expr → String → Bool
-ident_is e w = elim (ident_of e) [ none ↦ false | some x ↦ is x w ]
+ident_is e w = elim (ident_of e) [ None ↦ false | Some x ↦ is x w ]
 
 -- an expression, and the asking of its type
 pub record Asked : Type 1 where
@@ -91,30 +86,30 @@ pub record Asked : Type 1 where
 unfoldable pub is_name_param : Env → Expr → Bool
 is_name_param Γ e =
     elim (ident_of e) [
-      | none ↦ false
-      | some x ↦
-          elim (get x Γ.params) [ none ↦ false | some t ↦ eq_ty t TName ]
+      | None ↦ false
+      | Some x ↦
+          elim (get x Γ.params) [ None ↦ false | Some t ↦ eq_ty t TName ]
     ]
 
 -- the state field of a bare name that no parameter has; a local doesn't hide it
 unfoldable pub state_field_of : Env → Expr → Option Field
 state_field_of Γ e =
     elim (ident_of e) [
-      | none ↦ none
-      | some x ↦
-          elim (get x Γ.params) [ some t ↦ none | none ↦ field_named Γ.model x ]
+      | None ↦ None
+      | Some x ↦
+          elim (get x Γ.params) [ Some t ↦ None | None ↦ field_named Γ.model x ]
     ]
 
 unfoldable pub keyed_field : Env → Expr → Option Field
 keyed_field Γ base =
     elim (state_field_of Γ base) [
-      | none ↦ none
-      | some f ↦
-          elim (is_one (type_name f.ty) ("Map" ∷ "Registry" ∷ [])) [ true ↦ some f | false ↦ none ]
+      | None ↦ None
+      | Some f ↦
+          elim (is_one (type_name f.ty) ("Map" ∷ "Registry" ∷ [])) [ true ↦ Some f | false ↦ None ]
     ]
 
 unfoldable pub is_pool : Env → Expr → Bool
-is_pool Γ base = elim (state_field_of Γ base) [ none ↦ false | some f ↦ is (type_name f.ty) "Q_Asset" ]
+is_pool Γ base = elim (state_field_of Γ base) [ None ↦ false | Some f ↦ is (type_name f.ty) "Q_Asset" ]
 
 -- ------------------------------------------------------------ keyed calls
 
@@ -201,14 +196,14 @@ expect_asset_receiver Γ callee =
 unfoldable pub ty_of_ident : Env → Name → Ty
 ty_of_ident Γ x =
     elim (get x Γ.params) [
-      | some t ↦ t
-      | none ↦
+      | Some t ↦ t
+      | None ↦
           elim (get x Γ.locals) [
-            | some t ↦ t
-            | none ↦
+            | Some t ↦ t
+            | None ↦
                 elim (field_named Γ.model x) [
-                  | some f ↦ ty_of_decl f.ty
-                  | none ↦
+                  | Some f ↦ ty_of_decl f.ty
+                  | None ↦
                       elim (is x "deployer") [ true ↦ Address | false ↦ Unknown ]
                 ]
           ]
@@ -229,16 +224,16 @@ ty_of_dot n = pick n (("amount", Int) ∷ ("signer_bits", Word64) ∷ ("first", 
 
 -- the type of `.get`: a Map's value, where it is known and no time
 unfoldable pub ty_of_get : Option Field → Ty
-ty_of_get none = Int
-ty_of_get (some f) =
+ty_of_get None = Int
+ty_of_get (Some f) =
     elim (is (type_name f.ty) "Map" && not (is_ty (declared_arg f.ty 1) (Unknown ∷ Time ∷ [])))
     [ true ↦ declared_arg f.ty 1 | false ↦ Int ]
 
 unfoldable pub ty_of_call : Env → (callee : Expr) → Ty
 ty_of_call Γ callee =
     elim (dot_of callee) [
-      | some d ↦ pick d.name (("contains", Boolean) ∷ ("split", Asset) ∷ ("get", ty_of_get (keyed_field Γ d.base)) ∷ []) Unknown
-      | none ↦ elim (ident_is callee "mint") [ true ↦ Asset | false ↦ Unknown ]
+      | Some d ↦ pick d.name (("contains", Boolean) ∷ ("split", Asset) ∷ ("get", ty_of_get (keyed_field Γ d.base)) ∷ []) Unknown
+      | None ↦ elim (ident_is callee "mint") [ true ↦ Asset | false ↦ Unknown ]
     ]
 
 unfoldable pub ask_each : List Asked → Rule Unit
@@ -345,7 +340,7 @@ ty_of_binary op left right = do
 -- ------------------------------------------------------------ the asking
 
 unfoldable pub leaf_has : List Name → Leaf → Bool
-leaf_has xs k = elim (ident_leaf k) [ none ↦ false | some x ↦ among x xs ]
+leaf_has xs k = elim (ident_leaf k) [ None ↦ false | Some x ↦ among x xs ]
 
 unfoldable mutual
   -- one of the names stands in an `id` of the expression or of its parts

@@ -2,12 +2,11 @@
 ghost use Rattle.std.specs.Prelude.{◌≡◌};
 ghost use Rattle.rules.specs.Asking.{code};
 ghost use Rattle.rules.specs.Kept.{ty_of_mark};
-ghost use Rattle.rules.specs.Text.{option_of};
 
 #[derive(Clone, Copy, PartialEq, Eq)]
 pub enum Ty {
     Int,
-    Boolean,
+    Bool,
     Address,
     Asset,
     Word64,
@@ -20,13 +19,13 @@ pub enum Ty {
 
 impl Ty {
     // The type that a line's mark tells, if it tells one.
-    #[tactic(auto, unfolding(crate::specs::Kept::ty_of_mark, crate::specs::Text::option_of))]
+    #[tactic(auto, unfolding(crate::specs::Kept::ty_of_mark))]
     pub fn of_mark(mark: u8) -> Option<Ty>
-        ensures { result ≡ option_of (ty_of_mark mark) }
+        ensures { result ≡ ty_of_mark mark }
     {
         match mark {
             1 => Some(Ty::Int),
-            2 => Some(Ty::Boolean),
+            2 => Some(Ty::Bool),
             3 => Some(Ty::Address),
             4 => Some(Ty::Asset),
             5 => Some(Ty::Word64),
@@ -46,7 +45,7 @@ impl Ty {
     {
         match self {
             Ty::Int => 1,
-            Ty::Boolean => 2,
+            Ty::Bool => 2,
             Ty::Address => 3,
             Ty::Asset => 4,
             Ty::Word64 => 5,
@@ -59,5 +58,5 @@ impl Ty {
     }
 }
 
-// The mark of a line whose asking ended in a refusal.
+// The mark of a line whose asking ended in a refusal. A number, since the lent table holds bytes.
 pub const REFUSED: u8 = 11;

@@ -3,12 +3,12 @@ use mathlib.Core.Logic.{◌≢◌}
 use mathlib.Core.Path.{◌≡◌, refl}
 use mathlib.Core.Bool.{Bool, true, false, cond, and-eq-true_iff}
 use mathlib.Core.List.{List, [], ◌∷◌, ◌++◌}
-use mathlib.Core.Option.{some}
 use Prim.Native.Nat.{ℕ, zero, suc, ◌+◌, ◌≤◌, ◌<◌}
 use native.Mathlib.Omega.{arith}
 use borrow.Author.Tests.{leb-true, ltb-true}
 use lib.Dec.{leb, ltb}
 use lib.ListN.{length, length-append}
+use Rattle.std.specs.Prelude.{Some}
 use Rattle.text.specs.Text.{bytes, either, same, ended}
 use Rattle.text.specs.Word.{index_in}
 use Rattle.text.proofs.Words.{same-is}
@@ -78,7 +78,7 @@ word_long σ w h = by_cases (ltb (index_in w (words_of (records_for σ))) (lengt
     by_cases true q g = place_long w (records_for σ) (all_long σ) (ltb-true _ _ q)
     by_cases false q g = absurd (g refl)
 
-fields-name : (rs : List Rule) (a : ℕ) (fs : List (List ℕ)) (l m : Line) → read_fields rs a fs l ≡ some m → length m.name ≤ length l.name + bytes_upto (length fs) fs
+fields-name : (rs : List Rule) (a : ℕ) (fs : List (List ℕ)) (l m : Line) → read_fields rs a fs l ≡ Some m → length m.name ≤ length l.name + bytes_upto (length fs) fs
 unfolding read_fields read_field
 fields-name [] a fs l m e = let q : l ≡ m = cc in rw q (omega arith)
 fields-name (r ∷ rs) a [] l m e = absurd (let z : ◌≡◌ {A = ℕ} 0 1 = cc in omega arith)

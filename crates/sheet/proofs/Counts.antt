@@ -2,14 +2,14 @@
 use mathlib.Core.Path.{◌≡◌, refl, sym, ap, ◌∙◌}
 use mathlib.Core.Bool.{cond}
 use mathlib.Core.List.{List}
-use Prim.Native.Nat.{ℕ, suc, ◌+◌, ◌*◌, ◌-◌, ◌%◌, ◌≤◌, ◌<◌}
+use Prim.Native.Nat.{ℕ, suc, ◌+◌, ◌*◌, ◌-◌, ◌≤◌, ◌<◌}
 use native.Mathlib.Omega.{arith}
 use lib.Dec.{eqb}
 use lib.ListN.{get_or, get_or-eq_default}
 use borrow.Author.Tests.{eq-eqb, ne_eqb, lt-ltb, le-ltb}
 use Rattle.sheet.specs.Open.{due_at, settled, group_at, next_sort}
 use Rattle.sheet.specs.declared.open.Due.{Due}
-use Rattle.sheet.specs.Scratch.{cell, kind_at, first_count, second_count, third_count, kind_cell, kind_range}
+use Rattle.sheet.specs.Scratch.{kind_at, first_count, second_count, third_count}
 use Rattle.grammar.specs.Table.{most_groups, sort_table}
 use Rattle.grammar.specs.Coded.{kind_number, kind_of, sort_from}
 use Rattle.grammar.specs.declared.kinds.Kind.{Kind}
@@ -38,18 +38,18 @@ module _ (ds : List Due) (n r : ℕ) (e : r ≡ settled ds n) where
   unfolding settled
   settle_over h = sym (e ∙ rw (let z : n ≡ 0 = omega arith in z))
 
--- The sort of the next part, by the cells of its line: k is the part's number.
-module _ (S : List ℕ) (i n e a b c : ℕ) (r : code.Sort) (p : e ≡ cell S i kind_cell) (q : a ≡ first_count S i) (s : b ≡ second_count S i) (t : c ≡ third_count S i) where
-  pub next_first : a + b + c - n < a → r ≡ sort_from (get_or sort_table (most_groups * (e % kind_range) + 0) 0) → r ≡ sort_from (next_sort S i n)
-  unfolding next_sort group_at kind_at
+-- The sort of the next part, by what its line has: k is the part's number.
+module _ (S : List ℕ) (i n e a b c : ℕ) (r : code.Sort) (p : e ≡ kind_at S i) (q : a ≡ first_count S i) (s : b ≡ second_count S i) (t : c ≡ third_count S i) where
+  pub next_first : a + b + c - n < a → r ≡ sort_from (get_or sort_table (most_groups * e + 0) 0) → r ≡ sort_from (next_sort S i n)
+  unfolding next_sort group_at
   next_first h g = rw (← p, ← q, ← s, ← t, lt-ltb (a + b + c - n) a h) g
 
-  pub next_second : a ≤ a + b + c - n → a + b + c - n < a + b → r ≡ sort_from (get_or sort_table (most_groups * (e % kind_range) + 1) 0) → r ≡ sort_from (next_sort S i n)
-  unfolding next_sort group_at kind_at
+  pub next_second : a ≤ a + b + c - n → a + b + c - n < a + b → r ≡ sort_from (get_or sort_table (most_groups * e + 1) 0) → r ≡ sort_from (next_sort S i n)
+  unfolding next_sort group_at
   next_second f h g = rw (← p, ← q, ← s, ← t, le-ltb (a + b + c - n) a f, lt-ltb (a + b + c - n) (a + b) h) g
 
-  pub next_third : a ≤ a + b + c - n → a + b ≤ a + b + c - n → r ≡ sort_from (get_or sort_table (most_groups * (e % kind_range) + 2) 0) → r ≡ sort_from (next_sort S i n)
-  unfolding next_sort group_at kind_at
+  pub next_third : a ≤ a + b + c - n → a + b ≤ a + b + c - n → r ≡ sort_from (get_or sort_table (most_groups * e + 2) 0) → r ≡ sort_from (next_sort S i n)
+  unfolding next_sort group_at
   next_third f h g = rw (← p, ← q, ← s, ← t, le-ltb (a + b + c - n) a f, le-ltb (a + b + c - n) (a + b) h) g
 
 -- the sort of the parts in group g, by the number n of a kind

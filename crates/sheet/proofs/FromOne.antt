@@ -1,11 +1,11 @@
 -- A refusal of the reader has a number from 1 on. Assumes nothing.
 use mathlib.Core.List.{List, [], ◌∷◌, ◌++◌}
 use mathlib.Core.Bool.{Bool, true, false, cond}
-use mathlib.Core.Option.{Option, none as nothing, some}
 use Prim.Native.Nat.{ℕ, zero, suc, ◌+◌, ◌≤◌}
 use native.Mathlib.Omega.{arith}
 use lib.Dec.{eqb, ltb}
 use lib.ListN.{length}
+use Rattle.std.specs.Prelude.{Option, Some, None}
 use Rattle.grammar.specs.Grammar.{Sort, Contract, record_of, no_kind, kind_for}
 use Rattle.sheet.specs.Line.{Line, Read, good, bad, or_ten, read_as, fields_of, read_pieces, read_line}
 use Rattle.sheet.specs.Load.{LoadResult, lines, refused, lines_of, after, sorts, due, judged, scan, early, load_from, load}
@@ -24,8 +24,8 @@ either_one false p q h k = k
 
 ten_one : (o : Option Line) → ReadFromOne (or_ten o)
 unfolding or_ten
-ten_one (some l) = tt
-ten_one nothing = omega arith
+ten_one (Some l) = tt
+ten_one None = omega arith
 
 line_one : (s : Sort) (at : ℕ) (l : List ℕ) → ReadFromOne (read_line s at l)
 unfolding read_line read_pieces read_as

@@ -4,18 +4,17 @@ use mathlib.Core.List.Forall₂.{cons as cons₂}
 use mathlib.Core.List.Forall₂.{nil as nil₂}
 use mathlib.Core.List.{List, [], ◌∷◌, ◌++◌, map, Forall₂}
 use mathlib.Core.Bool.{Bool, true, false}
-use mathlib.Core.Option
-use mathlib.Core.Option.{Option, none, some}
+use Rattle.std.specs.Prelude.{Option, Some, None, option_map, slice_get}
 use Prim.Native.Nat.{ℕ, zero, suc}
 use native.Mathlib.Omega.{arith}
-use lib.ListN.{length, take, drop, get_elem?}
+use lib.ListN.{length, take, drop}
 
 pub data Opt {A B : Type 0} (R : A → B → Type 0) : Option A → Option B → Type 0 where
-  o_none : Opt R none none
-  o_some : {a : A} {b : B} → R a b → Opt R (some a) (some b)
+  o_none : Opt R None None
+  o_some : {a : A} {b : B} → R a b → Opt R (Some a) (Some b)
 
 module _ {A B : Type 0} {R : A → B → Type 0} where
-  pub opt_none : {o : Option A} {u : Option B} → Opt R o u → o ≡ none → u ≡ none
+  pub opt_none : {o : Option A} {u : Option B} → Opt R o u → o ≡ None → u ≡ None
   opt_none o_none e = refl
   opt_none (o_some h) e = absurd (let z : ◌≡◌ {A = ℕ} 0 1 = cc in omega arith)
 
@@ -41,7 +40,7 @@ module _ {A B : Type 0} {R : A → B → Type 0} where
   drop₂ (suc n) nil₂ = nil₂
   drop₂ (suc n) (cons₂ r h) = drop₂ n h
 
-  pub at₂ : (i : ℕ) {as' : List A} {bs : List B} → Forall₂ R as' bs → Opt R (get_elem? as' i) (get_elem? bs i)
+  pub at₂ : (i : ℕ) {as' : List A} {bs : List B} → Forall₂ R as' bs → Opt R (slice_get as' i) (slice_get bs i)
   at₂ zero nil₂ = o_none
   at₂ zero (cons₂ r h) = o_some r
   at₂ (suc i) nil₂ = o_none
@@ -60,6 +59,6 @@ module _ {A B C D : Type 0} {R : A → B → Type 0} {Q : C → D → Type 0} (f
   map₂ nil₂ = nil₂
   map₂ (cons₂ r h) = cons₂ (k _ _ r) (map₂ h)
 
-  pub opt_map : {o : Option A} {u : Option B} → Opt R o u → Opt Q (Option.map f o) (Option.map g u)
+  pub opt_map : {o : Option A} {u : Option B} → Opt R o u → Opt Q (option_map f o) (option_map g u)
   opt_map o_none = o_none
   opt_map (o_some r) = o_some (k _ _ r)

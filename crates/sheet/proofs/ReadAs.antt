@@ -3,7 +3,6 @@ use mathlib.Core.Logic.{◌≢◌}
 use mathlib.Core.Path.{◌≡◌, refl, sym, ap, ◌∙◌}
 use mathlib.Core.Bool.{Bool, true, false, cond}
 use mathlib.Core.List.{List, [], ◌∷◌, ◌++◌, append_assoc, append-nil}
-use mathlib.Core.Option.{Option, none as nothing, some}
 use Prim.Native.Nat.{ℕ, zero, suc, ◌+◌, ◌-◌, ◌≤◌, ◌<◌}
 use native.Mathlib.Nat.{add-zero}
 use native.Mathlib.Omega.{arith}
@@ -14,7 +13,7 @@ use lib.Seq.{drop-drop, drop-append-le}
 use Rattle.text.specs.Text.{either, upto, ended}
 use Rattle.text.specs.Word.{index_in}
 use Rattle.text.specs.Field.{Number, number_of}
-use Rattle.std.specs.Prelude.{Some, None}
+use Rattle.std.specs.Prelude.{Some, None, Option}
 use Rattle.text.proofs.Fields.{number_most}
 use Rattle.text.proofs.Pieces.{upto_front, piece_first}
 use Rattle.sheet.specs.Field.{piece_at}
@@ -87,12 +86,12 @@ Like at y k ss rs l =
 
 -- a field that is read, and then the others
 pub on_number_lem : (x : Number) (g : ℕ → Line) (F : Line → Option Line) (m : Line) (C : Type 0)
-    → and_then (on_number x g) F ≡ some m → ((v : ℕ) → x ≡ Some v → F (g v) ≡ some m → C) → C
+    → and_then (on_number x g) F ≡ Some m → ((v : ℕ) → x ≡ Some v → F (g v) ≡ Some m → C) → C
 unfolding and_then on_number
 on_number_lem (Some v) g F m C e k = k v refl e
 on_number_lem None g F m C e k = absurd (let z : ◌≡◌ {A = ℕ} 0 1 = cc in omega arith)
 
-pub on_test : (b : Bool) (l : Line) (F : Line → Option Line) (m : Line) (C : Type 0) → and_then (when b l) F ≡ some m → (b ≡ true → F l ≡ some m → C) → C
+pub on_test : (b : Bool) (l : Line) (F : Line → Option Line) (m : Line) (C : Type 0) → and_then (when b l) F ≡ Some m → (b ≡ true → F l ≡ Some m → C) → C
 unfolding and_then when
 on_test true l F m C e k = k refl e
 on_test false l F m C e k = absurd (let z : ◌≡◌ {A = ℕ} 0 1 = cc in omega arith)
@@ -110,12 +109,12 @@ counted_more (p ∷ ps) n s h c (suc i) = counted_more ps n s h (λ i. c (suc i)
 more_parts : (ss rest : List Sort) (n : ℕ) (s : Sort) (ps : List (ℕ × Sort)) → n ≤ most_count → Parts ss (s ∷ rest) ps → Parts ss rest (ps ++ ((n, s) ∷ []))
 more_parts ss rest n s ps h p = (sorts_more ps n s rest ∙ p.0, counted_more ps n s h p.1)
 
-some_is : (C : Line → Type 0) {l m : Line} → some l ≡ some m → C l → C m
+some_is : (C : Line → Type 0) {l m : Line} → Some l ≡ Some m → C l → C m
 some_is C {l} {m} e c = let q : l ≡ m = cc in rw q at c
 
 -- the first span stays where other fields are read
 spans_kept : (rs : List Rule) (a : ℕ) (fs : List (List ℕ)) (l m : Line) (v : ℕ) (vs : List ℕ)
-    → read_fields rs a fs l ≡ some m → l.spans ≡ v ∷ vs → get_or m.spans 0 0 ≡ v
+    → read_fields rs a fs l ≡ Some m → l.spans ≡ v ∷ vs → get_or m.spans 0 0 ≡ v
 unfolding read_fields read_field
 spans_kept [] a fs l m v vs e p = let q : l ≡ m = cc in rw (← q, p)
 spans_kept (r ∷ rs) a [] l m v vs e p = absurd (let z : ◌≡◌ {A = ℕ} 0 1 = cc in omega arith)
@@ -129,7 +128,7 @@ spans_kept (count s ∷ rs) a (f ∷ fs) l m v vs e p = on_number_lem _ _ _ m _ 
 spans_kept (flag s ∷ rs) a (f ∷ fs) l m v vs e p = on_number_lem _ _ _ m _ e (λ u q w. spans_kept rs _ fs _ m v vs w p)
 
 -- fields that are no SPAN leave the spans as they were
-no_spans : (rs : List Rule) (a : ℕ) (fs : List (List ℕ)) (l m : Line) → spanless rs ≡ true → read_fields rs a fs l ≡ some m → m.spans ≡ l.spans
+no_spans : (rs : List Rule) (a : ℕ) (fs : List (List ℕ)) (l m : Line) → spanless rs ≡ true → read_fields rs a fs l ≡ Some m → m.spans ≡ l.spans
 unfolding read_fields read_field
 no_spans [] a fs l m n e = let q : l ≡ m = cc in rw q
 no_spans (r ∷ rs) a [] l m n e = absurd (let z : ◌≡◌ {A = ℕ} 0 1 = cc in omega arith)
@@ -143,7 +142,7 @@ no_spans (count s ∷ rs) a (f ∷ fs) l m n e = on_number_lem _ _ _ m _ e (λ u
 no_spans (flag s ∷ rs) a (f ∷ fs) l m n e = on_number_lem _ _ _ m _ e (λ u q w. no_spans rs _ fs _ m n w)
 
 -- fields add parts behind those that are there
-parts_kept : (rs : List Rule) (a : ℕ) (fs : List (List ℕ)) (l m : Line) → read_fields rs a fs l ≡ some m → (gs : List (ℕ × Sort)) × (m.parts ≡ l.parts ++ gs) × Flagged rs gs
+parts_kept : (rs : List Rule) (a : ℕ) (fs : List (List ℕ)) (l m : Line) → read_fields rs a fs l ≡ Some m → (gs : List (ℕ × Sort)) × (m.parts ≡ l.parts ++ gs) × Flagged rs gs
 unfolding read_fields read_field
 parts_kept [] a fs l m e = let q : l ≡ m = cc in rw q ([], sym (append-nil m.parts), tt)
 parts_kept (r ∷ rs) a [] l m e = absurd (let z : ◌≡◌ {A = ℕ} 0 1 = cc in omega arith)
@@ -164,14 +163,14 @@ module _ (at : ℕ) (y : List ℕ) where
   SpanAt a v = (f : List ℕ) × Piece at y a f × (number_of most_span f ≡ Some v)
 
   span_first_lem : (rs : List Rule) (a : ℕ) (fs : List (List ℕ)) (k : ℕ) (m : Line)
-      → Stand at y a fs → read_fields (span ∷ rs) a fs (begun k at) ≡ some m → SpanAt a (get_or m.spans 0 0)
+      → Stand at y a fs → read_fields (span ∷ rs) a fs (begun k at) ≡ Some m → SpanAt a (get_or m.spans 0 0)
   unfolding read_fields read_field
   span_first_lem rs a [] k m t e = absurd (let z : ◌≡◌ {A = ℕ} 0 1 = cc in omega arith)
   span_first_lem rs a (f ∷ fs) k m t e = on_number_lem _ _ _ m _ e (λ v q w. (f, t.0, rw (spans_kept rs _ fs _ m v [] w refl) q))
 
   -- a dot's second span comes after its name
   span_second : (a : ℕ) (fs : List (List ℕ)) (k : ℕ) (m : Line)
-      → Stand at y a fs → read_fields (span ∷ name ∷ span ∷ []) a fs (begun k at) ≡ some m → SpanAt (m.start + length m.name + 1) (get_or m.spans 1 0)
+      → Stand at y a fs → read_fields (span ∷ name ∷ span ∷ []) a fs (begun k at) ≡ Some m → SpanAt (m.start + length m.name + 1) (get_or m.spans 1 0)
   unfolding read_fields read_field and_then
   span_second a [] k m t e = absurd (let z : ◌≡◌ {A = ℕ} 0 1 = cc in omega arith)
   span_second a (f ∷ []) k m t e = on_number_lem _ _ _ m _ e (λ v q w. absurd (let z : ◌≡◌ {A = ℕ} 0 1 = cc in omega arith))
@@ -185,7 +184,7 @@ module _ (at : ℕ) (y : List ℕ) where
 
   -- the fields fs, which stand in the line from a on, read by the rules rs
   fields_like : (k : ℕ) (ss : List Sort) (rs : List Rule) (a : ℕ) (fs : List (List ℕ)) (l m : Line)
-      → Stand at y a fs → read_fields rs a fs l ≡ some m → Like at y k ss rs l → Like at y k ss [] m
+      → Stand at y a fs → read_fields rs a fs l ≡ Some m → Like at y k ss rs l → Like at y k ss [] m
   unfolding read_fields read_field
   fields_like k ss [] a fs l m t e i = let q : l ≡ m = cc in rw q at i
   fields_like k ss (r ∷ rs) a [] l m t e i = absurd (let z : ◌≡◌ {A = ℕ} 0 1 = cc in omega arith)
@@ -218,19 +217,19 @@ module _ (at : ℕ) (y : List ℕ) where
         rw n (pieces_stand fs (c + length f + 1) p.2),
       )
 
-or_ten_lem : (o : Option Line) (l : Line) → or_ten o ≡ good l → o ≡ some l
+or_ten_lem : (o : Option Line) (l : Line) → or_ten o ≡ good l → o ≡ Some l
 unfolding or_ten
-or_ten_lem (some m) l e = cc
-or_ten_lem nothing l e = absurd (let z : ◌≡◌ {A = ℕ} 0 1 = cc in omega arith)
+or_ten_lem (Some m) l e = cc
+or_ten_lem None l e = absurd (let z : ◌≡◌ {A = ℕ} 0 1 = cc in omega arith)
 
 -- what stands behind a line that is read
 pub read_as_lem : (k at n : ℕ) (fs : List (List ℕ)) (l : Line) → read_as k at n fs ≡ good l
-    → (k ≢ no_kind) × (read_fields (record_of k).rules (at + n + 1) fs (begun k at) ≡ some l)
+    → (k ≢ no_kind) × (read_fields (record_of k).rules (at + n + 1) fs (begun k at) ≡ Some l)
 unfolding read_as
 read_as_lem k at n fs l e = by_cases (eqb k no_kind) (eqb (length fs) (length (record_of k).rules)) refl e
   where
     by_cases : (t u : Bool) → eqb k no_kind ≡ t → cond t (bad 8) (cond u (or_ten (read_fields (record_of k).rules (at + n + 1) fs (begun k at))) (bad 9)) ≡ good l
-        → (k ≢ no_kind) × (read_fields (record_of k).rules (at + n + 1) fs (begun k at) ≡ some l)
+        → (k ≢ no_kind) × (read_fields (record_of k).rules (at + n + 1) fs (begun k at) ≡ Some l)
     by_cases true u q e = absurd (let z : ◌≡◌ {A = ℕ} 0 1 = cc in omega arith)
     by_cases false true q e = (eqb-false k no_kind q, or_ten_lem _ l e)
     by_cases false false q e = absurd (let z : ◌≡◌ {A = ℕ} 0 1 = cc in omega arith)

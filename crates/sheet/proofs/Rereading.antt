@@ -5,7 +5,6 @@ use mathlib.Core.List.Forall₂.{cons as cons₂}
 use mathlib.Core.List.Forall₂.{nil as nil₂}
 use mathlib.Core.List.{List, [], ◌∷◌, ◌++◌, append_assoc, append-nil, Forall₂}
 use mathlib.Core.Bool.{Bool, true, false, cond}
-use mathlib.Core.Option.{Option, some}
 use Prim.Native.Nat.{ℕ, suc, ◌+◌}
 use native.Mathlib.Omega.{arith}
 use lib.Dec.{eqb, ltb}
@@ -13,7 +12,7 @@ use lib.ListN.{length}
 use Rattle.text.specs.Text.{bytes, same}
 use Rattle.text.specs.Word.{index_in}
 use Rattle.text.specs.Field.{Number, is_text, number_of}
-use Rattle.std.specs.Prelude.{Some, None}
+use Rattle.std.specs.Prelude.{Some, None, Option}
 use Rattle.grammar.specs.Grammar.{Sort, Contract, Item, Field, Param, Ty, Arg, Clause, Stmt, Expr, Rule, span, name, text, assign_op, un_op, bin_op, count, flag, record_of, no_kind, kind_for}
 use Rattle.sheet.specs.Line.{Line, begun, with_span, with_op, with_name, with_parts, when, on_number, read_field, and_then, read_fields, Read, good, bad, or_ten, read_as, fields_of, read_pieces, read_line, most_span}
 use Rattle.sheet.specs.Load.{LoadResult, lines, sorts, due, scan}
@@ -159,7 +158,7 @@ int_says Stmt at sp t x e = absurd (let z : ◌≡◌ {A = ℕ} 0 1 = cc in omeg
 int_says Expr at sp t x e = by_cases (number_of most_span sp) (is_text t) e
   where
     from : Line → Number → Bool → ℕ → Read
-    from l v b a = or_ten (and_then (on_number v (with_span l)) (λ l. and_then (when b (with_name l a t)) (λ m. some m)))
+    from l v b a = or_ten (and_then (on_number v (with_span l)) (λ l. and_then (when b (with_name l a t)) (λ m. Some m)))
 
     by_cases : (v : Number) (b : Bool) → from (begun kinds.int at) v b (at + 3 + 1 + length sp + 1) ≡ good x → SaysInt v x
     by_cases (Some n) true e = let q : with_name (with_span (begun kinds.int at) n) (at + 3 + 1 + length sp + 1) t ≡ x = cc in rw (← q) (record { kind = refl; op = refl; parts = refl; spans = (n, refl, refl) })

@@ -3,8 +3,6 @@ use mathlib.Core.Logic.{◌≢◌}
 use mathlib.Core.Path.{◌≡◌, refl, sym, ap, ◌∙◌}
 use mathlib.Core.Bool.{Bool, true, false}
 use mathlib.Core.List.{List, [], ◌∷◌}
-use mathlib.Core.Option as read
-use mathlib.Core.Option.{none as nothing, some}
 use Prim.Native.Nat.{ℕ, zero, suc, ◌+◌, ◌-◌, ◌≤◌, ◌<◌}
 use native.Mathlib.Numerals.{add-one}
 use native.Mathlib.Omega.{arith}
@@ -34,29 +32,25 @@ use Rattle.grammar.proofs.KindLaws.{kind_most}
 use Rattle.grammar.proofs.Numbers.{kind_none, kind_numbered, number_below}
 use Rattle.grammar.proofs.TableLaws.{number_at_lem, fields_at, few_always, few_parts}
 
-unfoldable pub map_told : read.Option line.Line → Option Line
-map_told (some l) = Some (code_line l)
-map_told nothing = None
-
 -- A field and those after it, which are read by F, and by G as the code does.
-module _ (F : line.Line → read.Option line.Line) (G : Line → Option Line) where
-  then_number : (x : Number) (f : ℕ → line.Line) (g : ℕ → Line) → ((v : ℕ) → g v ≡ code_line (f v)) → ((v : ℕ) → G (code_line (f v)) ≡ map_told (F (f v)))
-      → option_and_then G (option_map g x) ≡ map_told (and_then (on_number x f) F)
-  unfolding map_told and_then on_number
+module _ (F : line.Line → Option line.Line) (G : Line → Option Line) where
+  then_number : (x : Number) (f : ℕ → line.Line) (g : ℕ → Line) → ((v : ℕ) → g v ≡ code_line (f v)) → ((v : ℕ) → G (code_line (f v)) ≡ option_map code_line (F (f v)))
+      → option_and_then G (option_map g x) ≡ option_map code_line (and_then (on_number x f) F)
+  unfolding and_then on_number
   then_number (Some v) f g e h = rw (e v) (h v)
   then_number None f g e h = refl
 
-  then_op : (ws : List (List ℕ)) (f : List ℕ) (l : line.Line) → ((p : ℕ) → G (step.with_op (code_line l) p) ≡ map_told (F (line.with_op l p)))
-      → option_and_then G (op_step ws f (code_line l)) ≡ map_told (and_then (line.chosen (index_in f ws) (length ws) l) F)
-  unfolding map_told and_then when
+  then_op : (ws : List (List ℕ)) (f : List ℕ) (l : line.Line) → ((p : ℕ) → G (step.with_op (code_line l) p) ≡ option_map code_line (F (line.with_op l p)))
+      → option_and_then G (op_step ws f (code_line l)) ≡ option_map code_line (and_then (line.chosen (index_in f ws) (length ws) l) F)
+  unfolding and_then when
   then_op ws f l h = rw (place_told f ws) (by_cases (ltb (index_in f ws) (length ws)) (index_in f ws))
     where
-      by_cases : (b : Bool) (p : ℕ) → option_and_then G (option_map (step.with_op (code_line l)) (then_some b p)) ≡ map_told (and_then (when b (line.with_op l p)) F)
+      by_cases : (b : Bool) (p : ℕ) → option_and_then G (option_map (step.with_op (code_line l)) (then_some b p)) ≡ option_map code_line (and_then (when b (line.with_op l p)) F)
       by_cases true p = h p
       by_cases false p = refl
 
-  then_when : (b : Bool) (l : line.Line) → G (code_line l) ≡ map_told (F l) → option_and_then G (then_some b (code_line l)) ≡ map_told (and_then (when b l) F)
-  unfolding map_told and_then when
+  then_when : (b : Bool) (l : line.Line) → G (code_line l) ≡ option_map code_line (F l) → option_and_then G (then_some b (code_line l)) ≡ option_map code_line (and_then (when b l) F)
+  unfolding and_then when
   then_when true l h = h
   then_when false l h = refl
 
@@ -68,9 +62,9 @@ parts_told l n s (p ∷ []) e h = rw e
 parts_told l n s (p ∷ q ∷ []) e h = rw e
 parts_told l n s (p ∷ q ∷ r ∷ ps) e h = absurd (omega arith)
 
-then_parts : (F : line.Line → read.Option line.Line) (G : Line → Option Line) (o : Option Line) (most g : ℕ) (f : List ℕ) (l : line.Line) (s : Sort)
-    → o ≡ parts_step most g f (code_line l) → length l.parts ≡ g → g < 3 → ((v : ℕ) → G (code_line (with_parts l v s)) ≡ map_told (F (with_parts l v s)))
-    → option_and_then G o ≡ map_told (and_then (on_number (number_of most f) (λ n. with_parts l n s)) F)
+then_parts : (F : line.Line → Option line.Line) (G : Line → Option Line) (o : Option Line) (most g : ℕ) (f : List ℕ) (l : line.Line) (s : Sort)
+    → o ≡ parts_step most g f (code_line l) → length l.parts ≡ g → g < 3 → ((v : ℕ) → G (code_line (with_parts l v s)) ≡ option_map code_line (F (with_parts l v s)))
+    → option_and_then G o ≡ option_map code_line (and_then (on_number (number_of most f) (λ n. with_parts l n s)) F)
 then_parts F G o most g f l s p e h k =
     rw p (then_number F G (number_of most f) (λ n. with_parts l n s) _ (λ v. rw (← e) (parts_told l v s l.parts refl (omega arith))) k)
 
@@ -90,8 +84,8 @@ flag_step g a f l = rw (get_or-eq_default _ _ (let h : 10 ≤ flag_rule + g = om
 
 -- the rules rs, where the line l has g groups of parts before them, of which there is room for three
 pub all_told : (rs : List Rule) (g a : ℕ) (fs : List (List ℕ)) (l : line.Line) → length l.parts ≡ g → g + length (told_sorts rs) ≤ 3
-    → step_all (rule_numbers g rs) a fs (code_line l) ≡ map_told (read_fields rs a fs l)
-unfolding step_all read_fields read_field step_of step.step map_told
+    → step_all (rule_numbers g rs) a fs (code_line l) ≡ option_map code_line (read_fields rs a fs l)
+unfolding step_all read_fields read_field step_of step.step
 all_told [] g a fs l e h = refl
 all_told (span ∷ rs) g a [] l e h = refl
 all_told (name ∷ rs) g a [] l e h = refl
@@ -112,10 +106,10 @@ all_told (count s ∷ rs) g a (f ∷ fs) l e h =
 all_told (flag s ∷ rs) g a (f ∷ fs) l e h =
     then_parts _ _ _ 1 g f l s (flag_step g a f (code_line l)) e (omega arith) (λ v. all_told rs (suc g) _ fs _ (one_more l v s g e) (omega arith))
 
-or_ten_told : (i : ℕ) (o : read.Option line.Line) → ok_or (map_told o) (record { number = 10; line = i }) ≡ code_read i (line.or_ten o)
-unfolding map_told line.or_ten code_read
-or_ten_told i (some l) = refl
-or_ten_told i nothing = refl
+or_ten_told : (i : ℕ) (o : Option line.Line) → ok_or (option_map code_line o) (record { number = 10; line = i }) ≡ code_read i (line.or_ten o)
+unfolding line.or_ten code_read
+or_ten_told i (Some l) = refl
+or_ten_told i None = refl
 
 -- the line that the code begins with, whose record always has parts of one sort at most
 begun_told : (k at n : ℕ) (ps : List (ℕ × Sort)) → (record_of k).always ≡ ps → length ps ≤ 1 → n ≡ get_or (numbers_in (record_of k).always) 0 0
@@ -181,7 +175,7 @@ module _ (s : Sort) (i : ℕ) (y : List ℕ) (end : ℕ) (e : end ≡ piece_end 
       line_read at h r a f g t =
           let first = begun_told k at a (record_of k).always refl (few_always k below) (f ∙ number_at_lem (λ r. get_or (numbers_in r.always) 0 0) k below) in
           let from : at + (end + 1) ≡ at + length (take end y) + 1 = omega (arith, length-take-le end y (omega arith)) in
-          let told : r ≡ map_told (read_fields (record_of k).rules (at + length (take end y) + 1) left (begun k at)) =
+          let told : r ≡ option_map code_line (read_fields (record_of k).rules (at + length (take end y) + 1) left (begun k at)) =
           g ∙ rw (← first, from) (all_told (record_of k).rules _ _ left (begun k at) refl (few_parts k below))
           in
           rw (opened, ← is, ne_eqb k no_kind known, eq-eqb (length left) (length (record_of k).rules) (line_left h ∙ rules), told, t) (or_ten_told i _)

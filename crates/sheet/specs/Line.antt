@@ -1,10 +1,8 @@
 -- What a line says, by the records of grammar/specs/Grammar, or its refusal 8, 9 or 10 (docs/REFUSALS.md).
-use Rattle.std.specs.Prelude.{ℕ, ◌+◌, Bool, true, false, cond, List, [], ◌∷◌, ◌++◌, eqb, ltb, length}
-use Rattle.std.proofs.Math.Option.{Option, none as nothing, some}
+use Rattle.std.specs.Prelude.{ℕ, ◌+◌, Bool, true, false, cond, List, [], ◌∷◌, ◌++◌, eqb, ltb, length, Option, Some, None}
 use Rattle.text.specs.Text.{either, ended}
 use Rattle.text.specs.Word.{index_in}
 use Rattle.text.specs.Field.{Number, is_name, is_text, number_of}
-use Rattle.std.specs.Prelude.{Some, None}
 use Rattle.grammar.specs.Grammar.{Sort, Rule, span, name, text, assign_op, un_op, bin_op, count, flag, assign_ops, un_ops, bin_ops, record_of, no_kind, kind_for}
 
 -- how many bytes and lines a sheet has at most
@@ -53,16 +51,16 @@ with_parts l n s = record { kind = l.kind; at = l.at; op = l.op; spans = l.spans
 
 -- Of a line, and of a line as the code reads it (Step): read where a test holds, by a number, and by one rule after another.
 unfoldable pub when : {A : Type 0} → Bool → A → Option A
-when true a = some a
-when false a = nothing
+when true a = Some a
+when false a = None
 
 unfoldable pub on_number : {A : Type 0} → Number → (ℕ → A) → Option A
-on_number (Some v) f = some (f v)
-on_number None f = nothing
+on_number (Some v) f = Some (f v)
+on_number None f = None
 
 unfoldable pub and_then : {A : Type 0} → Option A → (A → Option A) → Option A
-and_then (some a) f = f a
-and_then nothing f = nothing
+and_then (Some a) f = f a
+and_then None f = None
 
 -- an operator's place, where it is one of n
 abbrev pub chosen : ℕ → ℕ → Line → Option Line
@@ -81,8 +79,8 @@ read_field bin_op a f l = chosen (index_in f bin_ops) (length bin_ops) l
 
 -- the fields fs, the first of which starts at a, read by their rules
 unfoldable pub read_fields : List Rule → ℕ → List (List ℕ) → Line → Option Line
-read_fields [] a fs l = some l
-read_fields (r ∷ rs) a [] l = nothing
+read_fields [] a fs l = Some l
+read_fields (r ∷ rs) a [] l = None
 read_fields (r ∷ rs) a (f ∷ fs) l = and_then (read_field r a f l) (read_fields rs (a + length f + 1) fs)
 
 -- a line that is read, or the number of its refusal
@@ -91,8 +89,8 @@ pub data Read : Type 0 where
   bad : ℕ → Read
 
 unfoldable pub or_ten : Option Line → Read
-or_ten (some l) = good l
-or_ten nothing = bad 10
+or_ten (Some l) = good l
+or_ten None = bad 10
 
 -- the fields fs of a record of kind k that starts at `at`, its word being n bytes long
 unfoldable pub read_as : ℕ → ℕ → ℕ → List (List ℕ) → Read

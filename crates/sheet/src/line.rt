@@ -50,11 +50,11 @@ impl Line {
         good.then_some(Line { start, len, ..self })
     }
 
-    // The operator at a place, if it is one.
-    fn with_op(self, place: Option<usize>) -> Option<Line>
-        ensures { result ≡ option_map (with_op self) place }
+    // The operator of this number, if the word is one.
+    fn with_op(self, number: Option<usize>) -> Option<Line>
+        ensures { result ≡ option_map (with_op self) number }
     {
-        let op = place?;
+        let op = number?;
         Some(Line { op, ..self })
     }
 

@@ -11,7 +11,7 @@ use crate::{limits, scratch};
 use grammar::{Kind, starts_with_span};
 use text::{find, number_of};
 
-// The number of its record's kind.
+// The number of its record's kind. No `Kind`, since any cells may be asked, and may hold none.
 pub fn kind(lines: &[u16], i: usize) -> usize
     ensures { result ≡ kind_at lines.now i }
 {
@@ -25,7 +25,7 @@ pub fn is_kind(lines: &[u16], i: usize, k: Kind) -> bool
     kind(lines, i) == k.number()
 }
 
-// The place of its operator among those of its record.
+// The place of its operator among those of its record. No operator, since the record's kind tells which they are.
 pub fn op(lines: &[u16], i: usize) -> usize
     ensures { result ≡ op_at lines.now i }
 {
@@ -38,6 +38,8 @@ pub fn end(lines: &[u16], i: usize) -> usize
 {
     cell(lines, i, scratch::END)
 }
+
+// A count has the name of what it counts, though several stand in one cell, so that code and contracts say which is meant.
 
 // How many items the contract has.
 pub fn item_count(lines: &[u16], i: usize) -> usize
@@ -192,7 +194,7 @@ pub fn span(sheet: &[u8], lines: &[u16], i: usize) -> u32
     number_at(sheet, end + 1)
 }
 
-// The NSPAN of a dot: the field after its name.
+// The NSPAN of a dot: the field after its name, 0 where no number stands there, as for `span`.
 pub fn nspan(sheet: &[u8], lines: &[u16], i: usize) -> u32
     ensures { result ≡ nspan_at sheet.now lines.now i }
 {

@@ -5,8 +5,8 @@ ghost use Rattle.grammar.specs.Table.{most_groups, sort_table};
 ghost use Rattle.sheet.specs.Open.{Begun, Deepest, Next, next_sort, settled, sort_or, taken, Top};
 
 use crate::refusal::{Refused, refuse};
-use crate::scratch;
 use crate::scratch::cell;
+use crate::{lines, scratch};
 use grammar::{Kind, Sort, part_sort};
 
 // The records due at a depth: how many are left, and the line whose parts they are.
@@ -39,7 +39,7 @@ pub fn next_sort(lines: &[u16], i: usize, n: usize) -> Sort
     requires { Next lines.now i n }
     ensures { result ≡ sort_from (next_sort lines.now i n) }
 {
-    let kind = cell(lines, i, scratch::KIND) % scratch::KIND_RANGE;
+    let kind = lines::kind(lines, i);
     let first = cell(lines, i, scratch::FIRST);
     let second = cell(lines, i, scratch::SECOND);
     let k = first + second + cell(lines, i, scratch::THIRD) - n;

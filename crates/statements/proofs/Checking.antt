@@ -3,12 +3,11 @@ use mathlib.Core.Logic.{◌≢◌}
 use mathlib.Core.Path.{◌≡◌, refl, sym, ap, ◌∙◌}
 use mathlib.Core.List.{List, [], ◌∷◌}
 use mathlib.Core.Bool.{Bool, true, false, not, ◌||◌, or-false}
-use mathlib.Core.Option.{none}
 use Prim.Native.Nat.{ℕ, suc, ◌+◌}
 use native.Mathlib.Numerals.{add-one}
 use native.Mathlib.Omega.{arith}
 use lib.ListN.{get_or}
-use Rattle.std.specs.Prelude.{Option, is_some, Result, Ok, Err}
+use Rattle.std.specs.Prelude.{Option, is_some, Result, Ok, Err, None}
 use Rattle.text.specs.Text.{bytes, ended}
 use Rattle.text.specs.Word.{place_in, split}
 use Rattle.grammar.specs.Grammar as grammar
@@ -16,27 +15,26 @@ use Rattle.sheet.specs.Scratch.{kind_at, op_at, end_at, name_at}
 use Rattle.rules.specs.Text.{Name, is_one}
 use Rattle.rules.specs.Ast.{Set, assign_ops, id, leaf, Field, span, leaf_of, assign, do', type_name}
 use Rattle.rules.specs.Asking.{◌>>=◌, ◌>>◌, if_some}
-use Rattle.rules.specs.declared.ty.Ty.TheVariants.{Boolean, Unknown}
+use Rattle.rules.specs.declared.ty.Ty.TheVariants.{Bool as Boolean, Unknown}
 use Rattle.rules.specs.Kept.{Table, Kept, kept}
 use Rattle.rules.specs.Types.{is_ty}
 use Rattle.rules.specs.Typing as typing
 use Rattle.rules.specs.Typing.{ident_leaf, ident_of, call_of, typings, check_keyed_call, asked, ask_of, ty_of, ty_of_ident}
 use Rattle.rules.specs.Statements.{check_assign, check_keyed_use, check_stmt_types, expect_predicate}
 use Rattle.rules.specs.Check.{made_up, check_default, default_text}
-use Rattle.rules.specs.Standing.{place_at, expr_at, field_at, stmt_at, type_at, Here, Row}
+use Rattle.rules.specs.Standing.{place_at, expr_at, field_at, stmt_at, type_at, Here, Row, Loaded}
 use Rattle.rules.proofs.Binding.{then_ok}
 use Rattle.rules.proofs.Exprs.{is-call_at}
 use Rattle.rules.proofs.Parts.{stop, ◌also◌, pick}
 use Rattle.rules.proofs.Records.{named, guard_at, let_at, emit_at, assign_at, do_at, field_at_lem}
 use Rattle.rules.proofs.Standing.{row_first, row_rest}
-use Rattle.lookups.specs.Lines.{TypeAt}
 use Rattle.refusals.specs.Refusal.{refusal_of, done_of}
 use Rattle.refusals.specs.declared.refusal.Refusal.{Refusal}
 use Rattle.refusals.specs.declared.refusal.Refusal.TheVariants.{Predicate, Default}
 use Rattle.refusals.proofs.Answers.{fits, misfits, refuses}
 use Rattle.lookups.proofs.Types.{type_name_lem}
 use Rattle.env.specs.Calls.{KeyedOf}
-use Rattle.env.specs.Force.{env_of, ExprIn}
+use Rattle.env.specs.Force.{env_of, InForce}
 use Rattle.env.specs.declared.env.Env.{Env}
 use Rattle.lookups.proofs.Tables.{one_found}
 use denote.Enum.Bare.{sameb}
@@ -54,7 +52,7 @@ use Rattle.typing.proofs.Doing.{typed_then, not_typed}
 use Rattle.typing.proofs.Onward.{Onward, onward, no_value_below, off_type}
 use Rattle.typing.proofs.Operators.{gave}
 use Rattle.statements.specs.Assigned.{bare_at, TargetAt, JudgesAssign}
-use Rattle.statements.specs.Checked.{no_defaults, StmtIn, StmtOf, DefaultIn, ValueIn, given_to, Gives}
+use Rattle.statements.specs.Checked.{no_defaults, StmtIn, StmtOf, DefaultIn, ValueIn, given_to, DoesAssign}
 use Rattle.statements.proofs.Judged.{target_at}
 use borrow.Author.Tests.{ne_eqb}
 use Rattle.grammar.specs.Kinds as kinds
@@ -82,22 +80,22 @@ module _ (s : List ℕ) (env : Env) (T : Table) (i : ℕ) (a : Result Ty Refusal
 -- ------------------------------------------------------------ check_value
 
 module _ (s S : List ℕ) (env : Env) (T : Table) (op : code.AssignOp) (target value : ℕ) (c : Ty) (a : Result Ty Refusal) (U : Table) (k : Types s (ty_of (env_of s T env) (expr_at s value)) T a U) where
-  pub value_no : (r : Refusal) → a ≡ Err r → Gives s S env op target value c T (Err r) U
+  pub value_no : (r : Refusal) → a ≡ Err r → DoesAssign s S env op target value c T (Err r) U
   unfolding given_to
   value_no r e = record { does = λ x p. not_typed s _ _ T a U k r e }
 
-  pub value_ok : (d : Ty) (r : Result Unit Refusal) → a ≡ Ok d → JudgesAssign s S env op target value c d r → Gives s S env op target value c T r U
+  pub value_ok : (d : Ty) (r : Result Unit Refusal) → a ≡ Ok d → JudgesAssign s S env op target value c d r → DoesAssign s S env op target value c T r U
   unfolding given_to
   value_ok d r e j = record { does = λ x p. typed_then s _ _ T a U k d r e (j.judged T x p) }
 
 -- ------------------------------------------------------------ check_assign
 
-module _ (s S : List ℕ) (env : Env) (T : Table) (i : ℕ) (h : StmtOf kinds.assign s S env T i) where
+module _ (s S : List ℕ) (env : Env) (T : Table) (i : ℕ) (loaded : Loaded s S) (force : InForce S env) (h : StmtOf kinds.assign S T i) where
   its_parts : (stmt_at s i ≡ assign (place_at s i) (get_or assign_ops (op_at S i) Set) (expr_at s (suc i)) (expr_at s (end_at S (suc i)))) × Row S grammar.Expr 2 (suc i)
-  its_parts = let t = assign_at h.stmt.ready.force.loaded h.stmt.here h.kind in (t.0, t.1)
+  its_parts = let t = assign_at loaded h.stmt.here h.kind in (t.0, t.1)
 
-  pub assign_target : Asks s S env T (i + 1)
-  assign_target = record { ready = h.stmt.ready; here = rw (add-one i) (row_first its_parts.1) }
+  pub assign_target : Asks S T (i + 1)
+  assign_target = record { room = h.stmt.room; here = rw (add-one i) (row_first its_parts.1) }
 
   module _ (a : Result Ty Refusal) (U : Table) (k : Types s (ty_of (env_of s T env) (expr_at s (i + 1))) T a U) where
     pub assign_no : (r : Refusal) → a ≡ Err r → Does s (check_stmt_types (env_of s T env) (stmt_at s i)) T (Err r) U
@@ -106,16 +104,16 @@ module _ (s S : List ℕ) (env : Env) (T : Table) (i : ℕ) (h : StmtOf kinds.as
 
     module _ (c : Ty) (m : ℕ) (e : a ≡ Ok c) (q : m ≡ end_at S (i + 1)) where
       on : Onward s S env T U
-      on = onward s S env T U _ _ h.stmt.ready (off_type h.stmt.ready.force.loaded (env_of s T env) assign_target.here (rw (add-one i) (no_value_below S i (omega (arith, h.kind))))) (gave s _ T a U k c e)
+      on = onward s S env T U _ _ loaded force h.stmt.room (off_type loaded (env_of s T env) assign_target.here (rw (add-one i) (no_value_below S i (omega (arith, h.kind))))) (gave s _ T a U k c e)
 
-      pub assign_value : ValueIn s S env U (i + 1) m
+      pub assign_value : ValueIn S U (i + 1) m
       assign_value =
-          record { ready = on.ready; within = assign_target.here.within; here = rw (q ∙ ap (end_at S) (add-one i)) (row_first (row_rest its_parts.1)) }
+          record { room = on.room; within = assign_target.here.within; here = rw (q ∙ ap (end_at S) (add-one i)) (row_first (row_rest its_parts.1)) }
 
-      pub assign_ok : (o : code.AssignOp) (r : Result Unit Refusal) (W : Table) → o ≡ assign_of (op_at S i) → Gives s S env o (i + 1) m c U r W → Does s (check_stmt_types (env_of s T env) (stmt_at s i)) T r W
+      pub assign_ok : (o : code.AssignOp) (r : Result Unit Refusal) (W : Table) → o ≡ assign_of (op_at S i) → DoesAssign s S env o (i + 1) m c U r W → Does s (check_stmt_types (env_of s T env) (stmt_at s i)) T r W
       unfolding check_stmt_types check_assign ask_of asked ty_of given_to
       assign_ok o r W y g =
-          let j = g.does (expr_at s (i + 1)) (target_at h.stmt.ready.force.loaded assign_target.here) in
+          let j = g.does (expr_at s (i + 1)) (target_at loaded assign_target.here) in
           record {
             gives =
                 rw (its_parts.0, ← assign_told (op_at S i), ← y, ← add-one i, ← q)
@@ -124,38 +122,38 @@ module _ (s S : List ℕ) (env : Env) (T : Table) (i : ℕ) (h : StmtOf kinds.as
 
 -- ------------------------------------------------------------ check_keyed_use
 
-module _ (s S : List ℕ) (env : Env) (T : Table) (i : ℕ) (h : Asks s S env T i) where
-  no_call : kind_at S i ≢ kinds.call → call_of (expr_at s i) ≡ none
-  no_call q = is-call_at h.ready.force.loaded h.here ∙ rw (ne_eqb (kind_at S i) kinds.call q) refl
+module _ (s S : List ℕ) (env : Env) (T : Table) (i : ℕ) (loaded : Loaded s S) (force : InForce S env) (h : Asks S T i) where
+  no_call : kind_at S i ≢ kinds.call → call_of (expr_at s i) ≡ None
+  no_call q = is-call_at loaded h.here ∙ rw (ne_eqb (kind_at S i) kinds.call q) refl
 
   pub use_none : kind_at S i ≢ kinds.call → Does s (check_keyed_use (env_of s T env) (expr_at s i)) T (Ok tt) T
   unfolding check_keyed_use if_some done_of kept
   use_none q = record { gives = rw (no_call q) refl }
 
   module _ (q : kind_at S i ≡ kinds.call) where
-    use_call : AsksAt kinds.call s S env T i
+    use_call : AsksAt kinds.call S T i
     use_call = record { asks = h; kind = q }
 
-    pub use_callee : ExprIn s S env (i + 1)
-    use_callee = call_callee s S env T i use_call
+    pub use_callee : Here S grammar.Expr (i + 1)
+    use_callee = call_callee s S env T i loaded force use_call
 
     module _ (keyed : Option ℕ) (f : KeyedOf s S env (i + 1) keyed) where
       pub use_args : AsksCall s S env T i keyed
-      use_args = call-args s S env T i use_call keyed f
+      use_args = call-args s S env T i loaded force use_call keyed f
 
       pub use_ok : (r : Result Unit Refusal) (U : Table) → Does s (check_keyed_call (env_of s T env) (callee_at s i) (typings (env_of s T env) (args_at s S i))) T r U
           → Does s (check_keyed_use (env_of s T env) (expr_at s i)) T r U
       unfolding check_keyed_use call_of if_some callee_at args_at
-      use_ok r U k = record { gives = rw (parts s S env T i use_call).0 k.gives }
+      use_ok r U k = record { gives = rw (parts s S env T i loaded use_call).0 k.gives }
 
 -- ------------------------------------------------------------ check_do
 
-module _ (s S : List ℕ) (env : Env) (T : Table) (i : ℕ) (h : StmtOf kinds.do' s S env T i) where
+module _ (s S : List ℕ) (env : Env) (T : Table) (i : ℕ) (loaded : Loaded s S) (force : InForce S env) (h : StmtOf kinds.do' S T i) where
   its_part : (stmt_at s i ≡ do' (expr_at s (suc i))) × Row S grammar.Expr 1 (suc i)
-  its_part = let t = do_at h.stmt.ready.force.loaded h.stmt.here h.kind in (t.0, t.1)
+  its_part = let t = do_at loaded h.stmt.here h.kind in (t.0, t.1)
 
-  pub do_expr : Asks s S env T (i + 1)
-  do_expr = record { ready = h.stmt.ready; here = rw (add-one i) (row_first its_part.1) }
+  pub do_expr : Asks S T (i + 1)
+  do_expr = record { room = h.stmt.room; here = rw (add-one i) (row_first its_part.1) }
 
   module _ (a : Result Ty Refusal) (U : Table) (k : Types s (ty_of (env_of s T env) (expr_at s (i + 1))) T a U) where
     pub do_no : (r : Refusal) → a ≡ Err r → Does s (check_stmt_types (env_of s T env) (stmt_at s i)) T (Err r) U
@@ -164,10 +162,10 @@ module _ (s S : List ℕ) (env : Env) (T : Table) (i : ℕ) (h : StmtOf kinds.do
 
     module _ (c : Ty) (e : a ≡ Ok c) where
       on_do : Onward s S env T U
-      on_do = onward s S env T U _ _ h.stmt.ready (off_type h.stmt.ready.force.loaded (env_of s T env) do_expr.here (rw (add-one i) (no_value_below S i (omega (arith, h.kind))))) (gave s _ T a U k c e)
+      on_do = onward s S env T U _ _ loaded force h.stmt.room (off_type loaded (env_of s T env) do_expr.here (rw (add-one i) (no_value_below S i (omega (arith, h.kind))))) (gave s _ T a U k c e)
 
-      pub do_use : Asks s S env U (i + 1)
-      do_use = record { ready = on_do.ready; here = do_expr.here }
+      pub do_use : Asks S U (i + 1)
+      do_use = record { room = on_do.room; here = do_expr.here }
 
       pub do_ok : (r : Result Unit Refusal) (W : Table) → Does s (check_keyed_use (env_of s U env) (expr_at s (i + 1))) U r W → Does s (check_stmt_types (env_of s T env) (stmt_at s i)) T r W
       unfolding check_stmt_types
@@ -180,16 +178,15 @@ module _ (s S : List ℕ) (env : Env) (T : Table) (i : ℕ) (h : StmtOf kinds.do
 
 -- ------------------------------------------------------------ check_stmt_types
 
-module _ (s S : List ℕ) (env : Env) (T : Table) (i : ℕ) (h : StmtIn s S env T i) where
+module _ (s S : List ℕ) (env : Env) (T : Table) (i : ℕ) (loaded : Loaded s S) (force : InForce S env) (h : StmtIn S T i) where
   -- other statements ask nothing here
   pub stmt_other : kind_at S i ≢ kinds.assign → kind_at S i ≢ kinds.do' → Does s (check_stmt_types (env_of s T env) (stmt_at s i)) T (Ok tt) T
   unfolding check_stmt_types done_of kept
   stmt_other a b =
-      let d = h.ready.force.loaded in
       let q = pick {P = λ k. kind_at S i ≡ k → k ≢ kinds.assign → k ≢ kinds.do' → Does s (check_stmt_types (env_of s T env) (stmt_at s i)) T (Ok tt) T} {i = kinds.guard} {n = 5} (kind_at S i)
-      ((λ f x y. record { gives = rw (guard_at d h.here f).0 refl })
-      also (λ f x y. record { gives = rw (let_at d h.here f).0 refl })
-      also (λ f x y. record { gives = rw (emit_at d h.here f).0 refl })
+      ((λ f x y. record { gives = rw (guard_at loaded h.here f).0 refl })
+      also (λ f x y. record { gives = rw (let_at loaded h.here f).0 refl })
+      also (λ f x y. record { gives = rw (emit_at loaded h.here f).0 refl })
       also (λ f x y. absurd (x refl))
       also (λ f x y. absurd (y refl))
       also stop) in
@@ -201,7 +198,7 @@ pub takes_none_lem : (x : Name) (o : Option ℕ) (r : Bool) → o ≡ place_in x
 unfolding split ended
 takes_none_lem x o r e f = f ∙ one_found x no_defaults o e
 
-module _ (s S : List ℕ) (env : Env) (T : Table) (field : ℕ) (h : DefaultIn s S env T field) where
+module _ (s S : List ℕ) (env : Env) (T : Table) (field : ℕ) (loaded : Loaded s S) (force : InForce S env) (h : DefaultIn S T field) where
   abbrev Γ : typing.Env
   Γ = env_of s T env
 
@@ -210,20 +207,20 @@ module _ (s S : List ℕ) (env : Env) (T : Table) (field : ℕ) (h : DefaultIn s
 
   field_is : (f.name ≡ name_at s S field) × (f.nspan ≡ place_at s field) × (f.ty ≡ type_at s (suc field)) × Here S grammar.Ty (suc field) × Row S grammar.Expr 1 (end_at S (suc field))
   field_is =
-      let q = field_at_lem h.ready.force.loaded h.within h.kind in
+      let q = field_at_lem loaded h.within h.kind in
       (ap (λ y. y.name) q.0, ap (λ y. y.nspan) q.0, ap (λ y. y.ty) q.0, q.1, rw h.some at q.2)
 
   -- its name and place tell the target that is made up
   default_target : TargetAt s S field (leaf 0 f.nspan (id f.name))
   unfolding span ident_of leaf_of ident_leaf bare_at
-  default_target = record { place = field_is.1; ident = rw (h.kind, field_is.0, named h.ready.force.loaded h.within) refl }
+  default_target = record { place = field_is.1; ident = rw (h.kind, field_is.0, named loaded h.within) refl }
 
   module _ (v : ℕ) (z : v ≡ end_at S (field + 1)) where
     value_at : v ≡ end_at S (suc field)
     value_at = z ∙ ap (end_at S) (add-one field)
 
-    pub default_value : ValueIn s S env T field v
-    default_value = record { ready = h.ready; within = h.within; here = rw value_at (row_first field_is.4) }
+    pub default_value : ValueIn S T field v
+    default_value = record { room = h.room; within = h.within; here = rw value_at (row_first field_is.4) }
 
     -- nothing is asked of the target
     from_value : (r : Kept Unit) → kept (given_to Γ (assign_meant assign_op.Set) (leaf 0 f.nspan (id f.name)) (expr_at s v) (ty_of_ident Γ f.name)) T ≡ r
@@ -234,8 +231,7 @@ module _ (s S : List ℕ) (env : Env) (T : Table) (field : ℕ) (h : DefaultIn s
     module _ (y : Name) (b : Bool) (n : y ≡ name_at s S (field + 1)) (o : b ≡ is_one y no_defaults) where
       test : is_one (type_name f.ty) no_defaults ≡ b
       test =
-          let t : TypeAt s S (suc field) = record { loaded = h.ready.force.loaded; here = field_is.3 } in
-          let q : type_name f.ty ≡ y = rw (field_is.2, n, add-one field) (sym (type_name_lem s S (suc field) t)) in
+          let q : type_name f.ty ≡ y = rw (field_is.2, n, add-one field) (sym (type_name_lem s S (suc field) loaded)) in
           rw q (sym o)
 
       pub default_wrong : b ≡ true → Does s (check_default Γ f (expr_at s (end_at S (suc field)))) T (Err (Default field v)) T
@@ -244,7 +240,7 @@ module _ (s S : List ℕ) (env : Env) (T : Table) (field : ℕ) (h : DefaultIn s
           let q : not (is_one (type_name f.ty) no_defaults) ≡ false = rw (test, e) refl in
           record { gives = rw (← value_at) ((refuses _ 19 (span (expr_at s v)) (default_text f.ty) _ q).answers T) }
 
-      pub default_ok : (x : Name) (c : Ty) (r : Result Unit Refusal) (U : Table) → b ≡ false → x ≡ name_at s S field → c ≡ ty_of_ident Γ x → Gives s S env assign_op.Set field v c T r U
+      pub default_ok : (x : Name) (c : Ty) (r : Result Unit Refusal) (U : Table) → b ≡ false → x ≡ name_at s S field → c ≡ ty_of_ident Γ x → DoesAssign s S env assign_op.Set field v c T r U
           → Does s (check_default Γ f (expr_at s (end_at S (suc field)))) T r U
       unfolding check_default ◌>>◌
       default_ok x c r U e m q g =

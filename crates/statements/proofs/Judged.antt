@@ -1,32 +1,31 @@
 -- `judge_assign`: what each return needs. Assumes nothing.
-use mathlib.Core.Logic.{◌≢◌, ◌⊎◌, inl, inr}
+use mathlib.Core.Logic.{◌⊎◌, inl, inr}
 use mathlib.Core.Path.{◌≡◌, refl, sym, ◌∙◌}
 use mathlib.Core.List.{List}
 use mathlib.Core.Bool.{Bool, true, false, true≢false, cond, not, ◌&&◌, and-eq-true_iff, or-false}
-use mathlib.Core.Option.{Option, none, some}
 use Prim.Native.Nat.{ℕ}
 use native.Mathlib.Omega.{arith}
 use lib.Dec.{eqb, leb}
 use borrow.Author.Tests.{ne_eqb, not-true, not-false}
-use Rattle.std.specs.Prelude.{Result, Ok, Err}
+use Rattle.std.specs.Prelude.{Result, Ok, Err, Option, Some, None, is_some, unwrap_or}
 use Rattle.grammar.specs.Grammar as grammar
 use Rattle.sheet.specs.Scratch.{kind_at, name_at}
 use Rattle.rules.specs.Text.{Name}
 use Rattle.sheet.specs.Tree.{node}
 use Rattle.rules.specs.Ast.{Expr, span, span_of, expr_of}
-use Rattle.rules.specs.Asking.{code, Res, ok, refused, Rule, ◌>>◌, expect, if_some}
+use Rattle.rules.specs.Asking.{Res, ok, refused, Rule, ◌>>◌, expect, if_some}
 use Rattle.rules.specs.declared.ty.Ty.{Ty}
 use Rattle.rules.specs.declared.ty.Ty.TheVariants.{Address, Asset, Name as TName}
 use Rattle.rules.specs.Kept.{Table}
 use Rattle.rules.specs.Types.{parse_u128, int_of, eq_ty}
 use Rattle.rules.specs.Typing as typing
-use Rattle.rules.specs.Typing.{ident_of, is_some}
+use Rattle.rules.specs.Typing.{ident_of}
 use Rattle.rules.specs.Statements.{narrow_field, is_set, is_address_field, name_into_address, is_checked, is_wrapping, wrapping_into_narrow, literal_into_narrow, literal_text, slot_fits, slot_text, asset_slot_text, judge_assign}
 use Rattle.rules.specs.Standing.{node_span, named_at, place_at, expr_at, model_in, Loaded, Here}
 use Rattle.rules.proofs.Exprs.{int_at, ident_at}
 use Rattle.rules.proofs.Parts.{stop, ◌also◌, pick}
 use Rattle.rules.proofs.Records.{named}
-use Rattle.rules.proofs.Standing.{stands}
+use Rattle.rules.proofs.Standing.{stands, loaded_sheet}
 use Rattle.refusals.specs.Answers.{Answers, expected}
 use Rattle.refusals.specs.Refusal.{number_in, refusal_of, done_of}
 use Rattle.refusals.specs.declared.refusal.Refusal.{Refusal}
@@ -81,12 +80,12 @@ module _ {s S : List ℕ} (d : Loaded s S) {i : ℕ} (h : Here S grammar.Expr i)
 
 -- ------------------------------------------------------------ rules of a bare name
 
-module _ (o : Option Name) (b : Bool) (x : Name) (f : Name → Rule Unit) (q : o ≡ cond b (some x) none) where
+module _ (o : Option Name) (b : Bool) (x : Name) (f : Name → Rule Unit) (q : o ≡ cond b (Some x) None) where
   if_fine : (b ≡ true → Answers (f x) (ok tt)) → Answers (if_some o f) (ok tt)
   unfolding if_some
   if_fine h = by_cases b q h
     where
-      by_cases : (b : Bool) → o ≡ cond b (some x) none → (b ≡ true → Answers (f x) (ok tt)) → Answers (if_some o f) (ok tt)
+      by_cases : (b : Bool) → o ≡ cond b (Some x) None → (b ≡ true → Answers (f x) (ok tt)) → Answers (if_some o f) (ok tt)
       by_cases true e k = rw e (k refl)
       by_cases false e k = rw e (gives tt)
 
@@ -103,34 +102,34 @@ module _ (y : Name) (m at : ℕ) (x : Name) where
   unfolding exceeds_of if_some
   below = by_cases (parse_u128 y)
     where
-      by_cases : (o : Option ℕ) → elim o as (λ _. Bool) [ none ↦ false | some n ↦ not (leb n m) ] ≡ false → Answers (if_some o λ literal. expect (leb literal m) 27 at (literal_text x literal m)) (ok tt)
-      by_cases none e = gives tt
-      by_cases (some n) e = fits (leb n m) 27 at _ (not-false (leb n m) e)
+      by_cases : (o : Option ℕ) → elim o as (λ _. Bool) [ None ↦ false | Some n ↦ not (leb n m) ] ≡ false → Answers (if_some o λ literal. expect (leb literal m) 27 at (literal_text x literal m)) (ok tt)
+      by_cases None e = gives tt
+      by_cases (Some n) e = fits (leb n m) 27 at _ (not-false (leb n m) e)
 
-  above : exceeds_of y m ≡ true → Answers of_literal (refused (record { number = 27; place = at; text = literal_text x (elim (parse_u128 y) [ some n ↦ n | none ↦ 0 ]) m }))
+  above : exceeds_of y m ≡ true → Answers of_literal (refused (record { number = 27; place = at; text = literal_text x (unwrap_or (parse_u128 y) 0) m }))
   unfolding exceeds_of if_some
   above = by_cases (parse_u128 y)
     where
-      by_cases : (o : Option ℕ) → elim o as (λ _. Bool) [ none ↦ false | some n ↦ not (leb n m) ] ≡ true
-          → Answers (if_some o λ literal. expect (leb literal m) 27 at (literal_text x literal m)) (refused (record { number = 27; place = at; text = literal_text x (elim o [ some n ↦ n | none ↦ 0 ]) m }))
-      by_cases none e = absurd (true≢false (sym e))
-      by_cases (some n) e = misfits (leb n m) 27 at _ (not-true (leb n m) e)
+      by_cases : (o : Option ℕ) → elim o as (λ _. Bool) [ None ↦ false | Some n ↦ not (leb n m) ] ≡ true
+          → Answers (if_some o λ literal. expect (leb literal m) 27 at (literal_text x literal m)) (refused (record { number = 27; place = at; text = literal_text x (unwrap_or o 0) m }))
+      by_cases None e = absurd (true≢false (sym e))
+      by_cases (Some n) e = misfits (leb n m) 27 at _ (not-true (leb n m) e)
 
 -- ... for a slot that may be narrow
 module _ (o : Option ℕ) (y : Name) (at : ℕ) (x : Name) where
   abbrev of_slot : Rule Unit
   of_slot = if_some o λ max. of_literal y max at x
 
-  slot_below : ((m : ℕ) → o ≡ some m → exceeds_of y m ≡ false) → Answers of_slot (ok tt)
+  slot_below : ((m : ℕ) → o ≡ Some m → exceeds_of y m ≡ false) → Answers of_slot (ok tt)
   unfolding if_some
   slot_below f = by_cases o refl
     where
       by_cases : (p : Option ℕ) → o ≡ p → Answers of_slot (ok tt)
-      by_cases none z = rw z (gives tt)
-      by_cases (some m) z = rw z (below y m at x (f m z))
+      by_cases None z = rw z (gives tt)
+      by_cases (Some m) z = rw z (below y m at x (f m z))
 
-  slot_above : (m : ℕ) → o ≡ some m → exceeds_of y m ≡ true
-      → Answers of_slot (refused (record { number = 27; place = at; text = literal_text x (elim (parse_u128 y) [ some n ↦ n | none ↦ 0 ]) m }))
+  slot_above : (m : ℕ) → o ≡ Some m → exceeds_of y m ≡ true
+      → Answers of_slot (refused (record { number = 27; place = at; text = literal_text x (unwrap_or (parse_u128 y) 0) m }))
   unfolding if_some
   slot_above m z f = rw z (above y m at x f)
 
@@ -138,19 +137,18 @@ module _ (o : Option ℕ) (y : Name) (at : ℕ) (x : Name) where
 module _ (target value : ℕ) (above : ℕ → Bool) where
   abbrev answer : (b : Bool) (o : Option ℕ) (w : Bool) → Result Unit Refusal
   answer b o w =
-      elim (cond b o none) [
-        | none ↦ Ok tt
-        | some max ↦ cond w (Err (WrappingIntoNarrow target value)) (expected (not (above max)) (LiteralIntoNarrow target value max))
+      elim (cond b o None) [
+        | None ↦ Ok tt
+        | Some max ↦ cond w (Err (WrappingIntoNarrow target value)) (expected (not (above max)) (LiteralIntoNarrow target value max))
       ]
 
   no_wrapping : (b : Bool) (o : Option ℕ) (w : Bool) → answer b o w ≡ Ok tt → b ≡ true → (is_some o && w) ≡ false
-  unfolding is_some
-  no_wrapping true none w e q = refl
-  no_wrapping true (some m) true e q = absurd (let z : ◌≡◌ {A = ℕ} 0 1 = cc in omega arith)
-  no_wrapping true (some m) false e q = refl
+  no_wrapping true None w e q = refl
+  no_wrapping true (Some m) true e q = absurd (let z : ◌≡◌ {A = ℕ} 0 1 = cc in omega arith)
+  no_wrapping true (Some m) false e q = refl
   no_wrapping false o w e q = absurd (true≢false (sym q))
 
-  none_above : (b : Bool) (o : Option ℕ) (w : Bool) → answer b o w ≡ Ok tt → b ≡ true → (m : ℕ) → o ≡ some m → above m ≡ false
+  none_above : (b : Bool) (o : Option ℕ) (w : Bool) → answer b o w ≡ Ok tt → b ≡ true → (m : ℕ) → o ≡ Some m → above m ≡ false
   unfolding expected
   none_above b o true e q m z = absurd (let y : Err (WrappingIntoNarrow target value) ≡ Ok tt = sym (rw (q, z) refl) ∙ e in let x : ◌≡◌ {A = ℕ} 0 1 = cc in omega arith)
   none_above b o false e q m z = by_cases (above m) refl
@@ -163,17 +161,17 @@ module _ (target value : ℕ) (above : ℕ → Bool) where
   pub record Refuses (b : Bool) (o : Option ℕ) (w : Bool) (why : Refusal) : Type 0 where
     pub is-bare : b ≡ true
     pub max : ℕ
-    pub is-max : o ≡ some max
+    pub is-max : o ≡ Some max
     pub by : ((w ≡ true) × (why ≡ WrappingIntoNarrow target value)) ⊎ ((w ≡ false) × (above max ≡ true) × (why ≡ LiteralIntoNarrow target value max))
 
   why_refused : (b : Bool) (o : Option ℕ) (w : Bool) (why : Refusal) → answer b o w ≡ Err why → Refuses b o w why
   unfolding expected
   why_refused false o w why e = absurd (let z : ◌≡◌ {A = ℕ} 0 1 = cc in omega arith)
-  why_refused true none w why e = absurd (let z : ◌≡◌ {A = ℕ} 0 1 = cc in omega arith)
-  why_refused true (some m) true why e = record { is-bare = refl; max = m; is-max = refl; by = inl (refl, cc) }
-  why_refused true (some m) false why e = by_cases (above m) refl
+  why_refused true None w why e = absurd (let z : ◌≡◌ {A = ℕ} 0 1 = cc in omega arith)
+  why_refused true (Some m) true why e = record { is-bare = refl; max = m; is-max = refl; by = inl (refl, cc) }
+  why_refused true (Some m) false why e = by_cases (above m) refl
     where
-      by_cases : (t : Bool) → above m ≡ t → Refuses true (some m) false why
+      by_cases : (t : Bool) → above m ≡ t → Refuses true (Some m) false why
       by_cases true f =
           let y : Err (LiteralIntoNarrow target value m) ≡ Err why = sym (rw f refl) ∙ e in
           record { is-bare = refl; max = m; is-max = refl; by = inr (refl, f, cc) }
@@ -182,7 +180,7 @@ module _ (target value : ℕ) (above : ℕ → Bool) where
 -- ------------------------------------------------------------ rule by rule
 
 -- The target e is that of its line, t and u are its type and the value's.
-module _ (s S : List ℕ) (env : Env) (op : code.AssignOp) (target value : ℕ) (t u : Ty) (h : AssignAt s S target value) (T : Table) (e : Expr) (p : TargetAt s S target e) where
+module _ (s S : List ℕ) (env : Env) (op : code.AssignOp) (target value : ℕ) (t u : Ty) (loaded : Loaded s S) (h : AssignAt S target value) (T : Table) (e : Expr) (p : TargetAt s S target e) where
   abbrev Γ : typing.Env
   Γ = env_of s T env
 
@@ -190,7 +188,7 @@ module _ (s S : List ℕ) (env : Env) (op : code.AssignOp) (target value : ℕ) 
   given = expr_at s value
 
   name-is : named_at s target ≡ name_at s S target
-  name-is = named h.loaded h.within
+  name-is = named loaded h.within
 
   -- 24
   past_asset : (q : Rule Unit) (r : Res Unit) → eq_ty t Asset ≡ false → Answers q r → Answers (expect (not (eq_ty t Asset)) 24 (span e) asset_slot_text >> q) r
@@ -236,34 +234,34 @@ module _ (s S : List ℕ) (env : Env) (op : code.AssignOp) (target value : ℕ) 
   wrap_fine : (bare_at S target ≡ true → (is_some field && is-wrapped) ≡ false) → Answers wrap_rule (ok tt)
   unfolding wrapping_into_narrow env_of
   wrap_fine f =
-      if_fine (ident_of e) (bare_at S target) (named_at s target) _ p.ident (λ b. fits _ 26 _ _ (rw ((told h.loaded h.here).0, f b) refl))
+      if_fine (ident_of e) (bare_at S target) (named_at s target) _ p.ident (λ b. fits _ 26 _ _ (rw ((told loaded h.here).0, f b) refl))
 
   wrap_no : bare_at S target ≡ true → (is_some field && is-wrapped) ≡ true → Answers wrap_rule (refused (refusal_of s (WrappingIntoNarrow target value)))
   unfolding wrapping_into_narrow env_of refusal_of
   wrap_no b f =
-      if_named (ident_of e) (bare_at S target) (named_at s target) _ p.ident _ b (misfits _ 26 _ _ (rw ((told h.loaded h.here).0, f) refl))
+      if_named (ident_of e) (bare_at S target) (named_at s target) _ p.ident _ b (misfits _ 26 _ _ (rw ((told loaded h.here).0, f) refl))
 
   abbrev literal_rule : Rule Unit
   literal_rule = if_some (ident_of e) λ x. literal_into_narrow Γ x given
 
   -- the literal, if any
-  text_is : int_of given ≡ cond (eqb (kind_at S value) kinds.int) (some (name_at s S value)) none
-  text_is = int_at h.loaded h.here
+  text_is : int_of given ≡ cond (eqb (kind_at S value) kinds.int) (Some (name_at s S value)) None
+  text_is = int_at loaded h.here
 
-  literal_fine : (bare_at S target ≡ true → (m : ℕ) → field ≡ some m → is_above s S value m ≡ false) → Answers literal_rule (ok tt)
+  literal_fine : (bare_at S target ≡ true → (m : ℕ) → field ≡ Some m → is_above s S value m ≡ false) → Answers literal_rule (ok tt)
   unfolding literal_into_narrow env_of is_above
   literal_fine f =
       if_fine (ident_of e) (bare_at S target) (named_at s target) _ p.ident
       (λ b. if_fine (int_of given) (eqb (kind_at S value) kinds.int) (name_at s S value) _ text_is
       (λ y. slot_below field (name_at s S value) _ _ (λ m z. rw y at (f b m z))))
 
-  literal_no : (m : ℕ) → bare_at S target ≡ true → field ≡ some m → is_above s S value m ≡ true → Answers literal_rule (refused (refusal_of s (LiteralIntoNarrow target value m)))
+  literal_no : (m : ℕ) → bare_at S target ≡ true → field ≡ Some m → is_above s S value m ≡ true → Answers literal_rule (refused (refusal_of s (LiteralIntoNarrow target value m)))
   unfolding literal_into_narrow env_of is_above refusal_of number_in
   literal_no m b z f =
       let y = ((and-eq-true_iff (eqb (kind_at S value) kinds.int) _).0 f).0 in
       if_named (ident_of e) (bare_at S target) (named_at s target) _ p.ident _ b
       (if_named (int_of given) (eqb (kind_at S value) kinds.int) (name_at s S value) _ text_is _ y
-      (rw (literal_at_lem h.loaded value, y) (slot_above field (name_at s S value) _ _ m z (rw y at f))))
+      (rw (literal_at_lem loaded value, y) (slot_above field (name_at s S value) _ _ m z (rw y at f))))
 
   narrow_fine : (q : Rule Unit) (r : Res Unit) → judge_narrow s S target value ≡ Ok tt → Answers q r → Answers (wrap_rule >> (literal_rule >> q)) r
   narrow_fine q r f a =
@@ -271,8 +269,7 @@ module _ (s S : List ℕ) (env : Env) (op : code.AssignOp) (target value : ℕ) 
       then_fine wrap_rule _ tt r (wrap_fine (no_wrapping _ _ _ (bare_at S target) field is-wrapped g))
       (then_fine literal_rule q tt r (literal_fine (none_above _ _ _ (bare_at S target) field is-wrapped g)) a)
 
-  some_field : (m : ℕ) → field ≡ some m → is_some field ≡ true
-  unfolding is_some
+  some_field : (m : ℕ) → field ≡ Some m → is_some field ≡ true
   some_field m z = rw z refl
 
   narrow_no : (q : Rule Unit) (why : Refusal) → judge_narrow s S target value ≡ Err why → Answers (wrap_rule >> (literal_rule >> q)) (refused (refusal_of s why))
@@ -290,7 +287,7 @@ module _ (s S : List ℕ) (env : Env) (op : code.AssignOp) (target value : ℕ) 
 
 -- ------------------------------------------------------------ return by return
 
-module _ (s S : List ℕ) (env : Env) (op : code.AssignOp) (target value : ℕ) (t u : Ty) (h : AssignAt s S target value) (x : Bool) (k : x ≡ sameb the_type t Asset) where
+module _ (s S : List ℕ) (env : Env) (op : code.AssignOp) (target value : ℕ) (t u : Ty) (loaded : Loaded s S) (h : AssignAt S target value) (x : Bool) (k : x ≡ sameb the_type t Asset) where
   pub asset_wrong : x ≡ true → JudgesAssign s S env op target value t u (Err (AssetSlot target))
   unfolding judge_assign done_of refusal_of
   asset_wrong q =
@@ -305,7 +302,7 @@ module _ (s S : List ℕ) (env : Env) (op : code.AssignOp) (target value : ℕ) 
     address_wrong f =
         record {
           judged = λ T e p.
-              past_asset s S env op target value t u h T e p _ _ no_asset (then_refused _ _ _ (name_no s S env op target value t u h T e p (sym y ∙ f)));
+              past_asset s S env op target value t u loaded h T e p _ _ no_asset (then_refused _ _ _ (name_no s S env op target value t u loaded h T e p (sym y ∙ f)));
         }
 
     module _ (r : Result Unit Refusal) (na : a ≡ false) (q : r ≡ judge_narrow s S target value) where
@@ -314,7 +311,7 @@ module _ (s S : List ℕ) (env : Env) (op : code.AssignOp) (target value : ℕ) 
       narrow_wrong why f =
           record {
             judged = λ T e p.
-                past_name s S env op target value t u h T e p _ _ no_asset (sym y ∙ na) (narrow_no s S env op target value t u h T e p _ why (sym q ∙ f));
+                past_name s S env op target value t u loaded h T e p _ _ no_asset (sym y ∙ na) (narrow_no s S env op target value t u loaded h T e p _ why (sym q ∙ f));
           }
 
       module _ (g : Bool) (nr : r ≡ Ok tt) (w : FitsSlot s env op value t u g) where
@@ -324,7 +321,7 @@ module _ (s S : List ℕ) (env : Env) (op : code.AssignOp) (target value : ℕ) 
             → Answers (judge_assign (env_of s T env) (assign_meant op) e (expr_at s value) t u) v
         unfolding judge_assign
         all_past T e p v j =
-            past_name s S env op target value t u h T e p _ _ no_asset (sym y ∙ na) (narrow_fine s S env op target value t u h T e p _ v (sym q ∙ nr) j)
+            past_name s S env op target value t u loaded h T e p _ _ no_asset (sym y ∙ na) (narrow_fine s S env op target value t u loaded h T e p _ v (sym q ∙ nr) j)
 
         pub slot_fine : g ≡ true → JudgesAssign s S env op target value t u (Ok tt)
         unfolding done_of
@@ -337,3 +334,5 @@ module _ (s S : List ℕ) (env : Env) (op : code.AssignOp) (target value : ℕ) 
               judged = λ T e p.
                   all_past T e p _ ((misfits _ 28 _ _ (sym (w.fits T) ∙ f)));
             }
+
+pub ruleset laws_judged = (loaded_sheet, asset_wrong, address_wrong, narrow_wrong, slot_fine, slot_wrong)

@@ -3,7 +3,6 @@ use mathlib.Core.Logic.{◌≢◌}
 use mathlib.Core.Path.{◌≡◌, refl, sym, ◌∙◌}
 use mathlib.Core.List.{List, []}
 use mathlib.Core.Bool.{Bool, true, false, true≢false, cond, not, ◌&&◌, ◌||◌}
-use mathlib.Core.Option.{none, some}
 use Prim.Native.Nat.{ℕ, suc, ◌+◌}
 use native.Mathlib.Numerals.{add-one}
 use native.Mathlib.Omega.{arith}
@@ -12,6 +11,7 @@ use borrow.Author.Tests.{eq-eqb, ne_eqb, not-true, not-false}
 use Rattle.std.specs.Prelude.{Option, Some, None, Ok, Err}
 use Rattle.text.specs.Text.{bytes, same}
 use Rattle.sheet.specs.Scratch.{kind_at, name_at}
+use Rattle.grammar.specs.Grammar as grammar
 use Rattle.rules.specs.Text.{Name, is}
 use Rattle.rules.specs.Ast.{AssignOp, Set, AddTo, SubFrom, Expr, type_name}
 use Rattle.rules.specs.declared.ty.Ty.{Ty}
@@ -20,16 +20,15 @@ use Rattle.rules.specs.Types.{eq_ty, numeric, compatible}
 use Rattle.rules.specs.Typing as typing
 use Rattle.rules.specs.Typing.{ident_of, ident_is}
 use Rattle.rules.specs.Statements.{is_set, is_address_field, narrow_field, from_deploy_params, slot_fits}
-use Rattle.rules.specs.Standing.{expr_at, field_at, model_in, Loaded}
+use Rattle.rules.specs.Standing.{expr_at, field_at, model_in, Loaded, Here}
 use Rattle.rules.proofs.Exprs.{is_dot_at, dot_at_lem, ident_at}
-use Rattle.rules.proofs.Standing.{row_first}
+use Rattle.rules.proofs.Standing.{row_first, loaded_sheet}
 use denote.Enum.Bare.{sameb}
 use Rattle.rules.specs.contracts.ty.Ty.{the_type}
 use Rattle.rules.proofs.Same.{told_ty}
 use Rattle.rules.specs.Operators.{assign_meant}
 use Rattle.grammar.specs.declared.ops.AssignOp as code
 use Rattle.lookups.specs.Found.{found_field, FieldNamed}
-use Rattle.lookups.specs.Lines.{ExprAt}
 use Rattle.lookups.proofs.Behind.{behind}
 use Rattle.lookups.proofs.Types.{type_name_lem}
 use Rattle.env.specs.Force.{env_of}
@@ -37,8 +36,6 @@ use Rattle.env.specs.declared.env.Env.{Env}
 use Rattle.refusals.specs.Answers.{expected}
 use Rattle.refusals.specs.declared.refusal.Refusal.TheVariants.{WrappingIntoNarrow, LiteralIntoNarrow}
 use Rattle.narrow.specs.Narrow.{exceeds_of}
-use Rattle.rules.specs.Text.{option_of}
-use Rattle.lookups.proofs.Options.{from_some, from_none}
 use Rattle.statements.specs.Assigned.{bare_at, becomes_address, narrow_at, is_above, judge_narrow, FitsSlot}
 use Rattle.grammar.specs.Kinds as kinds
 
@@ -59,7 +56,7 @@ module _ (s S : List ℕ) (x : Name) (d : Loaded s S) (r : Option ℕ) (n : Fiel
   unfolding is_address_field found_field is
   address i y b e z w =
       let t = behind kinds.field s S d r i e n.kind (omega arith) (omega arith) in
-      let q : type_name (field_at s i).ty ≡ y = rw (t.field, z, add-one i) (sym (type_name_lem s S (suc i) t.typed)) in
+      let q : type_name (field_at s i).ty ≡ y = rw (t.field, z, add-one i) (sym (type_name_lem s S (suc i) d)) in
       rw (is_address_field, ← n.found, e, q) w
 
 module _ (s S : List ℕ) (op : code.AssignOp) (target : ℕ) (slot given : Ty) (b : Bool) (n : b ≡ bare_at S target) where
@@ -80,11 +77,11 @@ module _ (s S : List ℕ) (op : code.AssignOp) (target : ℕ) (slot given : Ty) 
 -- ------------------------------------------------------------ narrow fields
 
 module _ (s S : List ℕ) (i : ℕ) (b : Bool) (n : b ≡ bare_at S i) where
-  pub narrow_no_name : not b ≡ true → None ≡ option_of (narrow_at s S i)
-  unfolding narrow_at option_of
+  pub narrow_no_name : not b ≡ true → None ≡ narrow_at s S i
+  unfolding narrow_at
   narrow_no_name e = rw (← n, not-true b e) refl
 
-  pub narrow_named : (x : Name) (r : Option ℕ) → not b ≡ false → x ≡ name_at s S i → r ≡ option_of (narrow_field (model_in s) x) → r ≡ option_of (narrow_at s S i)
+  pub narrow_named : (x : Name) (r : Option ℕ) → not b ≡ false → x ≡ name_at s S i → r ≡ narrow_field (model_in s) x → r ≡ narrow_at s S i
   unfolding narrow_at
   narrow_named x r e z w = rw (← n, not-false b e, ← z) w
 
@@ -98,14 +95,14 @@ module _ (s S : List ℕ) (i m : ℕ) (t : Bool) (q : t ≡ eqb (kind_at S i) ki
   above_literal x r e z w = rw (← q, e, ← z) w
 
 -- What `judge_narrow` meets: r is the target's largest number, and t whether the value is a `wrapping`.
-module _ (s S : List ℕ) (target value : ℕ) (r : Option ℕ) (q : r ≡ option_of (narrow_at s S target)) where
+module _ (s S : List ℕ) (target value : ℕ) (r : Option ℕ) (q : r ≡ narrow_at s S target) where
   pub narrow_wide : r ≡ None → Ok tt ≡ judge_narrow s S target value
   unfolding judge_narrow
-  narrow_wide e = rw (judge_narrow, from_none (narrow_at s S target) (sym e ∙ q)) refl
+  narrow_wide e = rw (judge_narrow, ← q, e) refl
 
   module _ (max : ℕ) (e : r ≡ Some max) (t : Bool) (z : t ≡ eqb (kind_at S value) kinds.wrapping) where
-    is-max : narrow_at s S target ≡ some max
-    is-max = from_some (narrow_at s S target) max (sym e ∙ q)
+    is-max : narrow_at s S target ≡ Some max
+    is-max = sym q ∙ e
 
     pub narrow_wraps : t ≡ true → Err (WrappingIntoNarrow target value) ≡ judge_narrow s S target value
     unfolding judge_narrow
@@ -122,7 +119,7 @@ module _ (s S : List ℕ) (target value : ℕ) (r : Option ℕ) (q : r ≡ optio
 
 -- ------------------------------------------------------------ deploy_params
 
-module _ (s S : List ℕ) (env : Env) (i : ℕ) (h : ExprAt s S i) where
+module _ (s S : List ℕ) (env : Env) (i : ℕ) (loaded : Loaded s S) (h : Here S grammar.Expr i) where
   pub not_genesis : not env.genesis ≡ true → false ≡ from_deploy_params (env_of s [] env) (expr_at s i)
   unfolding from_deploy_params env_of
   not_genesis e = rw (not-true env.genesis e) refl
@@ -130,15 +127,15 @@ module _ (s S : List ℕ) (env : Env) (i : ℕ) (h : ExprAt s S i) where
   module _ (g : not env.genesis ≡ false) where
     pub not_dot : kind_at S i ≢ kinds.dot → false ≡ from_deploy_params (env_of s [] env) (expr_at s i)
     unfolding from_deploy_params env_of
-    not_dot e = rw (not-false env.genesis g, is_dot_at h.loaded h.here, ne_eqb (kind_at S i) kinds.dot e) refl
+    not_dot e = rw (not-false env.genesis g, is_dot_at loaded h, ne_eqb (kind_at S i) kinds.dot e) refl
 
     module _ (d : kind_at S i ≡ kinds.dot) (t : Bool) (z : t ≡ eqb (kind_at S (i + 1)) kinds.id) where
-      base : ident_of (expr_at s (suc i)) ≡ cond t (some (name_at s S (i + 1))) none
-      base = ident_at h.loaded (row_first (dot_at_lem h.loaded h.here d).1) ∙ rw (z, add-one i) refl
+      base : ident_of (expr_at s (suc i)) ≡ cond t (Some (name_at s S (i + 1))) None
+      base = ident_at loaded (row_first (dot_at_lem loaded h d).1) ∙ rw (z, add-one i) refl
 
       from_base : from_deploy_params (env_of s [] env) (expr_at s i) ≡ ident_is (expr_at s (suc i)) "deploy_params"
       unfolding from_deploy_params env_of
-      from_base = rw (not-false env.genesis g, is_dot_at h.loaded h.here, eq-eqb (kind_at S i) kinds.dot d) refl
+      from_base = rw (not-false env.genesis g, is_dot_at loaded h, eq-eqb (kind_at S i) kinds.dot d) refl
 
       pub not_named : t ≡ false → false ≡ from_deploy_params (env_of s [] env) (expr_at s i)
       unfolding ident_is
@@ -182,3 +179,5 @@ module _ (s : List ℕ) (env : Env) (op : code.AssignOp) (i : ℕ) (t u : Ty) (o
 
       pub fits_not : b ≡ false → (x && y) ≡ false → FitsSlot s env op i t u false
       fits_not e w = fits_set false (rw (e, ← told_ty t Collection x f, ← told_ty u Unknown y g, w) refl)
+
+pub ruleset laws_tests = (loaded_sheet, address_no_name, address_named, address_other, not_genesis, not_dot, not_named, by_base, no_literal, above_literal, address, no_address, narrow_wide, narrow_wraps, narrow_above, narrow_fits, narrow_no_name, narrow_named, fits_numbers, fits_compatible, fits_params, fits_not)

@@ -1,6 +1,5 @@
 -- What an assignment is judged by: its target's line, its value's line, and their types.
-use Rattle.std.specs.Prelude.{ℕ, ◌<◌, Bool, not, cond, ◌&&◌, ◌||◌, List, ◌≡◌, eqb, Result, Ok, Err}
-use Rattle.std.proofs.Math.Option.{Option, none, some}
+use Rattle.std.specs.Prelude.{ℕ, ◌<◌, Bool, not, cond, ◌&&◌, ◌||◌, List, ◌≡◌, eqb, Result, Ok, Err, Option, Some, None}
 use Rattle.grammar.specs.Grammar as grammar
 use Rattle.sheet.specs.Scratch.{kind_at, name_at, line_count}
 use Rattle.rules.specs.Ast.{Expr, span}
@@ -8,7 +7,7 @@ use Rattle.rules.specs.declared.ty.Ty.{Ty}
 use Rattle.rules.specs.Kept.{Table}
 use Rattle.rules.specs.Typing.{ident_of}
 use Rattle.rules.specs.Statements.{narrow_field, is_set, is_address_field, slot_fits, judge_assign}
-use Rattle.rules.specs.Standing.{named_at, place_at, model_in, expr_at, Loaded, Here}
+use Rattle.rules.specs.Standing.{named_at, place_at, model_in, expr_at, Here}
 use Rattle.refusals.specs.Answers.{Answers, expected}
 use Rattle.refusals.specs.Refusal.{done_of}
 use Rattle.env.specs.Force.{env_of}
@@ -29,10 +28,9 @@ bare_at S i = eqb (kind_at S i) kinds.id || eqb (kind_at S i) kinds.field
 -- e is assigned to, and its line tells its name and place
 pub record TargetAt (s S : List ℕ) (target : ℕ) (e : Expr) : Type 0 where
   pub place : span e ≡ place_at s target
-  pub ident : ident_of e ≡ cond (bare_at S target) (some (named_at s target)) none
+  pub ident : ident_of e ≡ cond (bare_at S target) (Some (named_at s target)) None
 
-pub record AssignAt (s S : List ℕ) (target value : ℕ) : Type 0 where
-  pub loaded : Loaded s S
+pub record AssignAt (S : List ℕ) (target value : ℕ) : Type 0 where
   pub within : target < line_count S
   pub here : Here S grammar.Expr value
 
@@ -45,7 +43,7 @@ becomes_address s S op target slot given =
 
 -- the largest number of the narrow field that line i is the bare name of
 unfoldable pub narrow_at : List ℕ → List ℕ → ℕ → Option ℕ
-narrow_at s S i = cond (bare_at S i) (narrow_field (model_in s) (name_at s S i)) none
+narrow_at s S i = cond (bare_at S i) (narrow_field (model_in s) (name_at s S i)) None
 
 -- a literal above max
 unfoldable pub is_above : List ℕ → List ℕ → (value max : ℕ) → Bool
@@ -57,8 +55,8 @@ is_above s S value max = eqb (kind_at S value) kinds.int && exceeds_of (name_at 
 unfoldable pub judge_narrow : List ℕ → List ℕ → (target value : ℕ) → Result Unit Refusal
 judge_narrow s S target value =
     elim (narrow_at s S target) [
-      | none ↦ Ok tt
-      | some max ↦
+      | None ↦ Ok tt
+      | Some max ↦
           cond (eqb (kind_at S value) kinds.wrapping) (Err (WrappingIntoNarrow target value)) (expected (not (is_above s S value max)) (LiteralIntoNarrow target value max))
     ]
 

@@ -1,15 +1,14 @@
 // The judging of an assignment, when its target's and its value's types are known. A target is an expression or, where
 // its default is assigned, a field.
 ghost use Rattle.std.specs.Prelude.{[], ◌≡◌};
-ghost use Rattle.rules.specs.Standing.{expr_at, model_in};
+ghost use Rattle.rules.specs.Standing.{expr_at, Here, model_in};
 ghost use Rattle.rules.specs.Statements.{from_deploy_params, is_address_field, is_set};
-ghost use Rattle.lookups.specs.Lines.{ExprAt};
+ghost use Rattle.grammar.specs.Grammar as grammar;
 ghost use Rattle.env.specs.Force.{env_of};
-ghost use Rattle.rules.specs.Text.{option_of};
 ghost use Rattle.statements.specs.Assigned.{AssignAt, bare_at, becomes_address, FitsSlot, is_above, judge_narrow, JudgesAssign, narrow_at};
 ghost use Rattle.rules.specs.Operators.{assign_meant};
 
-use env::Env;
+use env::Scope;
 use grammar::{AssignOp, Kind};
 use lookups::{compatible, field_named, numeric};
 use narrow::{exceeds, narrow_field};
@@ -33,6 +32,7 @@ fn bare(lines: &[u16], target: usize) -> bool
 }
 
 // Whether the state field x is a Q_Address.
+#[tactic(auto, using(crate::proofs::Tests::laws_tests))]
 fn is_address_field(sheet: &LoadedSheet<'_>, x: &[u8]) -> bool
     ensures { result ≡ is_address_field (model_in sheet.now.bytes.now) x.now }
 {
@@ -43,6 +43,7 @@ fn is_address_field(sheet: &LoadedSheet<'_>, x: &[u8]) -> bool
 }
 
 // Whether a name becomes an address.
+#[tactic(auto, using(crate::proofs::Tests::laws_tests))]
 fn becomes_address(
     sheet: &LoadedSheet<'_>,
     op: AssignOp,
@@ -62,8 +63,9 @@ fn becomes_address(
 }
 
 // The largest number of the narrow field that the target is the bare name of.
+#[tactic(auto, using(crate::proofs::Tests::laws_tests))]
 fn narrow_at(sheet: &LoadedSheet<'_>, target: usize) -> Option<u64>
-    ensures { result ≡ option_of (narrow_at sheet.now.bytes.now sheet.now.lines.now target) }
+    ensures { result ≡ narrow_at sheet.now.bytes.now sheet.now.lines.now target }
 {
     if !bare(sheet.lines, target) {
         return None;
@@ -72,6 +74,7 @@ fn narrow_at(sheet: &LoadedSheet<'_>, target: usize) -> Option<u64>
 }
 
 // Whether the value is a literal above max.
+#[tactic(auto, using(crate::proofs::Tests::laws_tests))]
 fn is_above(sheet: &LoadedSheet<'_>, value: usize, max: u64) -> bool
     ensures { result ≡ is_above sheet.now.bytes.now sheet.now.lines.now value max }
 {
@@ -82,6 +85,7 @@ fn is_above(sheet: &LoadedSheet<'_>, value: usize, max: u64) -> bool
 }
 
 // Refuses a wrapping value for a narrow field, and a literal above its largest number.
+#[tactic(auto, using(crate::proofs::Tests::laws_tests))]
 fn judge_narrow(sheet: &LoadedSheet<'_>, target: usize, value: usize) -> Result<(), Refusal>
     ensures { result ≡ judge_narrow sheet.now.bytes.now sheet.now.lines.now target value }
 {
@@ -98,33 +102,28 @@ fn judge_narrow(sheet: &LoadedSheet<'_>, target: usize, value: usize) -> Result<
 }
 
 // Whether the value is a dot of `deploy_params`, in genesis.
-fn from_deploy_params(sheet: &LoadedSheet<'_>, env: Env, value: usize) -> bool
-    requires { ExprAt sheet.now.bytes.now sheet.now.lines.now value }
-    ensures { result ≡ from_deploy_params (env_of sheet.now.bytes.now [] env) (expr_at sheet.now.bytes.now value) }
+#[tactic(auto, using(crate::proofs::Tests::laws_tests))]
+fn from_deploy_params(scope: &Scope<'_>, value: usize) -> bool
+    requires { Here scope.now.sheet.lines.now grammar.Expr value }
+    ensures { result ≡ from_deploy_params (env_of scope.now.sheet.bytes.now [] scope.now.env) (expr_at scope.now.sheet.bytes.now value) }
 {
-    if !env.genesis {
+    if !scope.env.genesis {
         return false;
     }
-    if !sheet.is(value, Kind::Dot) {
+    if !scope.sheet.is(value, Kind::Dot) {
         return false;
     }
-    if !sheet.is(value + 1, Kind::Id) {
+    if !scope.sheet.is(value + 1, Kind::Id) {
         return false;
     }
-    is_word(sheet.name(value + 1), b"deploy_params")
+    is_word(scope.sheet.name(value + 1), b"deploy_params")
 }
 
 // Whether a value of one type may be stored in a slot of the other.
-fn slot_fits(
-    sheet: &LoadedSheet<'_>,
-    env: Env,
-    op: AssignOp,
-    value: usize,
-    slot: Ty,
-    given: Ty,
-) -> bool
-    requires { ExprAt sheet.now.bytes.now sheet.now.lines.now value }
-    ensures { FitsSlot sheet.now.bytes.now env op value slot given result }
+#[tactic(auto, using(crate::proofs::Tests::laws_tests))]
+fn slot_fits(scope: &Scope<'_>, op: AssignOp, value: usize, slot: Ty, given: Ty) -> bool
+    requires { Here scope.now.sheet.lines.now grammar.Expr value }
+    ensures { FitsSlot scope.now.sheet.bytes.now scope.now.env op value slot given result }
 {
     if !is_set(op) {
         return numeric(slot) & numeric(given);
@@ -133,32 +132,32 @@ fn slot_fits(
         return true;
     }
     if (slot == Ty::Collection) & (given == Ty::Unknown) {
-        return from_deploy_params(sheet, env, value);
+        return from_deploy_params(scope, value);
     }
     false
 }
 
 // Judges the assignment of the value to the target.
+#[tactic(auto, using(crate::proofs::Judged::laws_judged))]
 pub fn judge_assign(
-    sheet: &LoadedSheet<'_>,
-    env: Env,
+    scope: &Scope<'_>,
     op: AssignOp,
     target: usize,
     value: usize,
     slot: Ty,
     given: Ty,
 ) -> Result<(), Refusal>
-    requires { AssignAt sheet.now.bytes.now sheet.now.lines.now target value }
-    ensures { JudgesAssign sheet.now.bytes.now sheet.now.lines.now env op target value slot given result }
+    requires { AssignAt scope.now.sheet.lines.now target value }
+    ensures { JudgesAssign scope.now.sheet.bytes.now scope.now.sheet.lines.now scope.now.env op target value slot given result }
 {
     if slot == Ty::Asset {
         return Err(Refusal::AssetSlot(target));
     }
-    if becomes_address(sheet, op, target, slot, given) {
+    if becomes_address(&scope.sheet, op, target, slot, given) {
         return Err(Refusal::NameIntoAddress { target, value });
     }
-    judge_narrow(sheet, target, value)?;
-    if slot_fits(sheet, env, op, value, slot, given) {
+    judge_narrow(&scope.sheet, target, value)?;
+    if slot_fits(scope, op, value, slot, given) {
         Ok(())
     } else {
         Err(Refusal::SlotMismatch { value, slot, given })

@@ -10,7 +10,7 @@ fn either(a: u8, b: u8, x: u8) -> bool
 }
 
 // Where the first a or b from a position on stands. Where there is none: the length, or the position itself if it is beyond that. No Option,
-// since a piece that no byte ends goes on to the end of the text, so every caller would put the length for None.
+// since a piece that no byte ends goes on to the end of the text: most callers would put the length for None.
 pub fn find(s: &[u8], from: usize, a: u8, b: u8) -> usize
     ensures { result ≡ from + length (upto (either_of a b) (drop from s.now)) }
 {

@@ -3,26 +3,25 @@ use mathlib.Core.Path.{◌≡◌, refl, sym, ap, ◌∙◌}
 use mathlib.Core.List.{List}
 use mathlib.Core.Bool.{Bool, true, false}
 use mathlib.Core.Logic.{◌⊎◌, inl, inr}
-use mathlib.Core.Option.{none, some}
 use Prim.Native.Nat.{ℕ, zero, suc, ◌<◌}
 use native.Mathlib.Omega.{arith}
 use lib.ListN.{get_or, set}
 use lib.Seq.{set-get_or}
-use Rattle.std.specs.Prelude.{Result, Ok, Err}
+use Rattle.std.specs.Prelude.{Result, Ok, Err, Some, None}
 use Rattle.rules.specs.Ast.{line}
 use Rattle.rules.specs.Asking.{Res, ok, refused}
 use Rattle.rules.specs.declared.ty.Ty.{Ty}
 use Rattle.rules.specs.Kept.{Table, types, ty_of_mark, Kept, retyped, kept, ty_from, IsCode}
 use Rattle.rules.specs.Typing as rules
 use Rattle.rules.specs.Typing.{has, later, stale, typing, ty_of}
-use Rattle.rules.specs.Standing.{expr_at}
+use Rattle.rules.specs.Standing.{expr_at, Loaded}
 use Rattle.rules.proofs.AnyTable.{from_table, again, first_time}
 use Rattle.rules.proofs.Binding.{kept_holds}
 use Rattle.refusals.specs.Refusal.{refusal_of}
 use Rattle.lookups.proofs.Codes.{code_of_lem}
 use Rattle.lookups.proofs.Types.{beyond}
 use Rattle.env.specs.Answers.{typed_of}
-use Rattle.env.specs.Force.{ends_in, env_of}
+use Rattle.env.specs.Force.{ends_in, env_of, InForce}
 use Rattle.env.specs.declared.env.Env.{Env}
 use Rattle.typing.specs.Asks.{answer_mark, again_mark, Asks, Types}
 use Rattle.typing.proofs.Asking.{asks_line}
@@ -36,13 +35,13 @@ unfolding typed_of
 same_answer s (Ok u) t e = let q : u ≡ t = cc in rw q refl
 same_answer s (Err x) t e = absurd (let z : ◌≡◌ {A = ℕ} 0 1 = cc in omega arith)
 
-no_type : (c : ℕ) → (c ≡ 0) ⊎ (codes.unknown < c) → ty_of_mark c ≡ none
+no_type : (c : ℕ) → (c ≡ 0) ⊎ (codes.unknown < c) → ty_of_mark c ≡ None
 unfolding ty_of_mark
 no_type zero m = refl
 no_type (suc n) (inl e) = absurd (omega arith)
 no_type (suc n) (inr h) = beyond types n (omega arith)
 
-module _ (s S : List ℕ) (env : Env) (T : Table) (i : ℕ) (h : Asks s S env T i) (r : Result Ty Refusal) (U : Table) (k : Types s (ty_of (env_of s T env) (expr_at s i)) T r U) where
+module _ (s S : List ℕ) (env : Env) (T : Table) (i : ℕ) (loaded : Loaded s S) (force : InForce S env) (h : Asks S T i) (r : Result Ty Refusal) (U : Table) (k : Types s (ty_of (env_of s T env) (expr_at s i)) T r U) where
   -- a `let` that is bound, from the line's own statement or clause on, has a name that stands in an `id` of the line or of its parts
   abbrev Excepted : Bool
   Excepted = has (later i (ends_in s env)) (expr_at s i)
@@ -55,7 +54,7 @@ module _ (s S : List ℕ) (env : Env) (T : Table) (i : ℕ) (h : Asks s S env T 
   typed = kept (typing Γ (expr_at s i)) T
 
   here : line (expr_at s i) ≡ i
-  here = asks_line s S env T i h
+  here = asks_line s S env T i loaded force h
 
   excepts : stale Γ (expr_at s i) ≡ Excepted
   unfolding stale env_of
@@ -72,7 +71,7 @@ module _ (s S : List ℕ) (env : Env) (T : Table) (i : ℕ) (h : Asks s S env T 
   pub by_again : IsCode (get_or T i 0) → Excepted ≡ true → (typed_of s r ≡ typed.res) × (U ≡ set typed.table i (again_mark (get_or T i 0) r))
   unfolding typed_of retyped again_mark
   by_again c x =
-      let m : ty_of_mark (get_or T i 0) ≡ some (ty_from (get_or T i 0)) = (code_of_lem _ c).0 in
+      let m : ty_of_mark (get_or T i 0) ≡ Some (ty_from (get_or T i 0)) = (code_of_lem _ c).0 in
       let f = sym k.gives ∙ again Γ (expr_at s i) T (ty_from (get_or T i 0)) (excepts ∙ x) (rw here m) in
       by_cases typed.res typed.table r (λ t e. kept_holds (typing Γ (expr_at s i)) T t i _ m e) (rw here at f)
     where

@@ -17,7 +17,7 @@ use Rattle.rules.specs.Asking.{ok, refused, Rule, ret, ◌>>◌}
 use Rattle.rules.specs.declared.ty.Ty.{Ty}
 use Rattle.rules.specs.Kept.{Table, kept}
 use Rattle.rules.specs.Typing.{asked, ask_of, ty_of, typing, typings, type_call, ask_each, check_keyed_call, expect_asset_receiver, expect_keyed_op, is_pool, state_field_of, keyed_field, ty_of_call}
-use Rattle.rules.specs.Standing.{expr_at, exprs_at, Row}
+use Rattle.rules.specs.Standing.{expr_at, exprs_at, Row, Loaded, Here}
 use Rattle.rules.proofs.Binding.{kept-length, then_ok, then_refused}
 use Rattle.rules.proofs.Exprs.{call_at_lem}
 use Rattle.rules.proofs.Rows.{row_some, exprs_some}
@@ -29,7 +29,7 @@ use Rattle.refusals.specs.Answers.{Answers}
 use Rattle.env.specs.Answers.{typed_of}
 use Rattle.env.specs.Calls.{keyed_of, KeyedOf, Callee, op_rule, call_ty}
 use Rattle.env.proofs.Methods.{uses_op, uses-type}
-use Rattle.env.specs.Force.{env_of, ExprIn}
+use Rattle.env.specs.Force.{env_of, InForce}
 use Rattle.env.specs.declared.env.Env.{Env}
 use Rattle.typing.specs.Asks.{callee_at, args_at, type_keyed, type_args, Asks, AsksAt, AsksAll, AsksCall, Types, Does}
 use Rattle.typing.proofs.Asking.{types-length}
@@ -55,22 +55,22 @@ unfolding kept
 gives_type t T = refl
 
 -- the parts of a call
-pub parts : (s S : List ℕ) (env : Env) (T : Table) (i : ℕ) → AsksAt kinds.call s S env T i
+pub parts : (s S : List ℕ) (env : Env) (T : Table) (i : ℕ) → Loaded s S → AsksAt kinds.call S T i
     → (expr_at s i ≡ call i (span_at s S i) (expr_at s (suc i)) (exprs_at s (call_arg_count S i) (end_at S (suc i)))) × Row S grammar.Expr (suc (call_arg_count S i)) (suc i)
-parts s S env T i h = call_at_lem h.asks.ready.force.loaded h.asks.here h.kind
+parts s S env T i loaded h = call_at_lem loaded h.asks.here h.kind
 
 -- ------------------------------------------------------------ type_call
 
-module _ (s S : List ℕ) (env : Env) (T : Table) (i : ℕ) (h : AsksAt kinds.call s S env T i) where
-  pub call_callee : ExprIn s S env (i + 1)
-  call_callee = record { force = h.asks.ready.force; here = rw (add-one i) (row_first (parts s S env T i h).1) }
+module _ (s S : List ℕ) (env : Env) (T : Table) (i : ℕ) (loaded : Loaded s S) (force : InForce S env) (h : AsksAt kinds.call S T i) where
+  pub call_callee : Here S grammar.Expr (i + 1)
+  call_callee = rw (add-one i) (row_first (parts s S env T i loaded h).1)
 
   module _ (keyed : Option ℕ) (q : KeyedOf s S env (i + 1) keyed) where
-    pub call_op : Callee s S (i + 1) keyed
-    call_op = record { expr = record { loaded = h.asks.ready.force.loaded; here = call_callee.here }; kind = q.kind }
+    pub call_op : Callee S (i + 1) keyed
+    call_op = record { expr = call_callee; kind = q.kind }
 
     pub call-args : AsksCall s S env T i keyed
-    call-args = record { call = h; uses = rw (add-one i) at q }
+    call-args = record { call = h; found = rw (add-one i) at q.found; kind = q.kind }
 
     module _ (d : Result Unit Refusal) (a : Answers (expect_asset_receiver (env_of s [] env) (expr_at s (i + 1))) (done_of s d)) where
       receiver : kept (expect_asset_receiver (env_of s T env) (expr_at s (i + 1))) T ≡ record { res = done_of s d; table = T }
@@ -80,7 +80,7 @@ module _ (s S : List ℕ) (env : Env) (T : Table) (i : ℕ) (h : AsksAt kinds.ca
       pub call_no_receiver : (r : Refusal) → d ≡ Err r → Types s (typing (env_of s T env) (expr_at s i)) T (Err r) T
       unfolding typing type_call typed_of ◌>>◌
       call_no_receiver r e =
-          record { gives = rw ((parts s S env T i h).0, ← add-one i) (then_refused _ _ T T (refusal_of s r) (stopped s _ T d T receiver r e)) }
+          record { gives = rw ((parts s S env T i loaded h).0, ← add-one i) (then_refused _ _ T T (refusal_of s r) (stopped s _ T d T receiver r e)) }
 
       module _ (e : d ≡ Ok tt) (o : Result Unit Refusal) (j : Answers (op_rule (found_field s keyed) (expr_at s (i + 1))) (done_of s o)) where
         operation : kept (expect_keyed_op (env_of s T env) (expr_at s (i + 1))) T ≡ record { res = done_of s o; table = T }
@@ -92,7 +92,7 @@ module _ (s S : List ℕ) (env : Env) (T : Table) (i : ℕ) (h : AsksAt kinds.ca
         call_no_op r f =
             record {
               gives =
-                  rw ((parts s S env T i h).0, ← add-one i)
+                  rw ((parts s S env T i loaded h).0, ← add-one i)
                   (then_ok _ _ T T tt _ (did s _ T d T receiver e) (then_refused _ _ T T (refusal_of s r) (stopped s _ T o T operation r f)));
             }
 
@@ -102,7 +102,7 @@ module _ (s S : List ℕ) (env : Env) (T : Table) (i : ℕ) (h : AsksAt kinds.ca
         call_ok r U f k =
             record {
               gives =
-                  rw (parts s S env T i h).0
+                  rw (parts s S env T i loaded h).0
                   (then_ok _ _ T T tt _ (rw (← add-one i) (did s _ T d T receiver e)) (then_ok _ _ T T tt _ (rw (← add-one i) (did s _ T o T operation f)) k.gives));
             }
 
@@ -111,17 +111,17 @@ module _ (s S : List ℕ) (env : Env) (T : Table) (i : ℕ) (h : AsksAt kinds.ca
 -- a call's rule goes on from another table
 on_call : (s S : List ℕ) (env : Env) (T U : Table) (i : ℕ) (keyed : Option ℕ) → AsksCall s S env T i keyed → Onward s S env T U → AsksCall s S env U i keyed
 on_call s S env T U i keyed h o =
-    record { call = record { asks = record { ready = o.ready; here = h.call.asks.here }; kind = h.call.kind }; uses = h.uses }
+    record { call = record { asks = record { room = o.room; here = h.call.asks.here }; kind = h.call.kind }; found = h.found; kind = h.kind }
 
-module _ (s S : List ℕ) (env : Env) (T : Table) (i : ℕ) (keyed : Option ℕ) (h : AsksCall s S env T i keyed) where
+module _ (s S : List ℕ) (env : Env) (T : Table) (i : ℕ) (keyed : Option ℕ) (loaded : Loaded s S) (force : InForce S env) (h : AsksCall s S env T i keyed) where
   p : Row S grammar.Expr (suc (call_arg_count S i)) (suc i)
-  p = (parts s S env T i h.call).1
+  p = (parts s S env T i loaded h.call).1
 
-  pub keyed_callee : Callee s S (i + 1) keyed
+  pub keyed_callee : Callee S (i + 1) keyed
   keyed_callee =
       record {
-        expr = record { loaded = h.call.asks.ready.force.loaded; here = rw (add-one i) (row_first p) };
-        kind = h.uses.kind;
+        expr = rw (add-one i) (row_first p);
+        kind = h.kind;
       }
 
   module _ (at : ℕ) (e : at ≡ end_at S (i + 1)) where
@@ -129,12 +129,12 @@ module _ (s S : List ℕ) (env : Env) (T : Table) (i : ℕ) (keyed : Option ℕ)
     args_falls τ q = omega (arith, e ∙ ap (end_at S) (add-one i), (row_first p).after, h.call.asks.here.within, q)
 
     module _ (m : ℕ) (c : m ≡ call_arg_count S i) where
-      pub args_all : AsksAll s S env T m at
+      pub args_all : AsksAll S T m at
       args_all =
           record {
-            ready = h.call.asks.ready;
+            room = h.call.asks.room;
             row = rw (c, e ∙ ap (end_at S) (add-one i)) (row_rest p);
-            no_value = rw (e ∙ ap (end_at S) (add-one i)) (no_value_next h.call.asks.ready.force.loaded (row_first p));
+            no_value = rw (e ∙ ap (end_at S) (add-one i)) (no_value_next loaded (row_first p));
           }
 
       module _ (d : Result Unit Refusal) (U : Table) (k : Does s (ask_each (typings (env_of s T env) (exprs_at s m at))) T d U) where
@@ -148,7 +148,7 @@ module _ (s S : List ℕ) (env : Env) (T : Table) (i : ℕ) (keyed : Option ℕ)
 
         module _ (f : d ≡ Ok tt) where
           on : Onward s S env T U
-          on = onward s S env T U _ tt h.call.asks.ready (off_each h.call.asks.ready.force.loaded (env_of s T env) args_all.row args_all.no_value) (did s _ T d U k.gives f)
+          on = onward s S env T U _ tt loaded force h.call.asks.room (off_each loaded (env_of s T env) args_all.row args_all.no_value) (did s _ T d U k.gives f)
 
           pub args_keyed : AsksCall s S env U i keyed
           args_keyed = on_call s S env T U i keyed h on
@@ -167,7 +167,7 @@ module _ (s S : List ℕ) (env : Env) (T : Table) (i : ℕ) (keyed : Option ℕ)
     call-type : (c : Ty) → c ≡ call_ty (found_field s keyed) (expr_at s (i + 1)) → c ≡ ty_of_call (env_of s T env) (callee_at s i)
     unfolding callee_at keyed_of keyed_field state_field_of env_of
     call-type c t =
-        let g : found_field s keyed ≡ keyed_of (env_of s T env) (expr_at s (i + 1)) = rw (add-one i) h.uses.found in
+        let g : found_field s keyed ≡ keyed_of (env_of s T env) (expr_at s (i + 1)) = rw (add-one i) h.found in
         rw (← add-one i, ← uses-type (env_of s T env) _ _ g) t
 
     pub keyed_ok : (c : Ty) → d ≡ Ok tt → c ≡ call_ty (found_field s keyed) (expr_at s (i + 1)) → Types s (type_keyed (env_of s T env) (callee_at s i) (args_at s S i)) T (Ok c) U
@@ -181,7 +181,7 @@ module _ (s S : List ℕ) (env : Env) (T : Table) (i : ℕ) (keyed : Option ℕ)
 
 -- ------------------------------------------------------------ ask_each
 
-module _ (s S : List ℕ) (env : Env) (T : Table) (left at : ℕ) (h : AsksAll s S env T left at) where
+module _ (s S : List ℕ) (env : Env) (T : Table) (left at : ℕ) (loaded : Loaded s S) (force : InForce S env) (h : AsksAll S T left at) where
   pub each_none : left ≡ 0 → Does s (ask_each (typings (env_of s T env) (exprs_at s left at))) T (Ok tt) T
   unfolding exprs_at take_nodes exprs_of typings ask_each done_of kept
   each_none e = record { gives = rw e refl }
@@ -191,10 +191,10 @@ module _ (s S : List ℕ) (env : Env) (T : Table) (left at : ℕ) (h : AsksAll s
     row = row_some (omega arith) h.row
 
     list : exprs_at s left at ≡ more (expr_at s at) (exprs_at s (left - 1) (end_at S at))
-    list = exprs_some h.ready.force.loaded (omega arith) h.row
+    list = exprs_some loaded (omega arith) h.row
 
-    pub each_first : Asks s S env T at
-    each_first = record { ready = h.ready; here = row_first row }
+    pub each_first : Asks S T at
+    each_first = record { room = h.room; here = row_first row }
 
     module _ (a : Result Ty Refusal) (U : Table) (k : Types s (ty_of (env_of s T env) (expr_at s at)) T a U) where
       pub each_no : (r : Refusal) → a ≡ Err r → Does s (ask_each (typings (env_of s T env) (exprs_at s left at))) T (Err r) U
@@ -203,10 +203,10 @@ module _ (s S : List ℕ) (env : Env) (T : Table) (left at : ℕ) (h : AsksAll s
 
       module _ (c : Ty) (e : a ≡ Ok c) (m : ℕ) (q : m ≡ end_at S at) where
         on_first : Onward s S env T U
-        on_first = onward s S env T U _ _ h.ready (off_type h.ready.force.loaded (env_of s T env) (row_first row) h.no_value) (gave s _ T a U k c e)
+        on_first = onward s S env T U _ _ loaded force h.room (off_type loaded (env_of s T env) (row_first row) h.no_value) (gave s _ T a U k c e)
 
-        pub each_rest : AsksAll s S env U (left - 1) m
-        each_rest = record { ready = on_first.ready; row = rw q (row_rest row); no_value = rw q (no_value_next h.ready.force.loaded (row_first row)) }
+        pub each_rest : AsksAll S U (left - 1) m
+        each_rest = record { room = on_first.room; row = rw q (row_rest row); no_value = rw q (no_value_next loaded (row_first row)) }
 
         pub each_falls : (τ : ℕ) → 10 * (line_count S - at) + 8 ≡ τ → 10 * (line_count S - m) + 8 < τ
         each_falls τ f = omega (arith, q, (row_first row).after, (row_first row).within, f)

@@ -23,7 +23,7 @@ use Rattle.sheet.specs.Loaded.{read_lines, lines_in}
 use Rattle.rules.proofs.Standing.{by_load}
 use Rattle.lookups.specs.Found.{node_kind, of_kind}
 use Rattle.env.specs.Answers.{typed_of}
-use Rattle.env.specs.Force.{local_of, named_end, lets, ends_in, params_in, env_of}
+use Rattle.env.specs.Force.{local_of, named_end, lets, ends_in, params_in, env_of, InForce}
 use Rattle.env.specs.declared.env.Env.{Env}
 use Rattle.typing.specs.Asks.{Asks, Types}
 use Rattle.rules.specs.Codes as codes
@@ -44,16 +44,16 @@ abbrev guarded_table : Table
 guarded_table = 0 ∷ 0 ∷ 0 ∷ codes.unknown ∷ 0 ∷ codes.int ∷ []
 
 -- `ty_of` may be asked of the `id` ..
-pub guarded_asks : Asks guarded guarded_lines both_bound guarded_table 3
+pub guarded_asks : Loaded guarded guarded_lines × InForce guarded_lines both_bound × Asks guarded_lines guarded_table 3
 unfolding computed read_lines scratch_after scratch_from laid closed put_lines put put_line cell kind_at skip
 guarded_asks =
     let d : Loaded guarded guarded_lines = by_load guarded 6 (copies (cells_per_line * 6) 0) (read_lines (load guarded 6 (cells_per_line * 6))) refl in
     let one : Here guarded_lines grammar.Stmt 2 = record { within = omega arith; kind = (omega arith, omega arith); after = omega arith } in
-    let other : Here guarded_lines grammar.Stmt 4 = record { within = omega arith; kind = (omega arith, omega arith); after = omega arith } in
-    record {
-      ready = record { force = record { loaded = d; params = stop; locals = next {i = 2} one (next {i = 4} other stop); next = refl }; room = omega arith };
-      here = record { within = omega arith; kind = (omega arith, omega arith); after = omega arith };
-    }
+    let other : Here guarded_lines grammar.Stmt 4 = record { within = omega arith; kind = (omega arith, omega arith); after = omega arith } in (
+      d,
+      record { params = stop; locals = next {i = 2} one (next {i = 4} other stop); next = refl },
+      record { room = omega arith; here = record { within = omega arith; kind = (omega arith, omega arith); after = omega arith } },
+    )
 
 again_int : kept (ty_of (env_of guarded guarded_table both_bound) (expr_at guarded 3)) guarded_table ≡ record { res = ok Int; table = guarded_table }
 unfolding computed env_of local_of named_end lets ends_in params_in of_kind node_kind read_lines lines_in model_in drop_lines before trees_from node_at nodes_at expr_at ty_from

@@ -3,7 +3,6 @@ use mathlib.Core.Logic.{◌≢◌}
 use mathlib.Core.Path.{◌≡◌, refl, sym, ap, ◌∙◌}
 use mathlib.Core.List.{List, [], ◌∷◌}
 use mathlib.Core.Bool.{Bool, true, false, cond, not, ◌||◌}
-use mathlib.Core.Option.{Option as Maybe, none, some}
 use Prim.Native.Nat.{ℕ, zero, suc, ◌+◌, ◌*◌, ◌-◌, ◌<◌, ◌≤◌}
 use native.Mathlib.Numerals.{add-one}
 use native.Mathlib.Omega.{arith}
@@ -25,20 +24,19 @@ use Rattle.rules.specs.declared.ty.Ty.{Ty}
 use Rattle.rules.specs.Kept.{Table, Kept, kept}
 use Rattle.rules.specs.Types.{declared_arg}
 use Rattle.rules.specs.Typing.{Env as Environment, Asked, Dot, asked, ask_of, ty_of, typings, dot_of, keyed_field, state_field_of, expected, check_amount, check_keys, judge_key, is_name_param, check_keyed_call}
-use Rattle.rules.specs.Standing.{expr_at, exprs_at, field_at, type_at, Loaded, Row}
+use Rattle.rules.specs.Standing.{expr_at, exprs_at, field_at, type_at, Loaded, Row, Here}
 use Rattle.rules.proofs.Binding.{then_ok, then_refused}
 use Rattle.rules.proofs.Exprs.{is_dot_at}
 use Rattle.rules.proofs.Rows.{row_some, exprs_some}
 use Rattle.rules.proofs.Standing.{loaded_sheet, exprs_next, row_first, row_rest}
 use Rattle.lookups.specs.Found.{found_field}
-use Rattle.lookups.specs.Lines.{TypeAt}
 use Rattle.refusals.specs.Refusal.{dot_at, refusal_of, done_of}
 use Rattle.refusals.specs.declared.refusal.Refusal.{Refusal}
 use Rattle.text.proofs.Tests.{or_parts}
 use Rattle.env.proofs.Lookups.{TypeBehind, behind as type_behind}
 use Rattle.env.specs.Answers.{typed_of, JudgesAmount, JudgesKey}
 use Rattle.env.specs.Calls.{wants_of, keyed_of}
-use Rattle.env.specs.Force.{env_of, ExprIn}
+use Rattle.env.specs.Force.{env_of, InForce}
 use Rattle.env.specs.declared.env.Env.{Env}
 use Rattle.typing.specs.Asks.{callee_at, args_at, method_at, amount_rule, wanted, keys_rule, Asks, AsksCall, AsksMethod, AsksKeys, Types, Does}
 use Rattle.typing.proofs.Asking.{types-length}
@@ -71,28 +69,25 @@ wants_few x = by_cases (is x "set") (is_one x ("insert" ∷ "remove" ∷ "contai
     by_cases false false = omega arith
 
 -- the rule, by what the callee uses
-keyed_none : (Γ : Environment) (callee : Expr) (args : List Asked) (T : Table) (o : Maybe Dot) → dot_of callee ≡ o → keyed_of Γ callee ≡ none
+keyed_none : (Γ : Environment) (callee : Expr) (args : List Asked) (T : Table) (o : Option Dot) → dot_of callee ≡ o → keyed_of Γ callee ≡ None
     → kept (check_keyed_call Γ callee args) T ≡ record { res = ok tt; table = T }
 unfolding check_keyed_call if_some kept keyed_of
-keyed_none Γ callee args T none e q = rw e refl
-keyed_none Γ callee args T (some d) e q = rw (e, rw (keyed_of, e) at q) refl
+keyed_none Γ callee args T None e q = rw e refl
+keyed_none Γ callee args T (Some d) e q = rw (e, rw (keyed_of, e) at q) refl
 
-keyed_dot : (Γ : Environment) (callee : Expr) (f : Field) (o : Maybe Dot) → dot_of callee ≡ o → keyed_of Γ callee ≡ some f
-    → (d : Dot) × (o ≡ some d) × (keyed_field Γ d.base ≡ some f)
+keyed_dot : (Γ : Environment) (callee : Expr) (f : Field) (o : Option Dot) → dot_of callee ≡ o → keyed_of Γ callee ≡ Some f
+    → (d : Dot) × (o ≡ Some d) × (keyed_field Γ d.base ≡ Some f)
 unfolding keyed_of
-keyed_dot Γ callee f none e q = absurd (let y : none ≡ some f = rw (keyed_of, e) at q in let z : ◌≡◌ {A = ℕ} 0 1 = cc in omega arith)
-keyed_dot Γ callee f (some d) e q = (d, refl, rw (keyed_of, e) at q)
+keyed_dot Γ callee f None e q = absurd (let y : None ≡ Some f = rw (keyed_of, e) at q in let z : ◌≡◌ {A = ℕ} 0 1 = cc in omega arith)
+keyed_dot Γ callee f (Some d) e q = (d, refl, rw (keyed_of, e) at q)
 
-module _ (s S : List ℕ) (env : Env) (T : Table) (i : ℕ) (keyed : Option ℕ) (h : AsksCall s S env T i keyed) where
+module _ (s S : List ℕ) (env : Env) (T : Table) (i : ℕ) (keyed : Option ℕ) (loaded : Loaded s S) (force : InForce S env) (h : AsksCall s S env T i keyed) where
   row : Row S grammar.Expr (suc (call_arg_count S i)) (suc i)
-  row = (parts s S env T i h.call).1
-
-  ld : Loaded s S
-  ld = h.call.asks.ready.force.loaded
+  row = (parts s S env T i loaded h.call).1
 
   uses : found_field s keyed ≡ keyed_of (env_of s T env) (expr_at s (suc i))
   unfolding keyed_of keyed_field state_field_of env_of
-  uses = h.uses.found
+  uses = h.found
 
   pub no_keyed : keyed ≡ None → Does s (check_keyed_call (env_of s T env) (callee_at s i) (typings (env_of s T env) (args_at s S i))) T (Ok tt) T
   unfolding callee_at found_field done_of
@@ -103,23 +98,23 @@ module _ (s S : List ℕ) (env : Env) (T : Table) (i : ℕ) (keyed : Option ℕ)
     abbrev base : Expr
     base = expr_at s (suc (suc i))
 
-    dot_told : (b : Bool) → eqb (kind_at S (suc i)) kinds.dot ≡ b → (b ≡ true) × (keyed_field (env_of s T env) base ≡ some (field_at s field))
+    dot_told : (b : Bool) → eqb (kind_at S (suc i)) kinds.dot ≡ b → (b ≡ true) × (keyed_field (env_of s T env) base ≡ Some (field_at s field))
     unfolding found_field
     dot_told b q =
-        let o : dot_of (expr_at s (suc i)) ≡ cond b (some (record { base = base; name = name_at s S (suc i); nspan = nspan_at s S (suc i) })) none =
-        rw (← q) (is_dot_at h.call.asks.ready.force.loaded (row_first row)) in
+        let o : dot_of (expr_at s (suc i)) ≡ cond b (Some (record { base = base; name = name_at s S (suc i); nspan = nspan_at s S (suc i) })) None =
+        rw (← q) (is_dot_at loaded (row_first row)) in
         let d = keyed_dot (env_of s T env) (expr_at s (suc i)) (field_at s field) _ o (sym uses ∙ rw e refl) in
         by_cases b d.0 d.1 d.2
       where
-        by_cases : (b : Bool) (d : Dot) → cond b (some (record { base = base; name = name_at s S (suc i); nspan = nspan_at s S (suc i) })) none ≡ some d
-            → keyed_field (env_of s T env) d.base ≡ some (field_at s field) → (b ≡ true) × (keyed_field (env_of s T env) base ≡ some (field_at s field))
+        by_cases : (b : Bool) (d : Dot) → cond b (Some (record { base = base; name = name_at s S (suc i); nspan = nspan_at s S (suc i) })) None ≡ Some d
+            → keyed_field (env_of s T env) d.base ≡ Some (field_at s field) → (b ≡ true) × (keyed_field (env_of s T env) base ≡ Some (field_at s field))
         by_cases true d y z = (refl, let w : d ≡ record { base = base; name = name_at s S (suc i); nspan = nspan_at s S (suc i) } = cc in rw w at z)
         by_cases false d y z = absurd (let w : ◌≡◌ {A = ℕ} 0 1 = cc in omega arith)
 
-    told : (eqb (kind_at S (suc i)) kinds.dot ≡ true) × (keyed_field (env_of s T env) base ≡ some (field_at s field))
+    told : (eqb (kind_at S (suc i)) kinds.dot ≡ true) × (keyed_field (env_of s T env) base ≡ Some (field_at s field))
     told = dot_told _ refl
 
-    pub by_method : AsksMethod s S env T i
+    pub by_method : AsksMethod S T i
     by_method = record { call = h.call; dot = eqb-true _ _ told.0 }
 
     abbrev rest : Rule Unit
@@ -130,7 +125,7 @@ module _ (s S : List ℕ) (env : Env) (T : Table) (i : ℕ) (keyed : Option ℕ)
         ≡ kept (amount_rule (env_of s T env) (method_at s S i) (args_at s S i) >>= λ _. rest) T
     unfolding check_keyed_call callee_at method_at amount_rule keys_rule if_some ◌>>◌
     opened =
-        rw (is_dot_at h.call.asks.ready.force.loaded (row_first row), told.0, told.1, wants_are (name_at s S (suc i)) (field_at s field).ty) refl
+        rw (is_dot_at loaded (row_first row), told.0, told.1, wants_are (name_at s S (suc i)) (field_at s field).ty) refl
 
     module _ (d : Result Unit Refusal) (U : Table) (k : Does s (amount_rule (env_of s T env) (method_at s S i) (args_at s S i)) T d U) where
       pub amount_ends : (r : Refusal) → d ≡ Err r → Does s (check_keyed_call (env_of s T env) (callee_at s i) (typings (env_of s T env) (args_at s S i))) T (Err r) U
@@ -140,7 +135,7 @@ module _ (s S : List ℕ) (env : Env) (T : Table) (i : ℕ) (keyed : Option ℕ)
       module _ (f : d ≡ Ok tt) (x : Name) (w at m : ℕ) (ex : x ≡ name_at s S (i + 1)) (ew : w ≡ wants_of x) (ea : at ≡ end_at S (i + 1)) (em : m ≡ call_arg_count S i) where
         on : Onward s S env T U
         unfolding args_at
-        on = onward s S env T U _ tt h.call.asks.ready (off_amount ld (env_of s T env) (method_at s S i) (row_rest row) (no_value_next ld (row_first row))) (did s _ T d U k.gives f)
+        on = onward s S env T U _ tt loaded force h.call.asks.room (off_amount loaded (env_of s T env) (method_at s S i) (row_rest row) (no_value_next loaded (row_first row))) (did s _ T d U k.gives f)
 
         behind : at ≡ end_at S (suc i)
         behind = ea ∙ ap (end_at S) (add-one i)
@@ -148,13 +143,13 @@ module _ (s S : List ℕ) (env : Env) (T : Table) (i : ℕ) (keyed : Option ℕ)
         wants : w ≡ wants_of (name_at s S (suc i))
         wants = ew ∙ ap wants_of (ex ∙ ap (name_at s S) (add-one i))
 
-        pub keys_asked : AsksKeys s S env U field w m at
+        pub keys_asked : AsksKeys S U field w m at
         keys_asked =
-            let o = rw e at h.uses.kind in
+            let o = rw e at h.kind in
             record {
-              ready = on.ready;
+              room = on.room;
               row = rw (em, behind) (row_rest row);
-              no_value = rw behind (no_value_next ld (row_first row));
+              no_value = rw behind (no_value_next loaded (row_first row));
               within = o.0;
               kind = o.1;
               few = rw wants (wants_few (name_at s S (suc i)));
@@ -171,12 +166,9 @@ module _ (s S : List ℕ) (env : Env) (T : Table) (i : ℕ) (keyed : Option ℕ)
 
 -- ------------------------------------------------------------ check_amount
 
-module _ (s S : List ℕ) (env : Env) (T : Table) (i : ℕ) (h : AsksMethod s S env T i) where
+module _ (s S : List ℕ) (env : Env) (T : Table) (i : ℕ) (loaded : Loaded s S) (force : InForce S env) (h : AsksMethod S T i) where
   all : Row S grammar.Expr (suc (call_arg_count S i)) (suc i)
-  all = (parts s S env T i h.call).1
-
-  abbrev d : Loaded s S
-  d = h.call.asks.ready.force.loaded
+  all = (parts s S env T i loaded h.call).1
 
   module _ (m : ℕ) (em : m ≡ call_arg_count S i) where
     -- with fewer than two arguments there is no amount
@@ -185,7 +177,7 @@ module _ (s S : List ℕ) (env : Env) (T : Table) (i : ℕ) (h : AsksMethod s S 
     unfolding exprs_at take_nodes exprs_of typings check_amount provided kept
     few_args zero l r true = refl
     few_args zero l r false = refl
-    few_args (suc zero) l r true = rw (exprs_next d 0 (end_at S (suc i)) (row_first r).within) refl
+    few_args (suc zero) l r true = rw (exprs_next loaded 0 (end_at S (suc i)) (row_first r).within) refl
     few_args (suc zero) l r false = refl
     few_args (suc (suc k)) l r b = absurd (omega arith)
 
@@ -212,11 +204,11 @@ module _ (s S : List ℕ) (env : Env) (T : Table) (i : ℕ) (h : AsksMethod s S 
         unfolding args_at
         two =
             ap (λ z. exprs_at s z (end_at S (suc i))) (let z : call_arg_count S i ≡ suc (suc (m - 2)) = omega arith in z)
-            ∙ exprs_next d (suc (m - 2)) _ (row_first rest').within
-            ∙ rw (exprs_next d (m - 2) _ (row_first (row_rest rest')).within, arg_is) refl
+            ∙ exprs_next loaded (suc (m - 2)) _ (row_first rest').within
+            ∙ rw (exprs_next loaded (m - 2) _ (row_first (row_rest rest')).within, arg_is) refl
 
-        pub amount_asks : Asks s S env T arg
-        amount_asks = record { ready = h.call.asks.ready; here = rw arg_is (row_first (row_rest rest')) }
+        pub amount_asks : Asks S T arg
+        amount_asks = record { room = h.call.asks.room; here = rw arg_is (row_first (row_rest rest')) }
 
         pub amount_falls : (τ : ℕ) → 10 * (line_count S - i) + 0 ≡ τ → 10 * (line_count S - arg) + 7 < τ
         amount_falls τ q = omega (arith, arg_is, (row_first all).after, (row_first rest').after, h.call.asks.here.within, q)
@@ -229,7 +221,7 @@ module _ (s S : List ℕ) (env : Env) (T : Table) (i : ℕ) (h : AsksMethod s S 
 
           dot-name : (dot_at s (i + 1)).name ≡ name_at s S (suc i)
           unfolding dot_at
-          dot-name = rw (add-one i, dot_at, is_dot_at d (row_first all), eq-eqb _ _ h.dot) refl
+          dot-name = rw (add-one i, dot_at, is_dot_at loaded (row_first all), eq-eqb _ _ h.dot) refl
 
           pub amount_ok : (c : Ty) (r : Result Unit Refusal) → a ≡ Ok c → JudgesAmount (i + 1) arg c r → Does s (amount_rule (env_of s T env) (method_at s S i) (args_at s S i)) T r U
           unfolding amount_rule method_at provided typings check_amount asked ask_of ty_of
@@ -273,7 +265,7 @@ unfolding check_keys kept
 none_wanted Γ f key [] T = refl
 none_wanted Γ f key (a ∷ as') T = refl
 
-module _ (s S : List ℕ) (env : Env) (T : Table) (field index wants left at : ℕ) (h : AsksKeys s S env T field wants left at) where
+module _ (s S : List ℕ) (env : Env) (T : Table) (field index wants left at : ℕ) (loaded : Loaded s S) (force : InForce S env) (h : AsksKeys S T field wants left at) where
   abbrev Γ : Environment
   Γ = env_of s T env
 
@@ -294,10 +286,10 @@ module _ (s S : List ℕ) (env : Env) (T : Table) (field index wants left at : �
     row_on = row_some (omega (arith, more_to_go.1)) h.row
 
     list : exprs_at s left at ≡ more (expr_at s at) (exprs_at s (left - 1) (end_at S at))
-    list = exprs_some h.ready.force.loaded (omega (arith, more_to_go.1)) h.row
+    list = exprs_some loaded (omega (arith, more_to_go.1)) h.row
 
-    pub keys_first : Asks s S env T at
-    keys_first = record { ready = h.ready; here = row_first row_on }
+    pub keys_first : Asks S T at
+    keys_first = record { room = h.room; here = row_first row_on }
 
     pub keys_index : index < 2
     keys_index = omega (arith, more_to_go.0, h.few)
@@ -308,13 +300,13 @@ module _ (s S : List ℕ) (env : Env) (T : Table) (field index wants left at : �
     pub keys_some : 1 ≤ left
     keys_some = omega (arith, more_to_go.1)
 
-    pub keys_arg : ExprIn s S env at
-    keys_arg = record { force = h.ready.force; here = row_first row_on }
+    pub keys_arg : Here S grammar.Expr at
+    keys_arg = row_first row_on
 
     type_at_lem : TypeBehind s S field
-    type_at_lem = type_behind kinds.field s S h.ready.force.loaded (Some field) field refl (h.within, h.kind) (omega arith) (omega arith)
+    type_at_lem = type_behind kinds.field s S loaded (Some field) field refl (h.within, h.kind) (omega arith) (omega arith)
 
-    pub keys_type : TypeAt s S (field + 1)
+    pub keys_type : Here S grammar.Ty (field + 1)
     keys_type = rw (add-one field) type_at_lem.typed
 
     module _ (a : Result Ty Refusal) (U : Table) (k : Types s (ty_of Γ (expr_at s at)) T a U) where
@@ -351,10 +343,10 @@ module _ (s S : List ℕ) (env : Env) (T : Table) (field index wants left at : �
 
         module _ (f : d ≡ Ok tt) (m : ℕ) (em : m ≡ end_at S at) where
           on_keys : Onward s S env T U
-          on_keys = onward s S env T U _ _ h.ready (off_type h.ready.force.loaded (env_of s T env) (row_first row_on) h.no_value) (gave s _ T a U k c e)
+          on_keys = onward s S env T U _ _ loaded force h.room (off_type loaded (env_of s T env) (row_first row_on) h.no_value) (gave s _ T a U k c e)
 
-          pub keys_rest : AsksKeys s S env U field wants (left - 1) m
-          keys_rest = record { ready = on_keys.ready; row = rw em (row_rest row_on); no_value = rw em (no_value_next h.ready.force.loaded (row_first row_on)); within = h.within; kind = h.kind; few = h.few }
+          pub keys_rest : AsksKeys S U field wants (left - 1) m
+          keys_rest = record { room = on_keys.room; row = rw em (row_rest row_on); no_value = rw em (no_value_next loaded (row_first row_on)); within = h.within; kind = h.kind; few = h.few }
 
           pub keys_falls : (τ : ℕ) → 10 * (line_count S - at) + 8 ≡ τ → 10 * (line_count S - m) + 8 < τ
           keys_falls τ q = omega (arith, em, (row_first row_on).after, (row_first row_on).within, q)

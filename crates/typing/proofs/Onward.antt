@@ -11,7 +11,7 @@ use lib.ListN.{length, get_or}
 use borrow.Author.Tests.{leb-true, leb-false}
 use Rattle.std.specs.Prelude.{Result, Ok, Err}
 use Rattle.grammar.specs.Grammar as grammar
-use Rattle.sheet.specs.Scratch.{kind_at, end_at}
+use Rattle.sheet.specs.Scratch.{kind_at, end_at, line_count}
 use Rattle.sheet.specs.Tree.{Node, node, take_nodes}
 use Rattle.rules.specs.Ast.{exprs_of}
 use Rattle.rules.specs.Asking.{code_r, ok, Rule, ◌>>=◌, expect}
@@ -30,7 +30,7 @@ use Rattle.rules.proofs.Lines.{fits_lines}
 use Rattle.rules.proofs.Standing.{stands, exprs_next}
 use Rattle.env.proofs.Lets.{lets_all}
 use Rattle.env.specs.Answers.{typed_of}
-use Rattle.env.specs.Force.{env_of, local_of, lets, Ready}
+use Rattle.env.specs.Force.{env_of, local_of, lets, InForce}
 use Rattle.env.specs.declared.env.Env.{Env}
 use Rattle.typing.specs.Asks.{amount_rule, NoValue, answer_mark}
 use Rattle.grammar.specs.Kinds as kinds
@@ -110,18 +110,17 @@ same_locals T U (node j l ps ∷ ts) a = rw (a.0, same_locals T U ts a.1) refl
 
 -- what is in force on T is so on U
 pub record Onward (s S : List ℕ) (env : Env) (T U : Table) : Type 0 where
-  pub ready : Ready s S env U
+  pub room : line_count S ≤ length U
   pub same : env_of s U env ≡ env_of s T env
 
-pub onward_with : {A : Type 0} (s S : List ℕ) (env : Env) (T U : Table) (p : Rule A) (a : A) → Ready s S env T → kept p T ≡ record { res = ok a; table = U }
+pub onward_with : {A : Type 0} (s S : List ℕ) (env : Env) (T U : Table) (p : Rule A) (a : A) → line_count S ≤ length T → kept p T ≡ record { res = ok a; table = U }
     → All (SameValue T U) (lets s env.bound env.body) → Onward s S env T U
 unfolding env_of
 onward_with s S env T U p a r e v =
     let l : length U ≡ length T = sym (ap (λ o. length o.table) e) ∙ kept-length p T in
-    record { ready = record { force = r.force; room = omega (arith, l, r.room) }; same = rw (same_locals T U _ v) refl }
+    record { room = omega (arith, l, r); same = rw (same_locals T U _ v) refl }
 
-pub onward : {A : Type 0} (s S : List ℕ) (env : Env) (T U : Table) (p : Rule A) (a : A) → Ready s S env T → OffValues S p → kept p T ≡ record { res = ok a; table = U } → Onward s S env T U
-onward s S env T U p a r c e =
-    let d = r.force.loaded in
+pub onward : {A : Type 0} (s S : List ℕ) (env : Env) (T U : Table) (p : Rule A) (a : A) → Loaded s S → InForce S env → line_count S ≤ length T → OffValues S p → kept p T ≡ record { res = ok a; table = U } → Onward s S env T U
+onward s S env T U p a d f r c e =
     onward_with s S env T U p a r e
-    (lets_all d (SameValue T U) (λ j w k. rw (stands d j w).here (sym (ap (λ o. get_or o.table (suc j) 0) e) ∙ kept_off p T (suc j) (off_let S j p k c))) r.force.locals)
+    (lets_all d (SameValue T U) (λ j w k. rw (stands d j w).here (sym (ap (λ o. get_or o.table (suc j) 0) e) ∙ kept_off p T (suc j) (off_let S j p k c))) f.locals)

@@ -15,7 +15,7 @@ use Rattle.rules.specs.Asking.{ok, Rule, ◌>>=◌}
 use Rattle.rules.specs.declared.ty.Ty.{Ty}
 use Rattle.rules.specs.Kept.{Table, kept}
 use Rattle.rules.specs.Typing.{asked, ask_of, ty_of, typing, judge_unary, judge_binary, ty_of_unary, ty_of_binary}
-use Rattle.rules.specs.Standing.{expr_at, Row}
+use Rattle.rules.specs.Standing.{expr_at, Row, Loaded}
 use Rattle.rules.proofs.Binding.{then_ok, then_refused}
 use Rattle.rules.proofs.Exprs.{un_at, bin_at}
 use Rattle.rules.proofs.Standing.{loaded_sheet, row_first, row_rest}
@@ -27,7 +27,7 @@ use Rattle.grammar.specs.Coded.{bin_of, unary_of}
 use Rattle.grammar.specs.declared.ops.UnaryOp.{UnaryOp}
 use Rattle.grammar.specs.declared.ops.BinOp.{BinOp}
 use Rattle.env.specs.Answers.{typed_of, Judged, JudgedIn, Operands}
-use Rattle.env.specs.Force.{env_of}
+use Rattle.env.specs.Force.{env_of, InForce}
 use Rattle.env.specs.declared.env.Env.{Env}
 use Rattle.typing.specs.Asks.{Asks, AsksAt, Types}
 use Rattle.typing.proofs.Asking.{types-length}
@@ -45,12 +45,12 @@ module _ (s : List ℕ) (p : Rule Ty) (T : Table) (a : Result Ty Refusal) (U : T
   unfolding typed_of
   ends f r e = record { gives = then_refused p f T U (refusal_of s r) (k.gives ∙ rw e refl) }
 
-module _ (s S : List ℕ) (env : Env) (T : Table) (i : ℕ) (h : AsksAt kinds.un s S env T i) where
+module _ (s S : List ℕ) (env : Env) (T : Table) (i : ℕ) (loaded : Loaded s S) (force : InForce S env) (h : AsksAt kinds.un S T i) where
   un : (expr_at s i ≡ unary i (span_at s S i) (get_or unary_ops (op_at S i) Neg) (expr_at s (suc i))) × Row S grammar.Expr 1 (suc i)
-  un = un_at h.asks.ready.force.loaded h.asks.here h.kind
+  un = un_at loaded h.asks.here h.kind
 
-  pub un_child : Asks s S env T (i + 1)
-  un_child = record { ready = h.asks.ready; here = rw (add-one i) (row_first un.1) }
+  pub un_child : Asks S T (i + 1)
+  un_child = record { room = h.asks.room; here = rw (add-one i) (row_first un.1) }
 
   module _ (a : Result Ty Refusal) (U : Table) (k : Types s (ty_of (env_of s T env) (expr_at s (i + 1))) T a U) where
     pub un_ok : (c : Ty) (o : UnaryOp) (r : Result Ty Refusal) → a ≡ Ok c → o ≡ unary_of (op_at S i) → Judged (λ x. judge_unary (unary_meant o) (expr_at x (i + 1))) c r
@@ -68,12 +68,12 @@ module _ (s S : List ℕ) (env : Env) (T : Table) (i : ℕ) (h : AsksAt kinds.un
     unfolding typing ty_of_unary ty_of ask_of asked
     un_no r e = rw (un.0, ← add-one i) (ends s (ty_of (env_of s T env) (expr_at s (i + 1))) T a U k _ r e)
 
-module _ (s S : List ℕ) (env : Env) (T : Table) (i : ℕ) (h : AsksAt kinds.bin s S env T i) where
+module _ (s S : List ℕ) (env : Env) (T : Table) (i : ℕ) (loaded : Loaded s S) (force : InForce S env) (h : AsksAt kinds.bin S T i) where
   bin : (expr_at s i ≡ binary i (span_at s S i) (get_or bin_ops (op_at S i) Shr) (expr_at s (suc i)) (expr_at s (end_at S (suc i)))) × Row S grammar.Expr 2 (suc i)
-  bin = bin_at h.asks.ready.force.loaded h.asks.here h.kind
+  bin = bin_at loaded h.asks.here h.kind
 
-  pub bin_left : Asks s S env T (i + 1)
-  bin_left = record { ready = h.asks.ready; here = rw (add-one i) (row_first bin.1) }
+  pub bin_left : Asks S T (i + 1)
+  bin_left = record { room = h.asks.room; here = rw (add-one i) (row_first bin.1) }
 
   module _ (m : ℕ) (em : m ≡ end_at S (i + 1)) where
     right : m ≡ end_at S (suc i)
@@ -82,19 +82,19 @@ module _ (s S : List ℕ) (env : Env) (T : Table) (i : ℕ) (h : AsksAt kinds.bi
     pub bin_falls : (τ : ℕ) → 10 * (line_count S - i) + 4 ≡ τ → 10 * (line_count S - m) + 7 < τ
     bin_falls τ e = omega (arith, right, (row_first bin.1).after, h.asks.here.within, e)
 
-    pub bin_operands : Operands s S (i + 1) m
+    pub bin_operands : Operands S (i + 1) m
     bin_operands =
         record {
-          one = record { loaded = h.asks.ready.force.loaded; here = bin_left.here };
-          other = record { loaded = h.asks.ready.force.loaded; here = rw right (row_first (row_rest bin.1)) };
+          one = bin_left.here;
+          other = rw right (row_first (row_rest bin.1));
         }
 
     module _ (a : Result Ty Refusal) (U : Table) (k : Types s (ty_of (env_of s T env) (expr_at s (i + 1))) T a U) (c : Ty) (e : a ≡ Ok c) where
       on : Onward s S env T U
-      on = onward s S env T U _ _ h.asks.ready (rw (add-one i) (off_type h.asks.ready.force.loaded (env_of s T env) (row_first bin.1) (no_value_below S i (omega (arith, h.kind))))) (gave s _ T a U k c e)
+      on = onward s S env T U _ _ loaded force h.asks.room (rw (add-one i) (off_type loaded (env_of s T env) (row_first bin.1) (no_value_below S i (omega (arith, h.kind))))) (gave s _ T a U k c e)
 
-      pub bin_right : Asks s S env U m
-      bin_right = record { ready = on.ready; here = bin_operands.other.here }
+      pub bin_right : Asks S U m
+      bin_right = record { room = on.room; here = bin_operands.other }
 
       module _ (b : Result Ty Refusal) (W : Table) (g : Types s (ty_of (env_of s U env) (expr_at s m)) U b W) where
         second : Types s (ty_of (env_of s T env) (expr_at s m)) U b W

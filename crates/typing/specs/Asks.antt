@@ -1,5 +1,5 @@
 -- What the typing functions ask and promise.
-use Rattle.std.specs.Prelude.{ℕ, suc, ◌<◌, ◌≤◌, true, List, [], ◌∷◌, ◌≢◌, ◌≡◌, eqb, get_or, take, drop, Option, Result, Ok, Err}
+use Rattle.std.specs.Prelude.{ℕ, suc, ◌<◌, ◌≤◌, true, List, [], ◌∷◌, ◌≢◌, ◌≡◌, eqb, length, get_or, take, drop, Option, Result, Ok, Err, Some}
 use Rattle.grammar.specs.Grammar as grammar
 use Rattle.sheet.specs.Scratch.{kind_at, end_at, name_at, line_count, call_arg_count}
 use Rattle.rules.specs.Text.{Name, is_one}
@@ -7,14 +7,14 @@ use Rattle.rules.specs.Ast.{Type', Expr, Exprs, Field}
 use Rattle.rules.specs.Asking.{code, Rule, ret, ◌>>=◌, provided}
 use Rattle.rules.specs.declared.ty.Ty.{Ty}
 use Rattle.rules.specs.Kept.{Table, kept, ty_of_mark}
-use Rattle.std.proofs.Math.Option.{some}
 use Rattle.rules.specs.Types.{declared_arg}
 use Rattle.rules.specs.Typing.{Env, stale, ask_each, check_amount, check_keyed_call, check_keys, ty_of_call, typings}
 use Rattle.rules.specs.Standing.{expr_at, exprs_at, Here, Row}
 use Rattle.refusals.specs.Refusal.{done_of}
 use Rattle.env.specs.Answers.{typed_of}
-use Rattle.env.specs.Calls.{KeyedOf}
-use Rattle.env.specs.Force.{env_of, Ready}
+use Rattle.lookups.specs.Found.{found_field, FoundKind}
+use Rattle.env.specs.Calls.{keyed_of}
+use Rattle.env.specs.Force.{env_of}
 use Rattle.env.specs.declared.env.Env.{Env as CodeEnv}
 use Rattle.grammar.specs.Kinds as kinds
 use Rattle.rules.specs.Codes as codes
@@ -50,25 +50,25 @@ keys_rule Γ f index wants args = check_keys Γ f.name (eqb index 0) (typings Γ
 
 -- ------------------------------------------------------------ what is asked
 
--- the type of line i is asked
-pub record Asks (s S : List ℕ) (env : CodeEnv) (T : Table) (i : ℕ) : Type 0 where
-  pub ready : Ready s S env T
+-- the type of line i is asked, and the table has a byte a line
+pub record Asks (S : List ℕ) (T : Table) (i : ℕ) : Type 0 where
+  pub room : line_count S ≤ length T
   pub here : Here S grammar.Expr i
 
 -- ... which has a type that is not the answer
 pub record AsksAgain (s S : List ℕ) (env : CodeEnv) (T : Table) (i : ℕ) : Type 0 where
-  pub asks : Asks s S env T i
-  pub marked : (t : Ty) × (ty_of_mark (get_or T i 0) ≡ some t)
+  pub asks : Asks S T i
+  pub marked : (t : Ty) × (ty_of_mark (get_or T i 0) ≡ Some t)
   pub stale : stale (env_of s [] env) (expr_at s i) ≡ true
 
 -- ... which is of kind k
-pub record AsksAt (k : ℕ) (s S : List ℕ) (env : CodeEnv) (T : Table) (i : ℕ) : Type 0 where
-  pub asks : Asks s S env T i
+pub record AsksAt (k : ℕ) (S : List ℕ) (T : Table) (i : ℕ) : Type 0 where
+  pub asks : Asks S T i
   pub kind : kind_at S i ≡ k
 
 -- ... which has no parts
-pub record AsksLeaf (s S : List ℕ) (env : CodeEnv) (T : Table) (i : ℕ) : Type 0 where
-  pub asks : Asks s S env T i
+pub record AsksLeaf (S : List ℕ) (T : Table) (i : ℕ) : Type 0 where
+  pub asks : Asks S T i
   pub kind : kind_at S i < kinds.un
 
 -- line i is no `let`'s value
@@ -76,24 +76,25 @@ pub record NoValue (S : List ℕ) (i : ℕ) : Type 0 where
   pub before : (j : ℕ) → suc j ≡ i → kind_at S j ≢ kinds.let'
 
 -- the types of m expressions are asked, the first of which stands at line i
-pub record AsksAll (s S : List ℕ) (env : CodeEnv) (T : Table) (m i : ℕ) : Type 0 where
-  pub ready : Ready s S env T
+pub record AsksAll (S : List ℕ) (T : Table) (m i : ℕ) : Type 0 where
+  pub room : line_count S ≤ length T
   pub row : Row S grammar.Expr m i
   pub no_value : NoValue S i
 
 -- a call at line i whose callee uses `keyed`
 pub record AsksCall (s S : List ℕ) (env : CodeEnv) (T : Table) (i : ℕ) (keyed : Option ℕ) : Type 0 where
-  pub call : AsksAt kinds.call s S env T i
-  pub uses : KeyedOf s S env (suc i) keyed
+  pub call : AsksAt kinds.call S T i
+  pub found : found_field s keyed ≡ keyed_of (env_of s [] env) (expr_at s (suc i))
+  pub kind : FoundKind S kinds.field keyed
 
 -- a call at line i by a dot
-pub record AsksMethod (s S : List ℕ) (env : CodeEnv) (T : Table) (i : ℕ) : Type 0 where
-  pub call : AsksAt kinds.call s S env T i
+pub record AsksMethod (S : List ℕ) (T : Table) (i : ℕ) : Type 0 where
+  pub call : AsksAt kinds.call S T i
   pub dot : kind_at S (suc i) ≡ kinds.dot
 
 -- m arguments from line i on, of the Map or Registry at line field
-pub record AsksKeys (s S : List ℕ) (env : CodeEnv) (T : Table) (field wants m i : ℕ) : Type 0 where
-  pub ready : Ready s S env T
+pub record AsksKeys (S : List ℕ) (T : Table) (field wants m i : ℕ) : Type 0 where
+  pub room : line_count S ≤ length T
   pub row : Row S grammar.Expr m i
   pub no_value : NoValue S i
   pub within : field < line_count S

@@ -9,30 +9,33 @@ ghost use Rattle.typing.specs.Asks.{amount_rule, args_at, callee_at, Does, keys_
 ghost use Rattle.grammar.specs.Kinds as kinds;
 
 use env::{
-    Env, expect_asset_receiver, expect_keyed_op, judge_amount, judge_binary, judge_key,
-    judge_unary, keyed_of, moves_amount, stale, ty_of_call, ty_of_dot, ty_of_ident, wants,
+    Scope, expect_keyed_op, judge_amount, judge_binary, judge_unary, moves_amount, ty_of_call,
+    ty_of_dot, wants,
 };
 use grammar::Kind;
 use lookups::declared_arg;
 use refusals::Refusal;
 use rules::{REFUSED, Ty};
-use sheet::{LoadedSheet, call_arg_count};
+use sheet::call_arg_count;
 
 // The type of a line that has no parts.
-fn ty_of_leaf(sheet: &LoadedSheet<'_>, env: Env, table: &[u8], i: usize) -> Ty
-    requires { AsksLeaf sheet.now.bytes.now sheet.now.lines.now env table.now i }
-    ensures { TypesLeaf sheet.now.bytes.now (typing_of (env_of sheet.now.bytes.now table.now env) (expr_at sheet.now.bytes.now i)) table.now result }
+fn ty_of_leaf(scope: &Scope<'_>, table: &[u8], i: usize) -> Ty
+    requires { AsksLeaf scope.now.sheet.lines.now table.now i }
+    ensures { let s = scope.now.sheet.bytes.now in TypesLeaf s (typing_of (env_of s table.now scope.now.env) (expr_at s i)) table.now result }
 {
-    if sheet.is(i, Kind::Id) {
-        return ty_of_ident(sheet, env, table, sheet.name(i));
+    if scope.sheet.is(i, Kind::Id) {
+        return scope.ty_of_ident(table, scope.sheet.name(i));
     }
-    if sheet.is(i, Kind::Date) {
+    if scope.sheet.is(i, Kind::Date) {
         return Ty::Time;
     }
-    if sheet.is(i, Kind::Str) {
+    if scope.sheet.is(i, Kind::Str) {
         return Ty::Str;
     }
-    if sheet.is(i, Kind::Caller) | sheet.is(i, Kind::Native) | sheet.is(i, Kind::Inasset) {
+    if scope.sheet.is(i, Kind::Caller)
+        | scope.sheet.is(i, Kind::Native)
+        | scope.sheet.is(i, Kind::Inasset)
+    {
         Ty::Address
     } else {
         Ty::Int
@@ -52,28 +55,29 @@ fn mark(a: Result<Ty, Refusal>) -> u8
 // The type of line i. Every rule asks a type through this function, and none but this and `ty_again`, its part for the exception, marks a line.
 #[cycle(expression_types)]
 #[tactic(auto, using(crate::proofs::Asking::laws_of))]
-pub fn ty_of(sheet: &LoadedSheet<'_>, env: Env, table: &mut [u8], i: usize) -> Result<Ty, Refusal>
-    requires { Asks sheet.now.bytes.now sheet.now.lines.now env table.old i }
-    ensures { Types sheet.now.bytes.now (ty_of (env_of sheet.now.bytes.now table.old env) (expr_at sheet.now.bytes.now i)) table.old result table.new }
+pub fn ty_of(scope: &Scope<'_>, table: &mut [u8], i: usize) -> Result<Ty, Refusal>
+    requires { Asks scope.now.sheet.lines.now table.old i }
+    ensures { let s = scope.now.sheet.bytes.now in Types s (ty_of (env_of s table.old scope.now.env) (expr_at s i)) table.old result table.new }
 {
     if let Some(known) = Ty::of_mark(table[i]) {
-        if stale(sheet, env, i) {
-            return ty_again(sheet, env, table, i);
+        if scope.stale(i) {
+            return ty_again(scope, table, i);
         }
         return Ok(known);
     }
-    let a = typing(sheet, env, table, i);
+    let a = typing(scope, table, i);
     table[i] = mark(a);
     a
 }
 
 // Types line i again, which keeps its first type, or is marked as refused.
 #[cycle(expression_types)]
-fn ty_again(sheet: &LoadedSheet<'_>, env: Env, table: &mut [u8], i: usize) -> Result<Ty, Refusal>
-    requires { AsksAgain sheet.now.bytes.now sheet.now.lines.now env table.old i }
-    ensures { Types sheet.now.bytes.now (ty_of (env_of sheet.now.bytes.now table.old env) (expr_at sheet.now.bytes.now i)) table.old result table.new }
+#[tactic(auto, using(crate::proofs::Asking::laws_again))]
+fn ty_again(scope: &Scope<'_>, table: &mut [u8], i: usize) -> Result<Ty, Refusal>
+    requires { AsksAgain scope.now.sheet.bytes.now scope.now.sheet.lines.now scope.now.env table.old i }
+    ensures { let s = scope.now.sheet.bytes.now in Types s (ty_of (env_of s table.old scope.now.env) (expr_at s i)) table.old result table.new }
 {
-    match typing(sheet, env, table, i) {
+    match typing(scope, table, i) {
         Ok(ty) => Ok(ty),
         Err(r) => {
             table[i] = REFUSED;
@@ -85,169 +89,151 @@ fn ty_again(sheet: &LoadedSheet<'_>, env: Env, table: &mut [u8], i: usize) -> Re
 // `ty_of` without the asking itself: the type of line i by its kind.
 #[cycle(expression_types)]
 #[tactic(auto, using(crate::proofs::Asking::laws_kind))]
-fn typing(sheet: &LoadedSheet<'_>, env: Env, table: &mut [u8], i: usize) -> Result<Ty, Refusal>
-    requires { Asks sheet.now.bytes.now sheet.now.lines.now env table.old i }
-    ensures { Types sheet.now.bytes.now (typing_of (env_of sheet.now.bytes.now table.old env) (expr_at sheet.now.bytes.now i)) table.old result table.new }
+fn typing(scope: &Scope<'_>, table: &mut [u8], i: usize) -> Result<Ty, Refusal>
+    requires { Asks scope.now.sheet.lines.now table.old i }
+    ensures { let s = scope.now.sheet.bytes.now in Types s (typing_of (env_of s table.old scope.now.env) (expr_at s i)) table.old result table.new }
 {
-    if sheet.is(i, Kind::Un) {
-        return ty_of_unary(sheet, env, table, i);
+    if scope.sheet.is(i, Kind::Un) {
+        return ty_of_unary(scope, table, i);
     }
-    if sheet.is(i, Kind::Bin) {
-        return ty_of_binary(sheet, env, table, i);
+    if scope.sheet.is(i, Kind::Bin) {
+        return ty_of_binary(scope, table, i);
     }
-    if sheet.is(i, Kind::Dot) {
-        return Ok(ty_of_dot(sheet.name(i)));
+    if scope.sheet.is(i, Kind::Dot) {
+        return Ok(ty_of_dot(scope.sheet.name(i)));
     }
-    if sheet.is(i, Kind::Call) {
-        return type_call(sheet, env, table, i);
+    if scope.sheet.is(i, Kind::Call) {
+        return type_call(scope, table, i);
     }
-    if sheet.is(i, Kind::Checked) | sheet.is(i, Kind::Wrapping) {
-        return ty_of(sheet, env, table, i + 1);
+    if scope.sheet.is(i, Kind::Checked) | scope.sheet.is(i, Kind::Wrapping) {
+        return ty_of(scope, table, i + 1);
     }
-    Ok(ty_of_leaf(sheet, env, table, i))
+    Ok(ty_of_leaf(scope, table, i))
 }
 
 #[cycle(expression_types)]
-fn ty_of_unary(sheet: &LoadedSheet<'_>, env: Env, table: &mut [u8], i: usize) -> Result<Ty, Refusal>
-    requires { AsksAt kinds.un sheet.now.bytes.now sheet.now.lines.now env table.old i }
-    ensures { Types sheet.now.bytes.now (typing_of (env_of sheet.now.bytes.now table.old env) (expr_at sheet.now.bytes.now i)) table.old result table.new }
+fn ty_of_unary(scope: &Scope<'_>, table: &mut [u8], i: usize) -> Result<Ty, Refusal>
+    requires { AsksAt kinds.un scope.now.sheet.lines.now table.old i }
+    ensures { let s = scope.now.sheet.bytes.now in Types s (typing_of (env_of s table.old scope.now.env) (expr_at s i)) table.old result table.new }
 {
-    let ty = ty_of(sheet, env, table, i + 1)?;
-    judge_unary(sheet.unary_op(i), i + 1, ty)
+    let ty = ty_of(scope, table, i + 1)?;
+    judge_unary(scope.sheet.unary_op(i), i + 1, ty)
 }
 
 // Both sides are typed before either is judged.
 #[cycle(expression_types)]
-fn ty_of_binary(
-    sheet: &LoadedSheet<'_>,
-    env: Env,
-    table: &mut [u8],
-    i: usize,
-) -> Result<Ty, Refusal>
-    requires { AsksAt kinds.bin sheet.now.bytes.now sheet.now.lines.now env table.old i }
-    ensures { Types sheet.now.bytes.now (typing_of (env_of sheet.now.bytes.now table.old env) (expr_at sheet.now.bytes.now i)) table.old result table.new }
+fn ty_of_binary(scope: &Scope<'_>, table: &mut [u8], i: usize) -> Result<Ty, Refusal>
+    requires { AsksAt kinds.bin scope.now.sheet.lines.now table.old i }
+    ensures { let s = scope.now.sheet.bytes.now in Types s (typing_of (env_of s table.old scope.now.env) (expr_at s i)) table.old result table.new }
 {
-    let l = ty_of(sheet, env, table, i + 1)?;
-    let right = sheet.end(i + 1);
-    let r = ty_of(sheet, env, table, right)?;
-    judge_binary(sheet, sheet.bin_op(i), i + 1, right, l, r)
+    let l = ty_of(scope, table, i + 1)?;
+    let right = scope.sheet.end(i + 1);
+    let r = ty_of(scope, table, right)?;
+    judge_binary(&scope.sheet, scope.sheet.bin_op(i), i + 1, right, l, r)
 }
 
 // The type of a call: its receiver and its operation are judged first.
 #[cycle(expression_types)]
-fn type_call(sheet: &LoadedSheet<'_>, env: Env, table: &mut [u8], i: usize) -> Result<Ty, Refusal>
-    requires { AsksAt kinds.call sheet.now.bytes.now sheet.now.lines.now env table.old i }
-    ensures { Types sheet.now.bytes.now (typing_of (env_of sheet.now.bytes.now table.old env) (expr_at sheet.now.bytes.now i)) table.old result table.new }
+#[tactic(auto, using(crate::proofs::Calls::laws_call))]
+fn type_call(scope: &Scope<'_>, table: &mut [u8], i: usize) -> Result<Ty, Refusal>
+    requires { AsksAt kinds.call scope.now.sheet.lines.now table.old i }
+    ensures { let s = scope.now.sheet.bytes.now in Types s (typing_of (env_of s table.old scope.now.env) (expr_at s i)) table.old result table.new }
 {
-    let keyed = keyed_of(sheet, env, i + 1);
-    expect_asset_receiver(sheet, env, i + 1)?;
-    expect_keyed_op(sheet, i + 1, keyed)?;
-    type_args(sheet, env, table, i, keyed)
+    let keyed = scope.keyed_of(i + 1);
+    scope.expect_asset_receiver(i + 1)?;
+    expect_keyed_op(&scope.sheet, i + 1, keyed)?;
+    type_args(scope, table, i, keyed)
 }
 
 // ... then its arguments are typed
 #[cycle(expression_types)]
 fn type_args(
-    sheet: &LoadedSheet<'_>,
-    env: Env,
+    scope: &Scope<'_>,
     table: &mut [u8],
     i: usize,
     keyed: Option<usize>,
 ) -> Result<Ty, Refusal>
-    requires { AsksCall sheet.now.bytes.now sheet.now.lines.now env table.old i keyed }
-    ensures { Types sheet.now.bytes.now (type_args (env_of sheet.now.bytes.now table.old env) (callee_at sheet.now.bytes.now i) (args_at sheet.now.bytes.now sheet.now.lines.now i)) table.old result table.new }
+    requires { AsksCall scope.now.sheet.bytes.now scope.now.sheet.lines.now scope.now.env table.old i keyed }
+    ensures { let s = scope.now.sheet.bytes.now in Types s (type_args (env_of s table.old scope.now.env) (callee_at s i) (args_at s scope.now.sheet.lines.now i)) table.old result table.new }
 {
-    let at = sheet.end(i + 1);
-    ask_each(sheet, env, table, at, call_arg_count(sheet.lines, i))?;
-    type_keyed(sheet, env, table, i, keyed)
+    let at = scope.sheet.end(i + 1);
+    ask_each(scope, table, at, call_arg_count(scope.sheet.lines, i))?;
+    type_keyed(scope, table, i, keyed)
 }
 
 // ... and its keyed use is checked
 #[cycle(expression_types)]
 fn type_keyed(
-    sheet: &LoadedSheet<'_>,
-    env: Env,
+    scope: &Scope<'_>,
     table: &mut [u8],
     i: usize,
     keyed: Option<usize>,
 ) -> Result<Ty, Refusal>
-    requires { AsksCall sheet.now.bytes.now sheet.now.lines.now env table.old i keyed }
-    ensures { Types sheet.now.bytes.now (type_keyed (env_of sheet.now.bytes.now table.old env) (callee_at sheet.now.bytes.now i) (args_at sheet.now.bytes.now sheet.now.lines.now i)) table.old result table.new }
+    requires { AsksCall scope.now.sheet.bytes.now scope.now.sheet.lines.now scope.now.env table.old i keyed }
+    ensures { let s = scope.now.sheet.bytes.now in Types s (type_keyed (env_of s table.old scope.now.env) (callee_at s i) (args_at s scope.now.sheet.lines.now i)) table.old result table.new }
 {
-    check_keyed_call(sheet, env, table, i, keyed)?;
-    Ok(ty_of_call(sheet, i + 1, keyed))
+    check_keyed_call(scope, table, i, keyed)?;
+    Ok(ty_of_call(&scope.sheet, i + 1, keyed))
 }
 
 // Types `left` expressions, the first of which stands at line at.
 #[cycle(expression_types)]
-pub fn ask_each(
-    sheet: &LoadedSheet<'_>,
-    env: Env,
-    table: &mut [u8],
-    at: usize,
-    left: usize,
-) -> Result<(), Refusal>
-    requires { AsksAll sheet.now.bytes.now sheet.now.lines.now env table.old left at }
-    ensures { Does sheet.now.bytes.now (ask_each (typings (env_of sheet.now.bytes.now table.old env) (exprs_at sheet.now.bytes.now left at))) table.old result table.new }
+#[tactic(auto, using(crate::proofs::Calls::laws_each))]
+pub fn ask_each(scope: &Scope<'_>, table: &mut [u8], at: usize, left: usize) -> Result<(), Refusal>
+    requires { AsksAll scope.now.sheet.lines.now table.old left at }
+    ensures { let s = scope.now.sheet.bytes.now in Does s (ask_each (typings (env_of s table.old scope.now.env) (exprs_at s left at))) table.old result table.new }
 {
     if left == 0 {
         return Ok(());
     }
-    ty_of(sheet, env, table, at)?;
-    ask_each(sheet, env, table, sheet.end(at), left - 1)
+    ty_of(scope, table, at)?;
+    ask_each(scope, table, scope.sheet.end(at), left - 1)
 }
 
 // `check_keyed_call` of the call at line i, whose callee uses `keyed`.
 #[cycle(expression_types)]
 #[tactic(auto, using(crate::proofs::Keys::laws_keyed_call))]
 pub fn check_keyed_call(
-    sheet: &LoadedSheet<'_>,
-    env: Env,
+    scope: &Scope<'_>,
     table: &mut [u8],
     i: usize,
     keyed: Option<usize>,
 ) -> Result<(), Refusal>
-    requires { AsksCall sheet.now.bytes.now sheet.now.lines.now env table.old i keyed }
-    ensures { Does sheet.now.bytes.now (check_keyed_call (env_of sheet.now.bytes.now table.old env) (callee_at sheet.now.bytes.now i) (typings (env_of sheet.now.bytes.now table.old env) (args_at sheet.now.bytes.now sheet.now.lines.now i))) table.old result table.new }
+    requires { AsksCall scope.now.sheet.bytes.now scope.now.sheet.lines.now scope.now.env table.old i keyed }
+    ensures { let s = scope.now.sheet.bytes.now in Does s (check_keyed_call (env_of s table.old scope.now.env) (callee_at s i) (typings (env_of s table.old scope.now.env) (args_at s scope.now.sheet.lines.now i))) table.old result table.new }
 {
     let Some(field) = keyed else {
         return Ok(());
     };
-    check_amount(sheet, env, table, i)?;
-    let method = sheet.name(i + 1);
-    let at = sheet.end(i + 1);
+    check_amount(scope, table, i)?;
+    let method = scope.sheet.name(i + 1);
+    let at = scope.sheet.end(i + 1);
     check_keys(
-        sheet,
-        env,
+        scope,
         table,
         field,
         0,
         wants(method),
         at,
-        call_arg_count(sheet.lines, i),
+        call_arg_count(scope.sheet.lines, i),
     )
 }
 
 // The amount that `credit` and `debit` move.
 #[cycle(expression_types)]
 #[tactic(auto, using(crate::proofs::Keys::laws_amount))]
-fn check_amount(
-    sheet: &LoadedSheet<'_>,
-    env: Env,
-    table: &mut [u8],
-    i: usize,
-) -> Result<(), Refusal>
-    requires { AsksMethod sheet.now.bytes.now sheet.now.lines.now env table.old i }
-    ensures { Does sheet.now.bytes.now (amount_rule (env_of sheet.now.bytes.now table.old env) (method_at sheet.now.bytes.now sheet.now.lines.now i) (args_at sheet.now.bytes.now sheet.now.lines.now i)) table.old result table.new }
+fn check_amount(scope: &Scope<'_>, table: &mut [u8], i: usize) -> Result<(), Refusal>
+    requires { AsksMethod scope.now.sheet.lines.now table.old i }
+    ensures { let s = scope.now.sheet.bytes.now in Does s (amount_rule (env_of s table.old scope.now.env) (method_at s scope.now.sheet.lines.now i) (args_at s scope.now.sheet.lines.now i)) table.old result table.new }
 {
-    if call_arg_count(sheet.lines, i) < 2 {
+    if call_arg_count(scope.sheet.lines, i) < 2 {
         return Ok(());
     }
-    if !moves_amount(sheet.name(i + 1)) {
+    if !moves_amount(scope.sheet.name(i + 1)) {
         return Ok(());
     }
-    let arg = sheet.end(sheet.end(i + 1));
-    let got = ty_of(sheet, env, table, arg)?;
+    let arg = scope.sheet.end(scope.sheet.end(i + 1));
+    let got = ty_of(scope, table, arg)?;
     judge_amount(i + 1, arg, got)
 }
 
@@ -256,8 +242,7 @@ fn check_amount(
 #[cycle(expression_types)]
 #[tactic(auto, using(crate::proofs::Keys::laws_keys))]
 fn check_keys(
-    sheet: &LoadedSheet<'_>,
-    env: Env,
+    scope: &Scope<'_>,
     table: &mut [u8],
     field: usize,
     index: usize,
@@ -265,23 +250,22 @@ fn check_keys(
     at: usize,
     left: usize,
 ) -> Result<(), Refusal>
-    requires { AsksKeys sheet.now.bytes.now sheet.now.lines.now env table.old field wants left at }
-    ensures { Does sheet.now.bytes.now (keys_rule (env_of sheet.now.bytes.now table.old env) (field_at sheet.now.bytes.now field) index wants (exprs_at sheet.now.bytes.now left at)) table.old result table.new }
+    requires { AsksKeys scope.now.sheet.lines.now table.old field wants left at }
+    ensures { let s = scope.now.sheet.bytes.now in Does s (keys_rule (env_of s table.old scope.now.env) (field_at s field) index wants (exprs_at s left at)) table.old result table.new }
 {
     if (wants <= index) | (left == 0) {
         return Ok(());
     }
-    let got = ty_of(sheet, env, table, at)?;
-    let want = declared_arg(sheet, field + 1, index);
-    judge_key(sheet, env, field, index == 0, at, want, got)?;
+    let got = ty_of(scope, table, at)?;
+    let want = declared_arg(&scope.sheet, field + 1, index);
+    scope.judge_key(field, index == 0, at, want, got)?;
     check_keys(
-        sheet,
-        env,
+        scope,
         table,
         field,
         index + 1,
         wants,
-        sheet.end(at),
+        scope.sheet.end(at),
         left - 1,
     )
 }

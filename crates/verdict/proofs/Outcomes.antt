@@ -20,7 +20,7 @@ use Rattle.sheet.proofs.Loaded.{answer_lines}
 use Rattle.rules.specs.Asking.{Res, ok, refused as ruled_out}
 use Rattle.rules.specs.Kept.{Table}
 use Rattle.rules.specs.Check.{check}
-use Rattle.rules.specs.Standing.{LoadedIn, model_in}
+use Rattle.rules.specs.Standing.{LoadedIn, model_in, Loaded}
 use Rattle.sheet.specs.Loaded.{read_lines, lines_in}
 use Rattle.rules.specs.Verdict.{overwritten, answer_for, judge, refused_sheet, verdict, kept_judge, kept_verdict}
 use Rattle.rules.proofs.Binding.{kept-length}
@@ -130,6 +130,9 @@ module _ (s S U : List ℕ) (types : ℕ) (r : Result ℕ Refused) (a : r ≡ an
         ap (drop (cells_per_line * n)) (u ∙ sym (loads s types S _ n refl read_as_lem.early read_as_lem.count _ _ refl refl).1)
         ∙ drop_at (laid (scan_all s) (take (cells_per_line * n) S)) (drop (cells_per_line * n) S) (cells_per_line * n) (laid-length (scan_all s) (take (cells_per_line * n) S) ∙ h)
 
+    pub loaded_lines : Loaded s (take (cells_per_line * n) U)
+    loaded_lines = in_scratch.loaded
+
     -- the table T has as many bytes at least
     module _ (T : List ℕ) (t : types ≤ length T) where
       pub table_within : n ≤ length T
@@ -143,7 +146,6 @@ module _ (s S U : List ℕ) (types : ℕ) (r : Result ℕ Refused) (a : r ≡ an
           record {
             lines =
                 record {
-                  loaded = in_scratch.loaded;
                   small = (passed s types S _ n refl read_as_lem.early read_as_lem.count).small;
                   few = omega (arith, in_scratch.few, cells_length);
                 };

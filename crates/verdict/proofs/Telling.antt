@@ -13,7 +13,7 @@ use Rattle.sheet.proofs.Due.{length-copies}
 use Rattle.rules.specs.Text.{render}
 use Rattle.rules.specs.Kept.{Table, count}
 use Rattle.rules.specs.Check.{check}
-use Rattle.rules.specs.Standing.{model_in}
+use Rattle.rules.specs.Standing.{model_in, Loaded}
 use Rattle.rules.specs.Verdict.{longest, overwritten, fitting, answer_for}
 use Rattle.rules.proofs.Binding.{kept-length}
 use Rattle.refusals.specs.Refusal.{refusal_of, done_of}
@@ -34,11 +34,16 @@ written_none : (B : List ℕ) → overwritten [] B ≡ B
 unfolding overwritten
 written_none B = refl
 
+-- a buffer that the message of r doesn't fit stays as it is
+pub told_long : (s : List ℕ) (r : Refusal) (B : List ℕ) (n : ℕ) → n ≡ length (text_of s r) → length B < n → B ≡ overwritten (fitting (length B) (text_of s r)) B
+unfolding fitting
+told_long s r B n e g = sym (rw (lt-leb (length (text_of s r)) (length B) (omega (arith, e))) (written_none B))
+
 -- A message of r: `add_message` made N of M, a message of no bytes. B is the lent buffer.
-module _ (s S : List ℕ) (r : Refusal) (h : Few s S) where
+module _ (s S : List ℕ) (r : Refusal) (loaded : Loaded s S) (h : Few s S) where
   text_short : length (text_of s r) ≤ longest
   unfolding text_of
-  text_short = message_short s S r h.loaded h.small h.few
+  text_short = message_short s S r loaded h.small h.few
 
   pub told_length : (M N : Message) → M.length ≡ 0 → Adds (render (refusal_of s r).text) M N → N.length ≡ length (text_of s r)
   unfolding text_of
@@ -46,10 +51,6 @@ module _ (s S : List ℕ) (r : Refusal) (h : Few s S) where
 
   pub told_fits : (M N : Message) → M.length ≡ 0 → Adds (render (refusal_of s r).text) M N → Fits w32 N.length
   told_fits M N z x = omega (arith, told_length M N z x, text_short)
-
-  pub told_long : (B : List ℕ) (n : ℕ) → n ≡ length (text_of s r) → length B < n → B ≡ overwritten (fitting (length B) (text_of s r)) B
-  unfolding fitting
-  told_long B n e g = sym (rw (lt-leb (length (text_of s r)) (length B) (omega (arith, e))) (written_none B))
 
   pub told_whole : (B : List ℕ) (M N : Message) → M.buffer.now ≡ B → M.length ≡ 0 → Adds (render (refusal_of s r).text) M N → (n : ℕ) → n ≡ length (text_of s r) → n ≤ length B
       → N.buffer.now ≡ overwritten (fitting (length B) (text_of s r)) B
@@ -60,8 +61,8 @@ module _ (s S : List ℕ) (r : Refusal) (h : Few s S) where
 
 -- ------------------------------------------------------------ what `check` says
 
-pub exact_sheet : (s S : List ℕ) (T : Table) → Exact s S T → SheetIn s S T
-exact_sheet s S T h = record { loaded = h.lines.loaded; few = h.lines.few; room = omega (arith, h.bytes) }
+pub exact_sheet : (s S : List ℕ) (T : Table) → Exact s S T → SheetIn S T
+exact_sheet s S T h = record { few = h.lines.few; room = omega (arith, h.bytes) }
 
 count_most : (T : Table) → count T ≤ length T
 unfolding count
@@ -87,13 +88,13 @@ module _ (s S : List ℕ) (T U : Table) (d : Result Unit Refusal) (x : Does s (c
       let j = rw e at (judged_told (length M)) in
       record { answer = rw (j, c) refl; short = omega arith; types = rw j refl; message = rw j (sym (written_none M)) }
 
-  pub judges_refused : (r : Refusal) (M N : List ℕ) (k p n l : ℕ) → Exact s S T → d ≡ Err r → Numbers r k → p ≡ (refusal_of s r).place → n ≡ count U → l ≡ length (text_of s r)
+  pub judges_refused : (r : Refusal) (M N : List ℕ) (k p n l : ℕ) → Loaded s S → Exact s S T → d ≡ Err r → Numbers r k → p ≡ (refusal_of s r).place → n ≡ count U → l ≡ length (text_of s r)
       → N ≡ overwritten (fitting (length M) (text_of s r)) M
       → Judges s T M (record { number = k; place = p; count = n; length = l }) U N
   unfolding answer_for answer_of done_of text_of
-  judges_refused r M N k p n l h e a b c f g =
+  judges_refused r M N k p n l loaded h e a b c f g =
       let j = rw e at (judged_told (length M)) in
-      record { answer = rw (j, a.numbers s, b, c, f) refl; short = rw f (text_short s S r h.lines); types = rw j refl; message = rw j g }
+      record { answer = rw (j, a.numbers s, b, c, f) refl; short = rw f (text_short s S r loaded h.lines); types = rw j refl; message = rw j g }
 
 -- ------------------------------------------------------------ a table that is cleared before
 

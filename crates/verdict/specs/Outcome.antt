@@ -4,7 +4,7 @@ use Rattle.sheet.specs.Load.{lines_of, early, copies}
 use Rattle.rules.specs.Text.{render}
 use Rattle.rules.specs.Kept.{Table, kept}
 use Rattle.rules.specs.Check.{check}
-use Rattle.rules.specs.Standing.{Loaded, model_in}
+use Rattle.rules.specs.Standing.{model_in}
 use Rattle.rules.specs.Verdict as ruled
 use Rattle.rules.specs.Verdict.{longest, overwritten, answer_for, verdict}
 use Rattle.refusals.specs.Refusal.{refusal_of}
@@ -44,9 +44,8 @@ outcome s S T M =
 unfoldable pub text_of : List ℕ → Refusal → List ℕ
 text_of s r = render (refusal_of s r).text
 
--- the lines of a sheet that is read, at most 1,024 in 16,384 bytes
+-- at most 1,024 lines in 16,384 bytes
 pub record Few (s S : List ℕ) : Type 0 where
-  pub loaded : Loaded s S
   pub small : length s ≤ most_bytes
   pub few : line_count S ≤ most_lines
 

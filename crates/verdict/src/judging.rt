@@ -1,6 +1,7 @@
 // What a call does with the lines of a sheet that is read: the rules on a cleared table, the answer, and the message.
 ghost use Rattle.std.specs.Prelude.{◌≡◌, length};
 ghost use Rattle.sheet.specs.Load.{copies};
+ghost use Rattle.rules.specs.Standing.{Loaded};
 ghost use Rattle.rules.specs.Verdict.{fitting, overwritten};
 ghost use Rattle.verdict.specs.Outcome.{Exact, Few, Judges, text_of};
 
@@ -54,7 +55,8 @@ pub fn judge(sheet: &LoadedSheet<'_>, table: &mut [u8], message: &mut [u8]) -> A
 
 // The same on a table that is cleared before; the lines are cleared afterwards.
 pub fn judge_lines(sheet: &[u8], lines: &mut [u16], table: &mut [u8], message: &mut [u8]) -> Answer
-    requires { Exact sheet.now lines.old table.old }
+    requires loaded { Loaded sheet.now lines.old }
+    requires exact { Exact sheet.now lines.old table.old }
     ensures judges { Judges sheet.now (copies (length table.old) 0) message.old result table.new message.new }
     ensures lines_after { lines.new ≡ copies (length lines.old) 0 }
 {

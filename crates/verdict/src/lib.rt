@@ -10,7 +10,7 @@ ghost use Rattle.verdict.specs.Outcome.{outcome};
 pub use judging::{judge, judge_lines, tell};
 use sheet::{CELLS_PER_LINE, Refused, load};
 
-// Number is 0 for acceptance. Place is a line from 1 for 6 to 11 and a span from 12 on. Count is how many lines are marked, length
+// Numbers, since C reads it. Number is 0 for acceptance. Place is a line from 1 for 6 to 11 and a span from 12 on. Count is how many lines are marked, length
 // how many bytes the message has, whether it fits or not.
 #[repr(C)]
 #[derive(Clone, Copy)]

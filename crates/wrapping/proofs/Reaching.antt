@@ -3,14 +3,12 @@ use mathlib.Core.Path.{◌≡◌, refl, sym, ◌∙◌}
 use mathlib.Core.Logic.{◌≢◌}
 use mathlib.Core.List.{List}
 use mathlib.Core.Bool.{Bool, true, false, cond, not, ◌&&◌}
-use mathlib.Core.Option.{Option as Maybe, none, some}
 use Prim.Native.Nat.{ℕ, zero, suc, ◌+◌, ◌-◌}
 use native.Mathlib.Numerals.{add-one}
 use native.Mathlib.Omega.{arith}
 use lib.Dec.{eqb, ltb}
-use lib.ListN.{get_elem?}
 use borrow.Author.Tests.{eq-eqb, ne_eqb, eqb-true, lt-ltb, ltb-true, not-true, not-false}
-use Rattle.std.specs.Prelude.{Option, is_some, is_none, Ok, Err}
+use Rattle.std.specs.Prelude.{Option, is_some, is_none, Ok, Err, Some, None, slice_get}
 use Rattle.text.specs.Text.{bytes, same}
 use Rattle.grammar.specs.Grammar as grammar
 use Rattle.sheet.specs.Scratch.{kind_at, end_at, name_at, call_arg_count}
@@ -31,9 +29,6 @@ use Rattle.refusals.specs.Answers.{Answers}
 use Rattle.refusals.specs.Refusal.{refusal_of, done_of}
 use Rattle.refusals.specs.declared.refusal.Refusal.TheVariants.{ReachesField, ReachesValues}
 use Rattle.refusals.proofs.Answers.{gives, fits, misfits}
-use Rattle.rules.specs.Text.{option_of}
-use Rattle.lookups.proofs.Options.{option_some}
-use Rattle.wrapping.specs.Lines.{After}
 use Rattle.wrapping.specs.Marks.{wrapped_names}
 use Rattle.wrapping.specs.Reach.{sets_at}
 use Rattle.grammar.specs.Kinds as kinds
@@ -49,43 +44,40 @@ module _ (w : Option ℕ) (n b : Bool) (e : n ≡ is_none w) where
   narrow_slot r h f = rw (not-false (is_some w) (sym e ∙ h)) f
 
 -- w is the slot's largest number, and b what the code finds
-module _ (xs : List Name) (o : Maybe ℕ) (value : Expr) (slot : List Piece) (w : Option ℕ) (b : Bool) (f : w ≡ option_of o) (e : b ≡ (is_some w && wraps xs value)) where
+module _ (xs : List Name) (o : Option ℕ) (value : Expr) (slot : List Piece) (w : Option ℕ) (b : Bool) (f : w ≡ o) (e : b ≡ (is_some w && wraps xs value)) where
   pub unreached : b ≡ false → Answers (reaches xs o value slot) (ok tt)
   unfolding reaches
-  unreached q = fits _ 22 (span value) (reaches_text slot) (rw (option_some o, ← f, ← e, q) refl)
+  unreached q = fits _ 22 (span value) (reaches_text slot) (rw (← f, ← e, q) refl)
 
   pub reached : b ≡ true → Answers (reaches xs o value slot) (refused (record { number = 22; place = span value; text = reaches_text slot }))
   unfolding reaches
-  reached q = misfits _ 22 (span value) (reaches_text slot) (rw (option_some o, ← f, ← e, q) refl)
+  reached q = misfits _ 22 (span value) (reaches_text slot) (rw (← f, ← e, q) refl)
 
 -- ------------------------------------------------------------ assignments
 
 -- The target is the line behind the assignment.
-module _ (s S : List ℕ) (M : List Bool) (k body i : ℕ) (a : After grammar.Stmt s S k body i) (e : kind_at S i ≡ kinds.assign) where
+module _ (s S : List ℕ) (M : List Bool) (k body i : ℕ) (d : Loaded s S) (a : Here S grammar.Stmt i) (e : kind_at S i ≡ kinds.assign) where
   abbrev xs : List Name
   xs = wrapped_names s S M k body
 
-  d : Loaded s S
-  d = a.before.loaded
-
   parts : Row S grammar.Expr 2 (suc i)
-  parts = (assign_at d a.here e).1
+  parts = (assign_at d a e).1
 
   abbrev Judged : Res Unit → Type 0
   Judged r = Answers (narrow_stmt (model_in s) xs (stmt_at s i)) r
 
   pub assign_other : kind_at S (i + 1) ≢ kinds.id → Judged (done_of s (Ok tt))
   unfolding narrow_stmt if_some done_of
-  assign_other h = rw ((assign_at d a.here e).0, ident_at d (row_first parts), ← add-one i, ne_eqb (kind_at S (i + 1)) kinds.id h) (gives tt)
+  assign_other h = rw ((assign_at d a e).0, ident_at d (row_first parts), ← add-one i, ne_eqb (kind_at S (i + 1)) kinds.id h) (gives tt)
 
-  pub assign_value : (v : ℕ) → v ≡ end_at S (i + 1) → After grammar.Expr s S k body v
-  assign_value v z = record { before = a.before; here = rw (z, add-one i) (row_first (row_rest parts)) }
+  pub assign_value : (v : ℕ) → v ≡ end_at S (i + 1) → Here S grammar.Expr v
+  assign_value v z = rw (z, add-one i) (row_first (row_rest parts))
 
-  module _ (x : Name) (w : Option ℕ) (v : ℕ) (b : Bool) (h : kind_at S (i + 1) ≡ kinds.id) (z : v ≡ end_at S (i + 1)) (y : x ≡ name_at s S (i + 1)) (f : w ≡ option_of (narrow_field (model_in s) x)) (g : b ≡ (is_some w && wraps xs (expr_at s v))) where
+  module _ (x : Name) (w : Option ℕ) (v : ℕ) (b : Bool) (h : kind_at S (i + 1) ≡ kinds.id) (z : v ≡ end_at S (i + 1)) (y : x ≡ name_at s S (i + 1)) (f : w ≡ narrow_field (model_in s) x) (g : b ≡ (is_some w && wraps xs (expr_at s v))) where
     assign-judged : (r : Res Unit) → Answers (reaches xs (narrow_field (model_in s) x) (expr_at s v) (field_slot x)) r → Judged r
     unfolding narrow_stmt if_some
     assign-judged r j =
-        rw ((assign_at d a.here e).0, ident_at d (row_first parts), ← add-one i, eq-eqb (kind_at S (i + 1)) kinds.id h, ← y, ← z) j
+        rw ((assign_at d a e).0, ident_at d (row_first parts), ← add-one i, eq-eqb (kind_at S (i + 1)) kinds.id h, ← y, ← z) j
 
     pub assign_fine : b ≡ false → Judged (done_of s (Ok tt))
     unfolding done_of
@@ -116,7 +108,7 @@ module _ (s S : List ℕ) (i : ℕ) where
         let j : i + 1 + 1 ≡ suc (suc i) = omega arith in
         rw (eq-eqb (kind_at S i) kinds.call h, p, y, q, z, j, add-one i, ← add-one i) (rw (eq-eqb (kind_at S (i + 1)) kinds.dot g) refl)
 
-second_of : {s S : List ℕ} (d : Loaded s S) (m j : ℕ) → Row S grammar.Expr m j → get_elem? (list (exprs_at s m j)) 1 ≡ cond (ltb 1 m) (some (expr_at s (end_at S j))) none
+second_of : {s S : List ℕ} (d : Loaded s S) (m j : ℕ) → Row S grammar.Expr m j → slice_get (list (exprs_at s m j)) 1 ≡ cond (ltb 1 m) (Some (expr_at s (end_at S j))) None
 unfolding list exprs_at take_nodes exprs_of
 second_of d zero j r = refl
 second_of d (suc zero) j r = rw (exprs_next d 0 j (row_first r).within) refl
@@ -125,11 +117,11 @@ second_of d (suc (suc m)) j r =
 
 -- the rule of a call goes by five tests
 module _ (m : Model) (xs : List Name) (e : Expr) (C : Call) (D : Dot) (x : Name) (v : Expr) where
-  set-tests : (a b c f g : Bool) → call_of e ≡ cond a (some C) none
-      → (a ≡ true → dot_of C.callee ≡ cond b (some D) none)
+  set-tests : (a b c f g : Bool) → call_of e ≡ cond a (Some C) None
+      → (a ≡ true → dot_of C.callee ≡ cond b (Some D) None)
       → is D.name "set" ≡ c
-      → (a ≡ true → b ≡ true → ident_of D.base ≡ cond f (some x) none)
-      → (a ≡ true → get_elem? (list C.args) 1 ≡ cond g (some v) none)
+      → (a ≡ true → b ≡ true → ident_of D.base ≡ cond f (Some x) None)
+      → (a ≡ true → slice_get (list C.args) 1 ≡ cond g (Some v) None)
       → (r : Res Unit) → Answers (provided (a && (b && (c && (f && g)))) (reaches xs (narrow_values m x) v (values_slot x))) r → Answers (narrow_set m xs e) r
   unfolding narrow_set if_some provided
   set-tests false b c f g h i j k l r y = rw h y
@@ -144,18 +136,15 @@ both true b e = (refl, e)
 both false true e = (e, refl)
 both false false e = (e, e)
 
-module _ (s S : List ℕ) (M : List Bool) (k body i : ℕ) (a : After grammar.Expr s S k body i) where
+module _ (s S : List ℕ) (M : List Bool) (k body i : ℕ) (ld : Loaded s S) (a : Here S grammar.Expr i) where
   abbrev ys : List Name
   ys = wrapped_names s S M k body
-
-  ld : Loaded s S
-  ld = a.before.loaded
 
   abbrev Set' : Res Unit → Type 0
   Set' r = Answers (narrow_set (model_in s) ys (expr_at s i)) r
 
   callee : kind_at S i ≡ kinds.call → Here S grammar.Expr (suc i)
-  callee e = row_first (call_at_lem ld a.here e).1
+  callee e = row_first (call_at_lem ld a e).1
 
   set_rule : (x : Name) → x ≡ name_at s S (suc (suc i)) → (r : Res Unit)
       → Answers (provided (sets_at s S i) (reaches ys (narrow_values (model_in s) x) (expr_at s (end_at S (end_at S (suc i)))) (values_slot x))) r → Set' r
@@ -164,11 +153,11 @@ module _ (s S : List ℕ) (M : List Bool) (k body i : ℕ) (a : After grammar.Ex
       set-tests (model_in s) ys (expr_at s i) (record { callee = expr_at s (suc i); args = exprs_at s (call_arg_count S i) (end_at S (suc i)) })
       (record { base = expr_at s (suc (suc i)); name = name_at s S (suc i); nspan = nspan_at s S (suc i) }) x (expr_at s (end_at S (end_at S (suc i))))
       (eqb (kind_at S i) kinds.call) (eqb (kind_at S (suc i)) kinds.dot) (is (name_at s S (suc i)) "set") (eqb (kind_at S (suc (suc i))) kinds.id) (ltb 1 (call_arg_count S i))
-      (is-call_at ld a.here)
+      (is-call_at ld a)
       (λ p. is_dot_at ld (callee (eqb-true _ _ p)))
       refl
       (λ p q. rw n (ident_at ld (row_first (dot_at_lem ld (callee (eqb-true _ _ p)) (eqb-true _ _ q)).1)))
-      (λ p. second_of ld (call_arg_count S i) (end_at S (suc i)) (row_rest (call_at_lem ld a.here (eqb-true _ _ p)).1))
+      (λ p. second_of ld (call_arg_count S i) (end_at S (suc i)) (row_rest (call_at_lem ld a (eqb-true _ _ p)).1))
 
   module _ (c : Bool) (e : c ≡ sets_at s S i) where
     pub set_other : not c ≡ true → Set' (done_of s (Ok tt))
@@ -195,17 +184,17 @@ module _ (s S : List ℕ) (M : List Bool) (k body i : ℕ) (a : After grammar.Ex
       unfolding sets_at
       then = both _ _ (both (eqb (kind_at S i) kinds.call) _ tests).1
 
-      pub set_value : After grammar.Expr s S k body v
+      pub set_value : Here S grammar.Expr v
       set_value =
           let m = ltb-true 1 (call_arg_count S i) (both (eqb (kind_at S (suc (suc i))) kinds.id) _ (both (is (name_at s S (suc i)) "set") _ then.1).1).1 in
           let r : Row S grammar.Expr (suc (suc (call_arg_count S i - 2))) (end_at S (suc i)) =
-          rw (let z : suc (suc (call_arg_count S i - 2)) ≡ call_arg_count S i = omega arith in z) (row_rest (call_at_lem ld a.here is_call).1) in
-          record { before = a.before; here = rw second_at (row_first (row_rest r)) }
+          rw (let z : suc (suc (call_arg_count S i - 2)) ≡ call_arg_count S i = omega arith in z) (row_rest (call_at_lem ld a is_call).1) in
+          rw second_at (row_first (row_rest r))
 
       map_named : named_at s (i + 2) ≡ name_at s S (suc (suc i))
       map_named = rw map_at (named ld (row_first (dot_at_lem ld (callee is_call) (eqb-true _ _ then.0)).1).within)
 
-      module _ (x : Name) (w : Option ℕ) (b : Bool) (y : x ≡ name_at s S (i + 2)) (o : w ≡ option_of (narrow_values (model_in s) x)) (j : b ≡ (is_some w && wraps ys (expr_at s v))) where
+      module _ (x : Name) (w : Option ℕ) (b : Bool) (y : x ≡ name_at s S (i + 2)) (o : w ≡ narrow_values (model_in s) x) (j : b ≡ (is_some w && wraps ys (expr_at s v))) where
         name-is : x ≡ name_at s S (suc (suc i))
         name-is = y ∙ rw map_at refl
 

@@ -22,14 +22,13 @@ use Rattle.rules.specs.Assets.{wraps, wraps_any}
 use Rattle.rules.specs.Typing.{ident_leaf, leaf_has}
 use Rattle.rules.specs.Standing.{expr_at, Loaded, Here, Row}
 use Rattle.rules.proofs.Lookups.{among_first}
-use Rattle.rules.proofs.Parts.{stop, ◌also◌, pick}
+use Rattle.rules.proofs.Parts.{stop as end', ◌also◌, pick}
 use Rattle.rules.proofs.Standing.{stands, row_first, row_rest, row_nth, row_take}
 use Rattle.rules.proofs.Exprs.{by_kind, leaf_at, dot_at_lem, call_at_lem}
 use Rattle.rules.proofs.Forest.{joined, parts_of, skip_least}
 use Rattle.rules.proofs.Walks as walks
 use Rattle.rules.proofs.Walks.{any_joined, Walk, walk_one, walk_known, walk_inside, walk_behind, walk_args}
 use Rattle.rules.proofs.Records.{let_at}
-use Rattle.wrapping.specs.Lines.{Before, After}
 use Rattle.wrapping.specs.Marks.{wrapped_names, is_wrapping_let, wraps_here, next_line}
 use Rattle.grammar.specs.Kinds as kinds
 use Rattle.sheet.specs.Line.{most_lines}
@@ -67,11 +66,12 @@ among_wrapped s S M x (suc k) body =
 -- no statement before those that r goes over has the name
 pub record Seeking (s S : List ℕ) (M : List Bool) (x : Name) (bound body : ℕ) (r : Records) : Type 0 where
   pub lines : r.lines.now ≡ S
-  pub stmts : Before s S r.left r.at
+  pub few : line_count S ≤ most_lines
+  pub row : Row S grammar.Stmt r.left r.at
   pub rest : among x (wrapped_names s S M bound body) ≡ among x (wrapped_names s S M r.left r.at)
 
-pub seek_start : (s S : List ℕ) (M : List Bool) (x : Name) (bound body : ℕ) (r : Records) → Before s S bound body → r.lines.now ≡ S → r.left ≡ bound → r.at ≡ body → Seeking s S M x bound body r
-seek_start s S M x bound body r b e p q = record { lines = e; stmts = rw (p, q) b; rest = rw (p, q) refl }
+pub seek_start : (s S : List ℕ) (M : List Bool) (x : Name) (bound body : ℕ) (r : Records) → line_count S ≤ most_lines → Row S grammar.Stmt bound body → r.lines.now ≡ S → r.left ≡ bound → r.at ≡ body → Seeking s S M x bound body r
+seek_start s S M x bound body r f b e p q = record { lines = e; few = f; row = rw (p, q) b; rest = rw (p, q) refl }
 
 module _ (s S : List ℕ) (M : List Bool) (x : Name) (bound body : ℕ) (r : Records) (g : Seeking s S M x bound body r) where
   pub seek_over : r.left ≡ 0 → false ≡ among x (wrapped_names s S M bound body)
@@ -79,14 +79,14 @@ module _ (s S : List ℕ) (M : List Bool) (x : Name) (bound body : ℕ) (r : Rec
   seek_over h = sym (g.rest ∙ rw h refl)
 
   module _ (i : ℕ) (t : Records) (h : Steps r i t) where
-    row : Row S grammar.Stmt (suc t.left) i
-    row = rw (← h.left, h.here) g.stmts.row
+    stmts : Row S grammar.Stmt (suc t.left) i
+    stmts = rw (← h.left, h.here) g.row
 
     behind : t.at ≡ end_at S i
     behind = h.behind ∙ rw (g.lines, h.here) refl
 
     pub seek_line : i < most_lines
-    seek_line = omega (arith, (row_first row).within, g.stmts.few)
+    seek_line = omega (arith, (row_first stmts).within, g.few)
 
     module _ (b : Bool) (e : b ≡ hit s S M x i) where
       turn : among x (wrapped_names s S M bound body) ≡ (b || among x (wrapped_names s S M t.left (end_at S i)))
@@ -99,7 +99,8 @@ module _ (s S : List ℕ) (M : List Bool) (x : Name) (bound body : ℕ) (r : Rec
       seek_next q =
           record {
             lines = h.lines ∙ g.lines;
-            stmts = record { loaded = g.stmts.loaded; few = g.stmts.few; row = rw behind (row_rest row) };
+            few = g.few;
+            row = rw behind (row_rest stmts);
             rest = turn ∙ rw (q, behind) refl;
           }
 
@@ -148,7 +149,7 @@ module _ {s S : List ℕ} (d : Loaded s S) (xs : List Name) {i : ℕ} (h : Here 
       by_kind d h (λ k e. k < kinds.dot → wraps xs e ≡ ((eqb k kinds.wrapping || (eqb k kinds.id && among (name_at s S i) xs)) || wraps_any xs (parts_of e)))
       (λ k a b _.
       pick {P = λ k. leaf_has xs (leaf_at k (name_at s S i)) ≡ ((eqb k kinds.wrapping || (eqb k kinds.id && among (name_at s S i) xs)) || false)} {i = kinds.int} {n = 8} k
-      (refl also sym (or-false _) also refl also refl also refl also refl also refl also refl also stop) a b)
+      (refl also sym (or-false _) also refl also refl also refl also refl also refl also refl also end') a b)
       (λ _. sym (or-false _))
       (λ _. rw or-false refl)
       (λ z. absurd (omega arith))
@@ -167,9 +168,9 @@ module _ {s S : List ℕ} (d : Loaded s S) (xs : List Name) {i : ℕ} (h : Here 
 abbrev pub Walking : (s S : List ℕ) → List Name → (i end at : ℕ) → Type 0
 Walking s S xs i end at = Walk s S (λ es. wraps xs (expr_at s i) ≡ wraps_any xs es) end at
 
-pub walk_start : (s S : List ℕ) (xs : List Name) (bound body i end : ℕ) → After grammar.Expr s S bound body i → end ≡ end_at S i → Walking s S xs i end i
+pub walk_start : (s S : List ℕ) (xs : List Name) (i end : ℕ) → Loaded s S → Here S grammar.Expr i → end ≡ end_at S i → Walking s S xs i end i
 unfolding wraps_any
-walk_start s S xs bound body i end h e = walk_one h.before.loaded h.here e (sym (or-false _))
+walk_start s S xs i end d h e = walk_one d h e (sym (or-false _))
 
 module _ (s S : List ℕ) (xs : List Name) (i end at : ℕ) (g : Walking s S xs i end at) where
   pub walk_over : end ≤ at → false ≡ wraps xs (expr_at s i)
@@ -214,7 +215,7 @@ module _ (s S : List ℕ) (xs : List Name) (i end at : ℕ) (g : Walking s S xs 
             also past_calls
             also (λ e. go_in (in_line (λ z. omega arith) (λ z. omega arith)) (at_checked g.loaded xs here e))
             also (λ e. go_in (in_line (λ z. omega arith) (λ z. omega arith)) (at_wrapping g.loaded xs here e))
-            also stop)
+            also end')
             (ltb-false (kind_at S at) kinds.dot q) here.kind.1 refl
 
     pub walk_line : at < line_count S
@@ -233,8 +234,8 @@ module _ (s S : List ℕ) (xs : List Name) (i end at : ℕ) (g : Walking s S xs 
 -- ------------------------------------------------------------ the mark of a statement
 
 module _ (s S : List ℕ) (i : ℕ) where
-  pub let_value : (k body : ℕ) → After grammar.Stmt s S k body i → kind_at S i ≡ kinds.let' → After grammar.Expr s S k body (i + 1)
-  let_value k body a h = record { before = a.before; here = rw (add-one i) (row_first (let_at a.before.loaded a.here h).1) }
+  pub let_value : Loaded s S → Here S grammar.Stmt i → kind_at S i ≡ kinds.let' → Here S grammar.Expr (i + 1)
+  let_value d a h = rw (add-one i) (row_first (let_at d a h).1)
 
   module _ (xs : List Name) where
     pub no_let : kind_at S i ≢ kinds.let' → false ≡ is_wrapping_let s S xs i
@@ -245,7 +246,9 @@ module _ (s S : List ℕ) (i : ℕ) where
     unfolding is_wrapping_let
     let_holds b h q = q ∙ rw (h, add-one i) refl
 
--- each bound statement takes a line
-pub bound_fits : (s S : List ℕ) (k body : ℕ) → Before s S k body → Fits w64 (k + 1)
-bound_fits s S zero body b = record { fits = omega arith }
-bound_fits s S (suc k) body b = record { fits = omega (arith, (row_nth k (omega arith) b.row).within, skip_least (row_take k (omega arith) b.row), b.few) }
+-- ------------------------------------------------------------ the bound statements
+
+-- each takes a line
+pub bound_fits : (S : List ℕ) (k body : ℕ) → Row S grammar.Stmt k body → line_count S ≤ most_lines → Fits w64 (k + 1)
+bound_fits S zero body b f = record { fits = omega arith }
+bound_fits S (suc k) body b f = record { fits = omega (arith, (row_nth k (omega arith) b).within, skip_least (row_take k (omega arith) b)) }

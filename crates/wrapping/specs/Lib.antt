@@ -1,3 +1,3 @@
 pub mod Marks
-pub mod Lines
+pub mod Names
 pub mod Reach

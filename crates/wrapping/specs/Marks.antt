@@ -1,11 +1,10 @@
 -- The names that hold wrapping values, as marks of the `let`s that bind them.
-use Rattle.std.specs.Prelude.{ℕ, zero, suc, ◌+◌, List, [], ◌∷◌, Bool, false, cond, ◌&&◌, ◌||◌, eqb, get_or, set}
+use Rattle.std.specs.Prelude.{ℕ, zero, suc, List, [], ◌∷◌, Bool, false, cond, ◌&&◌, ◌||◌, eqb, get_or}
 use Rattle.sheet.specs.Scratch.{kind_at, end_at, name_at, skip}
 use Rattle.rules.specs.Text.{Name, among}
 use Rattle.rules.specs.Assets.{wraps}
 use Rattle.rules.specs.Standing.{expr_at}
 use Rattle.grammar.specs.Kinds as kinds
-use Rattle.wrapping.specs.declared.marks.Wrapped.{Wrapped}
 
 -- the names of the marked lines among k statements, the first at line body; the last one first
 unfoldable pub wrapped_names : (s S : List ℕ) → (M : List Bool) → (k body : ℕ) → List Name
@@ -13,16 +12,9 @@ wrapped_names s S M zero body = []
 wrapped_names s S M (suc k) body =
     cond (get_or M (skip S k body) false) (name_at s S (skip S k body) ∷ wrapped_names s S M k body) (wrapped_names s S M k body)
 
-abbrev pub names_in : Wrapped → List Name
-names_in w = wrapped_names w.sheet.bytes.now w.sheet.lines.now w.marks w.bound w.body
-
 -- line i is a `let` of a value that wraps
 unfoldable pub is_wrapping_let : (s S : List ℕ) → List Name → ℕ → Bool
 is_wrapping_let s S xs i = eqb (kind_at S i) kinds.let' && wraps xs (expr_at s (suc i))
-
--- w behind the statement at line i
-unfoldable pub bound_after : Wrapped → ℕ → Wrapped
-bound_after w i = record { sheet = w.sheet; body = w.body; bound = w.bound + 1; marks = set w.marks i (is_wrapping_let w.sheet.bytes.now w.sheet.lines.now (names_in w) i) }
 
 -- line i by itself makes its value wrap: it is `wrapping`, or one of the names
 unfoldable pub wraps_here : (s S : List ℕ) → List Name → ℕ → Bool

@@ -1,8 +1,7 @@
 -- The rules' slots over lines.
-use Rattle.std.specs.Prelude.{ℕ, suc, ◌<◌, Bool, ◌&&◌, ◌≡◌, eqb, ltb, Result}
+use Rattle.std.specs.Prelude.{ℕ, suc, Bool, ◌&&◌, eqb, ltb, Result}
 use mathlib.Core.List.{List, zip}
-use Rattle.grammar.specs.Grammar as grammar
-use Rattle.sheet.specs.Scratch.{kind_at, name_at, line_count, call_arg_count}
+use Rattle.sheet.specs.Scratch.{kind_at, name_at, call_arg_count}
 use Rattle.rules.specs.Text.{Name, is}
 use Rattle.rules.specs.Ast.{Expr, Param, type_name}
 use Rattle.rules.specs.Asking.{Rule, for_each}
@@ -12,8 +11,7 @@ use Rattle.rules.specs.Standing.{model_in, stmt_at}
 use Rattle.refusals.specs.Answers.{Answers}
 use Rattle.refusals.specs.Refusal.{done_of}
 use Rattle.refusals.specs.declared.refusal.Refusal.{Refusal}
-use Rattle.wrapping.specs.Lines.{After}
-use Rattle.wrapping.specs.Marks.{names_in}
+use Rattle.wrapping.specs.Names.{names_in}
 use Rattle.wrapping.specs.declared.marks.Wrapped.{Wrapped}
 use Rattle.grammar.specs.Kinds as kinds
 
@@ -26,16 +24,6 @@ sets_at s S i =
 -- arguments side by side with the parameters of the event x
 unfoldable pub reaches_each : (wrapped : List Name) → Name → List Expr → List Param → Rule Unit
 reaches_each wrapped x es ps = for_each (zip es ps) λ p. reaches wrapped (narrow_max (type_name p.1.ty)) p.0 (event_slot x)
-
--- behind k statements line i is an `emit`, and line event an event
-pub record Emits (s S : List ℕ) (k body i event : ℕ) : Type 0 where
-  pub stmt : After grammar.Stmt s S k body i
-  pub emits : kind_at S i ≡ kinds.emit
-  pub within : event < line_count S
-  pub declares : kind_at S event ≡ kinds.event
-
-abbrev pub EmitsIn : Wrapped → (i event : ℕ) → Type 0
-EmitsIn w = Emits w.sheet.bytes.now w.sheet.lines.now w.bound w.body
 
 -- r is the rule's answer to the statement at line i, behind the bound ones of w
 abbrev pub JudgesStmt : Wrapped → ℕ → Result Unit Refusal → Type 0

@@ -1,9 +1,13 @@
 // The statements of an entry, one behind another.
+ghost use Rattle.std.specs.Prelude.{◌≤◌};
+ghost use Rattle.grammar.specs.Kinds as kinds;
+ghost use Rattle.sheet.specs.Line.{most_lines};
+ghost use Rattle.sheet.specs.Scratch.{line_count};
 ghost use Rattle.rules.specs.Assets.{narrow_wrapping};
 ghost use Rattle.rules.specs.Standing.{entry_at, model_in};
 ghost use Rattle.refusals.specs.Answers.{Answers};
 ghost use Rattle.refusals.specs.Refusal.{done_of};
-ghost use Rattle.wrapping.specs.Lines.{FewEntry};
+ghost use Rattle.lookups.specs.Lines.{KindAt};
 
 use crate::marks::Wrapped;
 use crate::reach::narrow_stmt;
@@ -13,7 +17,8 @@ use sheet::{LoadedSheet, body_count, limits};
 
 // The entry at line i: no wrapping value reaches a narrow slot.
 pub fn narrow_wrapping(sheet: &LoadedSheet<'_>, i: usize) -> Result<(), Refusal>
-    requires { FewEntry sheet.now.bytes.now sheet.now.lines.now i }
+    requires few_lines { line_count sheet.now.lines.now ≤ most_lines }
+    requires entry_at { KindAt kinds.entry sheet.now.lines.now i }
     ensures { Answers (narrow_wrapping (model_in sheet.now.bytes.now) (entry_at sheet.now.bytes.now i)) (done_of sheet.now.bytes.now result) }
 {
     let n = body_count(sheet.lines, i);

@@ -4,12 +4,12 @@ ghost use Rattle.grammar.specs.Grammar.{Expr, Stmt};
 ghost use Rattle.sheet.specs.Scratch.{kind_at, name_at, line_count, emit_arg_count, param_count};
 ghost use Rattle.rules.specs.Assets.{narrow_set, narrow_stmt, wraps as wraps_of};
 ghost use Rattle.rules.specs.Ast.{list};
-ghost use Rattle.rules.specs.Standing.{expr_at, exprs_at, model_in, params_at};
+ghost use Rattle.rules.specs.Standing.{expr_at, exprs_at, Here, model_in, params_at};
 ghost use Rattle.refusals.specs.Answers.{Answers};
 ghost use Rattle.refusals.specs.Refusal.{done_of};
-ghost use Rattle.wrapping.specs.Lines.{Behind};
-ghost use Rattle.wrapping.specs.Marks.{names_in};
-ghost use Rattle.wrapping.specs.Reach.{EmitsIn, JudgesStmt, reaches_each, sets_at};
+ghost use Rattle.lookups.specs.Lines.{KindAt};
+ghost use Rattle.wrapping.specs.Names.{names_in};
+ghost use Rattle.wrapping.specs.Reach.{JudgesStmt, reaches_each, sets_at};
 ghost use Rattle.grammar.specs.Kinds as kinds;
 
 use crate::marks::Wrapped;
@@ -22,7 +22,7 @@ use text::is_word;
 
 // Whether the value at line i wraps and its slot is narrow, that is, has a largest number.
 fn reaches(wrapped: &Wrapped<'_>, narrow: Option<u64>, i: usize) -> bool
-    requires { Behind Expr wrapped.now i }
+    requires { Here wrapped.now.sheet.lines.now Expr i }
     ensures { result ≡ (is_some narrow && wraps_of (names_in wrapped.now) (expr_at wrapped.now.sheet.bytes.now i)) }
 {
     if narrow.is_none() {
@@ -33,7 +33,7 @@ fn reaches(wrapped: &Wrapped<'_>, narrow: Option<u64>, i: usize) -> bool
 
 // The assignment at line i.
 fn narrow_assign(wrapped: &Wrapped<'_>, i: usize) -> Result<(), Refusal>
-    requires after { Behind Stmt wrapped.now i }
+    requires stmt_at { Here wrapped.now.sheet.lines.now Stmt i }
     requires is_assign { kind_at wrapped.now.sheet.lines.now i ≡ kinds.assign }
     ensures { JudgesStmt wrapped.now i result }
 {
@@ -68,8 +68,8 @@ fn sets(sheet: &LoadedSheet<'_>, i: usize) -> bool
 
 // The call or other expression at line i, which is a statement.
 fn narrow_set(wrapped: &Wrapped<'_>, i: usize) -> Result<(), Refusal>
-    requires { Behind Expr wrapped.now i }
-    ensures { Answers (narrow_set (model_in wrapped.now.sheet.bytes.now) (names_in wrapped.now) (expr_at wrapped.now.sheet.bytes.now i)) (done_of wrapped.now.sheet.bytes.now result) }
+    requires { Here wrapped.now.sheet.lines.now Expr i }
+    ensures { let s = wrapped.now.sheet.bytes.now in Answers (narrow_set (model_in s) (names_in wrapped.now) (expr_at s i)) (done_of s result) }
 {
     let sheet = &wrapped.sheet;
     if !sets(sheet, i) {
@@ -88,8 +88,10 @@ fn narrow_set(wrapped: &Wrapped<'_>, i: usize) -> Result<(), Refusal>
 
 // The arguments of the `emit` at line i, side by side with the parameters of the event at line event.
 fn narrow_args(wrapped: &Wrapped<'_>, i: usize, event: usize) -> Result<(), Refusal>
-    requires { EmitsIn wrapped.now i event }
-    ensures { Answers (reaches_each (names_in wrapped.now) (name_at wrapped.now.sheet.bytes.now wrapped.now.sheet.lines.now i) (list (exprs_at wrapped.now.sheet.bytes.now (emit_arg_count wrapped.now.sheet.lines.now i) (suc i))) (params_at wrapped.now.sheet.bytes.now (param_count wrapped.now.sheet.lines.now event) (suc event))) (done_of wrapped.now.sheet.bytes.now result) }
+    requires stmt_at { Here wrapped.now.sheet.lines.now Stmt i }
+    requires is_emit { kind_at wrapped.now.sheet.lines.now i ≡ kinds.emit }
+    requires event_at { KindAt kinds.event wrapped.now.sheet.lines.now event }
+    ensures { let s = wrapped.now.sheet.bytes.now in Answers (reaches_each (names_in wrapped.now) (name_at s wrapped.now.sheet.lines.now i) (list (exprs_at s (emit_arg_count wrapped.now.sheet.lines.now i) (suc i))) (params_at s (param_count wrapped.now.sheet.lines.now event) (suc event))) (done_of s result) }
 {
     let sheet = &wrapped.sheet;
     let args = sheet.records(i + 1, emit_arg_count(sheet.lines, i));
@@ -108,7 +110,7 @@ fn narrow_args(wrapped: &Wrapped<'_>, i: usize, event: usize) -> Result<(), Refu
 
 // The `emit` at line i.
 fn narrow_emit(wrapped: &Wrapped<'_>, i: usize) -> Result<(), Refusal>
-    requires after { Behind Stmt wrapped.now i }
+    requires stmt_at { Here wrapped.now.sheet.lines.now Stmt i }
     requires is_emit { kind_at wrapped.now.sheet.lines.now i ≡ kinds.emit }
     ensures { JudgesStmt wrapped.now i result }
 {
@@ -120,7 +122,7 @@ fn narrow_emit(wrapped: &Wrapped<'_>, i: usize) -> Result<(), Refusal>
 
 // The statement at line i, behind the bound ones.
 pub fn narrow_stmt(wrapped: &Wrapped<'_>, i: usize) -> Result<(), Refusal>
-    requires { Behind Stmt wrapped.now i }
+    requires { Here wrapped.now.sheet.lines.now Stmt i }
     ensures { JudgesStmt wrapped.now i result }
 {
     let sheet = &wrapped.sheet;

@@ -22,7 +22,7 @@ use Rattle.rules.specs.Standing.{trees_from, type_at, arg_at, Loaded}
 use Rattle.rules.proofs.Places.{there_or_not}
 use Rattle.rules.proofs.Standing.{stands, none_beyond, beyond}
 use Rattle.lookups.proofs.Types.{arg_told}
-use Rattle.writing.specs.Types.{upto, args_upto, LinesUpto, before, closing}
+use Rattle.writing.specs.Types.{upto, args_upto, before, closing}
 use Rattle.writing.specs.Writing.{Adds}
 use Rattle.writing.specs.declared.write.Message.{Message}
 use Rattle.writing.proofs.Adding.{both, adds_none}
@@ -89,8 +89,8 @@ module _ (s S : List ℕ) (i : ℕ) (d : Loaded s S) where
     pub type_falls : (t : ℕ) → rank (line_count S) i 0 ≡ t → rank (line_count S) (i + 1) 2 < t
     type_falls t e = omega (arith, w)
 
-    pub type_args_lem : (j : ℕ) → j ≡ end_at S i → LinesUpto s S j
-    type_args_lem j e = record { loaded = d; within = rw e (stands d i w).ends }
+    pub type_args_lem : (j : ℕ) → j ≡ end_at S i → j ≤ line_count S
+    type_args_lem j e = rw e (stands d i w).ends
 
     pub type_all : (x : List ℕ) (M N : Message) (j : ℕ) (O : Message) → length M.buffer.now < 18446744073709551616 → x ≡ name_at s S i → Adds x M N → j ≡ end_at S i
         → Adds (render (args_text true (args_upto s (i + 1) j))) N O → Adds (render (type_text (type_at s i))) M O
@@ -132,10 +132,10 @@ unfolding args_text render before
 more_said true p ps = rw (render-append (arg_text p) (args_text false ps)) (sym (append_assoc (bytes "<") (render (arg_text p)) (render (args_text false ps))))
 more_said false p ps = rw (render-append (arg_text p) (args_text false ps)) (sym (append_assoc (bytes ", ") (render (arg_text p)) (render (args_text false ps))))
 
-module _ (s S : List ℕ) (i j : ℕ) (o : Bool) (h : LinesUpto s S j) where
+module _ (s S : List ℕ) (i j : ℕ) (o : Bool) (d : Loaded s S) (h : j ≤ line_count S) where
   pub args_none : (M N : Message) → j ≤ i → Adds (closing o) M N → Adds (render (args_text o (args_upto s i j))) M N
   unfolding args_upto args_of
-  args_none M N e x = rw (upto_none h.loaded i j e, none_said o) x
+  args_none M N e x = rw (upto_none d i j e, none_said o) x
 
   module _ (e : i < j) where
     pub args_arg_falls : (t : ℕ) → rank (line_count S) i 2 ≡ t → rank (line_count S) i 1 < t
@@ -143,12 +143,12 @@ module _ (s S : List ℕ) (i j : ℕ) (o : Bool) (h : LinesUpto s S j) where
 
     module _ (n : ℕ) (f : n ≡ end_at S i) where
       pub args_falls : (t : ℕ) → rank (line_count S) i 2 ≡ t → rank (line_count S) n 2 < t
-      args_falls t q = omega (arith, h.within, all_le (stands h.loaded i (omega (arith, h.within))).held)
+      args_falls t q = omega (arith, all_le (stands d i (omega arith)).held)
 
       pub args_all : (M N O P : Message) → length M.buffer.now < 18446744073709551616 → Adds (bytes (before o)) M N
           → Adds (render (arg_text (arg_at s i))) N O → Adds (render (args_text false (args_upto s n j))) O P
           → Adds (render (args_text o (args_upto s i j))) M P
       unfolding before
       args_all M N O P l p q r =
-          let next : args_upto s i j ≡ amore (arg_at s i) (args_upto s n j) = rw f (args_next h.loaded i j (omega (arith, h.within)) e) in
+          let next : args_upto s i j ≡ amore (arg_at s i) (args_upto s n j) = rw f (args_next d i j (omega arith) e) in
           rw (next, more_said o (arg_at s i) (args_upto s n j)) (both _ _ M O P l (both _ _ M N O l p q) r)

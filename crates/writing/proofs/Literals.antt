@@ -3,7 +3,6 @@ use mathlib.Core.Path.{◌≡◌, refl, sym, ap, ◌∙◌, subst}
 use mathlib.Core.Logic.{◌≢◌}
 use mathlib.Core.List.{List, [], ◌∷◌, ◌++◌, append_assoc, append-nil}
 use mathlib.Core.Bool.{Bool, true, false, not, cond, ◌&&◌, ◌||◌, true≢false, and-eq-true_iff}
-use mathlib.Core.Option.{Option, none, some}
 use Prim.Native.Nat.{ℕ, suc, ◌+◌, ◌-◌, ◌*◌, ◌/◌, ◌%◌, ◌^◌, ◌≤◌, ◌<◌}
 use native.Mathlib.Numerals.{add-one}
 use native.Mathlib.Omega.{arith}
@@ -11,7 +10,7 @@ use lib.Dec.{eqb, leb, ltb}
 use lib.ListN.{length, take, drop, get_or, length-drop, drop_of_length-le}
 use lib.Seq.{drop-cons, take-suc, take_all}
 use borrow.Author.Tests.{ne_eqb, eqb-true, leb-true, leb-false, ltb-false}
-use Rattle.std.specs.Prelude.{Some, None, position}
+use Rattle.std.specs.Prelude.{Some, None, position, Option}
 use Rattle.std.specs.Option.{unwrap_or}
 use Rattle.std.specs.List.{position_or_len}
 use Rattle.std.proofs.lemmas.List.Sums.{prefix_len-le-length}
@@ -211,7 +210,7 @@ module _ (t : List ℕ) (M N : Message) (i : ℕ) (x : Adds (no_underscores (tak
 
 -- ------------------------------------------------------------ `add_literal`
 
-parsed : (most : ℕ) (x : List ℕ) (n : ℕ) → parse most x ≡ some n → (n ≡ value_from 0 x) × (n ≤ most)
+parsed : (most : ℕ) (x : List ℕ) (n : ℕ) → parse most x ≡ Some n → (n ≡ value_from 0 x) × (n ≤ most)
 unfolding parse
 parsed most [] n e = absurd (let z : ◌≡◌ {A = ℕ} 0 1 = cc in omega arith)
 parsed most (b ∷ bs) n e = by_cases (leb v most) refl e
@@ -219,7 +218,7 @@ parsed most (b ∷ bs) n e = by_cases (leb v most) refl e
     v : ℕ
     v = value_from 0 (b ∷ bs)
 
-    by_cases : (t : Bool) → leb v most ≡ t → elim t as (λ _. Option ℕ) [ true ↦ some v | false ↦ none ] ≡ some n → (n ≡ v) × (n ≤ most)
+    by_cases : (t : Bool) → leb v most ≡ t → elim t as (λ _. Option ℕ) [ true ↦ Some v | false ↦ None ] ≡ Some n → (n ≡ v) × (n ≤ most)
     by_cases true q e = let f : v ≡ n = cc in (sym f, omega (arith, f, leb-true v most q))
     by_cases false q e = absurd (let z : ◌≡◌ {A = ℕ} 0 1 = cc in omega arith)
 
@@ -236,7 +235,7 @@ below : (n a b : ℕ) → n ≤ a → a < b → n < b
 below n a b h l = omega arith
 
 -- the digits of a literal that start with this byte
-literal_said : (t : List ℕ) (c : ℕ) (cs : List ℕ) (n : ℕ) → counting t ≡ c ∷ cs → all (plain false) t ≡ true → parse_u128 t ≡ some n → digits 39 n ≡ no_underscores (c ∷ cs)
+literal_said : (t : List ℕ) (c : ℕ) (cs : List ℕ) (n : ℕ) → counting t ≡ c ∷ cs → all (plain false) t ≡ true → parse_u128 t ≡ Some n → digits 39 n ≡ no_underscores (c ∷ cs)
 unfolding parse_u128
 literal_said t c cs n e p q =
     let k = counts t in

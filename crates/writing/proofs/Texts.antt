@@ -2,14 +2,13 @@
 use mathlib.Core.Path.{◌≡◌, refl, sym, ◌∙◌, subst}
 use mathlib.Core.List.{List, [], ◌∷◌}
 use mathlib.Core.Bool.{Bool, true, false, ◌&&◌, and-eq-true_iff}
-use mathlib.Core.Option.{Option, none as nothing, some}
 use Prim.Native.Nat.{ℕ, zero, suc, ◌+◌, ◌<◌, ◌≤◌}
 use native.Mathlib.Omega.{arith}
 use lib.Dec.{leb}
 use lib.ListN.{length}
 use borrow.Author.Tests.{leb-true}
 use Rattle.text.specs.Text.{all}
-use Rattle.std.specs.Prelude.{Some, None}
+use Rattle.std.specs.Prelude.{Some, None, Option}
 use Rattle.text.specs.Field.{Number, plain, is_plain, is_name, is_text}
 use Rattle.grammar.specs.Grammar.{Sort, Rule, span, name, text, assign_op, un_op, bin_op, count, flag, record_of, kind_for}
 use Rattle.sheet.specs.Line.{Line, with_name, begun, when, on_number, read_field, read_fields, and_then, good, read_pieces, read_line, fields_of}
@@ -42,12 +41,12 @@ name-plain : (f : List ℕ) → is_name f ≡ true → is_plain true f ≡ true
 unfolding is_name
 name-plain f e = ((and-eq-true_iff (is_plain true f) _).0 e).0
 
-when_some : (b : Bool) (l m : Line) → when b l ≡ some m → (b ≡ true) × (m ≡ l)
+when_some : (b : Bool) (l m : Line) → when b l ≡ Some m → (b ≡ true) × (m ≡ l)
 unfolding when
 when_some true l m e = (refl, let q : l ≡ m = cc in sym q)
 when_some false l m e = absurd (let z : ◌≡◌ {A = ℕ} 0 1 = cc in omega arith)
 
-number_some : (v : Number) (f : ℕ → Line) (m : Line) → on_number v f ≡ some m → (n : ℕ) × (m ≡ f n)
+number_some : (v : Number) (f : ℕ → Line) (m : Line) → on_number v f ≡ Some m → (n : ℕ) × (m ≡ f n)
 unfolding on_number
 number_some (Some v) f m e = (v, let q : f v ≡ m = cc in sym q)
 number_some None f m e = absurd (let z : ◌≡◌ {A = ℕ} 0 1 = cc in omega arith)
@@ -56,7 +55,7 @@ number_some None f m e = absurd (let z : ◌≡◌ {A = ℕ} 0 1 = cc in omega a
 abbrev Begun : ℕ → Line → Type 0
 Begun k l = (l.kind ≡ k) × (length l.name ≤ 64)
 
-field-begun : (k : ℕ) (r : Rule) (a : ℕ) (f : List ℕ) (l m : Line) → read_field r a f l ≡ some m → Begun k l → Begun k m
+field-begun : (k : ℕ) (r : Rule) (a : ℕ) (f : List ℕ) (l m : Line) → read_field r a f l ≡ Some m → Begun k l → Begun k m
 unfolding read_field
 field-begun k span a f l m e h = rw (number_some _ _ m e).1 h
 field-begun k name a f l m e h = let w = when_some _ _ m e in rw w.1 (h.0, (plain_parts true f (name-plain f w.0)).0)
@@ -67,19 +66,19 @@ field-begun k assign_op a f l m e h = rw (when_some _ _ m e).1 h
 field-begun k un_op a f l m e h = rw (when_some _ _ m e).1 h
 field-begun k bin_op a f l m e h = rw (when_some _ _ m e).1 h
 
-then_some : (o : Option Line) (g : Line → Option Line) (m : Line) → and_then o g ≡ some m → (l : Line) × (o ≡ some l) × (g l ≡ some m)
+then_some : (o : Option Line) (g : Line → Option Line) (m : Line) → and_then o g ≡ Some m → (l : Line) × (o ≡ Some l) × (g l ≡ Some m)
 unfolding and_then
-then_some (some l) g m e = (l, refl, e)
-then_some nothing g m e = absurd (let z : ◌≡◌ {A = ℕ} 0 1 = cc in omega arith)
+then_some (Some l) g m e = (l, refl, e)
+then_some None g m e = absurd (let z : ◌≡◌ {A = ℕ} 0 1 = cc in omega arith)
 
-fields-begun : (k : ℕ) (rs : List Rule) (a : ℕ) (fs : List (List ℕ)) (l m : Line) → read_fields rs a fs l ≡ some m → Begun k l → Begun k m
+fields-begun : (k : ℕ) (rs : List Rule) (a : ℕ) (fs : List (List ℕ)) (l m : Line) → read_fields rs a fs l ≡ Some m → Begun k l → Begun k m
 unfolding read_fields
 fields-begun k [] a fs l m e h = let q : l ≡ m = cc in rw (← q) h
 fields-begun k (r ∷ rs) a [] l m e h = absurd (let z : ◌≡◌ {A = ℕ} 0 1 = cc in omega arith)
 fields-begun k (r ∷ rs) a (f ∷ fs) l m e h =
     let t = then_some _ _ m e in fields-begun k rs _ fs t.0 m t.2 (field-begun k r a f l t.0 t.1 h)
 
-last_text : (a : ℕ) (fs : List (List ℕ)) (l m : Line) → read_fields (text ∷ []) a fs l ≡ some m → is_text m.name ≡ true
+last_text : (a : ℕ) (fs : List (List ℕ)) (l m : Line) → read_fields (text ∷ []) a fs l ≡ Some m → is_text m.name ≡ true
 unfolding read_fields read_field
 last_text a [] l m e = absurd (let z : ◌≡◌ {A = ℕ} 0 1 = cc in omega arith)
 last_text a (f ∷ fs) l m e =
@@ -88,7 +87,7 @@ last_text a (f ∷ fs) l m e =
     let q : t.0 ≡ m = cc in
     rw (← q, w.1) w.0
 
-literal_text_lem : (a : ℕ) (fs : List (List ℕ)) (l m : Line) → read_fields (span ∷ text ∷ []) a fs l ≡ some m → is_text m.name ≡ true
+literal_text_lem : (a : ℕ) (fs : List (List ℕ)) (l m : Line) → read_fields (span ∷ text ∷ []) a fs l ≡ Some m → is_text m.name ≡ true
 unfolding read_fields
 literal_text_lem a [] l m e = absurd (let z : ◌≡◌ {A = ℕ} 0 1 = cc in omega arith)
 literal_text_lem a (f ∷ fs) l m e = let t = then_some _ _ m e in last_text _ fs t.0 m t.2
@@ -101,8 +100,8 @@ pieces_named σ at (w ∷ fs) l e =
     let a = at + length w + 1 in
     let r = (read_as_lem k at (length w) fs l e).1 in
     let b = fields-begun k (record_of k).rules a fs (begun k at) l r (refl, omega arith) in
-    let by_kind : l.kind ≡ kinds.int → read_fields (span ∷ text ∷ []) a fs (begun k at) ≡ some l =
-    λ q. subst (λ j. read_fields (record_of j).rules a fs (begun k at) ≡ some l) (sym b.0 ∙ q) r in
+    let by_kind : l.kind ≡ kinds.int → read_fields (span ∷ text ∷ []) a fs (begun k at) ≡ Some l =
+    λ q. subst (λ j. read_fields (record_of j).rules a fs (begun k at) ≡ Some l) (sym b.0 ∙ q) r in
     record { short = b.1; literal = λ q. (plain_parts false l.name (literal_text_lem a fs (begun k at) l (by_kind q))).1 }
 
 pub lines_named : (ls : List (List ℕ)) (i j at : ℕ) (ds : List (ℕ × Sort)) (xs : List Line) → scan i at ds ls ≡ lines xs → Each (λ k. Named) j xs

@@ -1,6 +1,5 @@
 -- A literal's number in a message.
-use Rattle.std.specs.Prelude.{ℕ, List, [], ◌∷◌, true, false, ◌≡◌}
-use Rattle.std.proofs.Math.Option.{some}
+use Rattle.std.specs.Prelude.{ℕ, List, [], ◌∷◌, true, false, ◌≡◌, Some}
 use Rattle.text.specs.Text.{all}
 use Rattle.text.specs.Field.{plain}
 use Rattle.rules.specs.Text.{digits}
@@ -21,4 +20,4 @@ shown (b ∷ bs) = no_underscores (b ∷ bs)
 -- What a function does that adds a literal's text: its shown digits, which are those of its number where it has digits and underscores only and is a u128.
 pub record AddsLiteral (text : List ℕ) (M N : Message) : Type 0 where
   pub always : Adds (shown (counting text)) M N
-  pub number : (n : ℕ) → all (plain false) text ≡ true → parse_u128 text ≡ some n → Adds (digits 39 n) M N
+  pub number : (n : ℕ) → all (plain false) text ≡ true → parse_u128 text ≡ Some n → Adds (digits 39 n) M N

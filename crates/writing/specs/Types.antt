@@ -1,11 +1,11 @@
 -- The arguments of a type over loaded lines, what stands between them, and the line of a type that is declared.
-use Rattle.std.specs.Prelude.{ℕ, suc, ◌≤◌, List, [], Bool, true, false, cond, ltb}
+use Rattle.std.specs.Prelude.{ℕ, suc, List, [], Bool, true, false, cond, ltb}
 use Prim.Native.String.{String}
 use Rattle.sheet.specs.Scratch.{end_at, line_count}
 use Rattle.sheet.specs.Tree.{node, Nodes, nil, more}
 use Rattle.text.specs.Text.{bytes}
 use Rattle.rules.specs.Ast.{Args, args_of}
-use Rattle.rules.specs.Standing.{trees_from, Loaded}
+use Rattle.rules.specs.Standing.{trees_from}
 
 -- the first trees, up to one that stands at line j or behind it
 unfoldable pub upto : ℕ → Nodes → Nodes
@@ -15,11 +15,6 @@ upto j (more (node i l ps) ns) = cond (ltb i j) (more (node i l ps) (upto j ns))
 -- the arguments from line i on, up to line j
 unfoldable pub args_upto : List ℕ → ℕ → ℕ → Args
 args_upto s i j = args_of (upto j (trees_from s i))
-
--- the lines of a loaded sheet go up to line j, or further
-pub record LinesUpto (s S : List ℕ) (j : ℕ) : Type 0 where
-  pub loaded : Loaded s S
-  pub within : j ≤ line_count S
 
 -- what stands before the first argument, and before another
 unfoldable pub before : (first : Bool) → String

@@ -1,12 +1,13 @@
 // The text of a declared type. Of the functions that call each other the lines left and a phase fall.
-ghost use Rattle.std.specs.Prelude.{◌≡◌};
+ghost use Rattle.std.specs.Prelude.{◌≡◌, ◌≤◌};
 ghost use Rattle.text.specs.Text.{bytes};
+ghost use Rattle.sheet.specs.Scratch.{line_count};
 ghost use Rattle.rules.specs.Text.{render};
 ghost use Rattle.rules.specs.Ast.{type_name};
 ghost use Rattle.rules.specs.Declarations.{arg_text, args_text, type_text};
 ghost use Rattle.rules.specs.Standing.{arg_at, field_at, type_at};
 ghost use Rattle.writing.specs.Writing.{Adds};
-ghost use Rattle.writing.specs.Types.{args_upto, before, closing, LinesUpto, type_line};
+ghost use Rattle.writing.specs.Types.{args_upto, before, closing, type_line};
 
 use crate::write::Message;
 use grammar::Kind;
@@ -64,7 +65,7 @@ impl Message<'_> {
     // Adds the arguments from line i on, up to line stop, and what ends them.
     #[cycle(type_text)]
     fn add_args(&mut self, sheet: &LoadedSheet<'_>, i: usize, stop: usize, first: bool)
-        requires { LinesUpto sheet.now.bytes.now sheet.now.lines.now stop }
+        requires { stop ≤ line_count sheet.now.lines.now }
         ensures { Adds (render (args_text first (args_upto sheet.now.bytes.now i stop))) self.old self.new }
     {
         if stop <= i {

@@ -1,5 +1,5 @@
 use borrow.Author.Rules.{rules}
-use Rattle.verdict.proofs.Outcomes.{cells_within, cells_length, cells_fit, table_within, table_length, exact, place_fits, outcome_lines, outcome-refused}
+use Rattle.verdict.proofs.Outcomes.{cells_within, cells_length, cells_fit, table_within, table_length, loaded_lines, exact, place_fits, outcome_lines, outcome-refused}
 use Rattle.verdict.proofs.verdict.Goals as goal
 
 pub overflow_mul-n : goal.overflow_mul-n
@@ -18,7 +18,7 @@ pub slice_bounds-judge_lines-end-in-Ok-3 : goal.slice_bounds-judge_lines-end-in-
 slice_bounds-judge_lines-end-in-Ok-3 c = search (rules, table_length)
 
 pub judge_lines-requires : goal.judge_lines-requires
-judge_lines-requires c = search (rules, exact)
+judge_lines-requires c = record { loaded = search (rules, loaded_lines); exact = search (rules, exact) }
 
 pub overflow_cast-result : goal.overflow_cast-result
 overflow_cast-result c = search (rules, place_fits)

@@ -4,7 +4,7 @@ use Rattle.arithmetic.proofs.Judging.{sums_start}
 use Rattle.arithmetic.proofs.check.check_arithmetic.Goals as goal
 
 pub loop-at-init : goal.loop-at-init
-loop-at-init c = sums_start _ _ _ _ c.requires (cc) (cc) (cc)
+loop-at-init c = sums_start _ _ _ _ (search turns) c.requires (cc) (cc) (cc)
 
 pub check_sum-requires : goal.check_sum-requires
 check_sum-requires c = record { entry_at = search turns; stmt_at = search (turns, c.in-Some.ensures.steps) }

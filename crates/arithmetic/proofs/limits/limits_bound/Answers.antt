@@ -1,9 +1,11 @@
+use borrow.Author.Rules.{rules}
 use Rattle.lookups.proofs.Rows.{seeks}
+use Rattle.rules.proofs.Standing.{loaded_sheet}
 use Rattle.arithmetic.proofs.Rows.{limits_start}
 use Rattle.arithmetic.proofs.limits.limits_bound.Goals as goal
 
 pub loop-at-init : goal.loop-at-init
-loop-at-init c = limits_start _ _ _ _ _ c.requires (cc) (cc) (cc)
+loop-at-init c = limits_start _ _ _ _ _ (search (loaded_sheet, rules)) c.requires (cc) (cc) (cc)
 
 pub limits_cap-requires : goal.limits_cap-requires
 limits_cap-requires c = search (seeks, c.in-Some.ensures.steps)

@@ -1,13 +1,14 @@
 use borrow.Author.Rules.{rules}
-use Rattle.rules.proofs.Walks.{walk_less}
-use Rattle.arithmetic.proofs.Walks.{walk_here, mention_start, mention_past, mention_found, mention_onward, mention_over}
+use Rattle.rules.proofs.Walks.{walk_less, walk_line}
+use Rattle.rules.proofs.Standing.{loaded_sheet}
+use Rattle.arithmetic.proofs.Walks.{mention_start, mention_past, mention_found, mention_onward, mention_over}
 use Rattle.arithmetic.proofs.limits.mentions.Goals as goal
 
 pub loop-at-init : goal.loop-at-init
-loop-at-init c = search (rules, mention_start)
+loop-at-init c = search (loaded_sheet, rules, mention_start)
 
 pub acknowledged-requires : goal.acknowledged-requires
-acknowledged-requires c = search (rules, walk_here)
+acknowledged-requires c = search (rules, walk_line)
 
 pub loop-at-smaller-then-acknowledged : goal.loop-at-smaller-then-acknowledged
 loop-at-smaller-then-acknowledged c = search (rules, walk_less)

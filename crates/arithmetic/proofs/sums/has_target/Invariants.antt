@@ -1,7 +1,7 @@
 use Prim.Native.Nat.{◌-◌}
+use Rattle.std.specs.Prelude.{is_some}
 use Rattle.rules.specs.Arithmetic.{sum_terms, without}
 use Rattle.rules.specs.Standing.{expr_at}
-use Rattle.rules.specs.Typing.{is_some}
 use Rattle.arithmetic.proofs.Terms.{Targeted}
 use Rattle.arithmetic.proofs.sums.has_target.Given as goal
 

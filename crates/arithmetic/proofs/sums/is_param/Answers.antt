@@ -1,13 +1,14 @@
 use borrow.Author.Rules.{rules}
-use Rattle.arithmetic.proofs.Rows.{entry_next}
+use Rattle.rules.proofs.Standing.{loaded_sheet}
+use Rattle.arithmetic.proofs.Ops.{fits_next}
 use Rattle.arithmetic.proofs.Bounds.{params_stretch, a_param}
 use Rattle.arithmetic.proofs.sums.is_param.Goals as goal
 
 pub overflow_add-entry : goal.overflow_add-entry
-overflow_add-entry c = search (rules, entry_next)
+overflow_add-entry c = search (rules, fits_next)
 
 pub last_named-requires : goal.last_named-requires
-last_named-requires c = search (rules, params_stretch)
+last_named-requires c = search (loaded_sheet, rules, params_stretch)
 
 pub returns : goal.returns
-returns c = search (rules, a_param)
+returns c = search (loaded_sheet, rules, a_param)

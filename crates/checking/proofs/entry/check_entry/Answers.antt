@@ -1,10 +1,13 @@
 use borrow.Author.Rules.{rules}
 use Rattle.refusals.proofs.Answers.{handed_on}
-use Rattle.checking.proofs.Entries.{entry_few, entry_lines, entry_ok, entry_types_no, entry_no}
+use Rattle.checking.proofs.Entries.{entry_few, entry_lines, entry_kind, entry_ok, entry_types_no, entry_no}
 use Rattle.checking.proofs.entry.check_entry.Goals as goal
 
 pub narrow_wrapping-requires : goal.narrow_wrapping-requires
 narrow_wrapping-requires c = search (rules, entry_few)
+
+pub entry_types-requires : goal.entry_types-requires
+entry_types-requires c = search (rules, entry_kind)
 
 pub entry_uses-requires : goal.entry_uses-requires
 entry_uses-requires c = search (rules, entry_lines)

@@ -1,9 +1,10 @@
 use borrow.Author.Rules.{rules}
 use Rattle.checking.proofs.Entries.{clause_in, clauses_do}
+use Rattle.rules.proofs.Standing.{loaded_sheet}
 use Rattle.checking.proofs.entry.entry_clauses.Goals as goal
 
 pub check_records-requires : goal.check_records-requires
-check_records-requires c = search (rules, clause_in)
+check_records-requires c = search (loaded_sheet, rules, clause_in)
 
 pub returns : goal.returns
-returns c = clauses_do _ _ _ _ c.requires _ c.param_count.ensures _ c.with_params-env.ensures _ _ c.clauses_line.ensures c.clause_count.ensures _ _ c.check_records.ensures (search rules)
+returns c = clauses_do _ _ _ _ (loaded_sheet c.args.scope.now.sheet.loaded) c.requires.entry _ c.requires.is _ _ c.clauses_line.ensures c.clause_count.ensures _ _ c.check_records.ensures (search (loaded_sheet, rules))

@@ -1,6 +1,7 @@
 use borrow.Author.Rules.{rules}
 use Rattle.checking.proofs.Passing.{the_events, model_does}
+use Rattle.rules.proofs.Standing.{loaded_sheet}
 use Rattle.checking.proofs.items.check_events.Goals as goal
 
 pub returns : goal.returns
-returns c = model_does the_events _ c.requires.loaded (search rules) c.check_items.ensures
+returns c = model_does the_events _ (search (loaded_sheet, rules)) (search (loaded_sheet, rules)) c.check_items.ensures

@@ -7,7 +7,7 @@ use Rattle.rules.proofs.Standing.{loaded_sheet}
 use Rattle.checking.proofs.items.check_items.Goals as goal
 
 pub loop-at-init : goal.loop-at-init
-loop-at-init g c = search (rules, each_start)
+loop-at-init g c = search (loaded_sheet, rules, each_start)
 
 pub check-requires : goal.check-requires
 check-requires g c = search (loaded_sheet, tested, items_here, c.requires, c.in-Some.ensures.steps)

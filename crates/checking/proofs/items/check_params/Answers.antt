@@ -1,6 +1,7 @@
 use borrow.Author.Rules.{rules}
 use Rattle.checking.proofs.Passing.{the_entries, model_does}
+use Rattle.rules.proofs.Standing.{loaded_sheet}
 use Rattle.checking.proofs.items.check_params.Goals as goal
 
 pub returns : goal.returns
-returns c = model_does the_entries _ c.requires.loaded (search rules) c.check_items.ensures
+returns c = model_does the_entries _ (search (loaded_sheet, rules)) (search (loaded_sheet, rules)) c.check_items.ensures

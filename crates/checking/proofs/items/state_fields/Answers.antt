@@ -1,9 +1,10 @@
 use borrow.Author.Rules.{rules}
 use Rattle.checking.proofs.Passing.{field_in, fields_do}
+use Rattle.rules.proofs.Standing.{loaded_sheet}
 use Rattle.checking.proofs.items.state_fields.Goals as goal
 
 pub check_records-requires : goal.check_records-requires
-check_records-requires c = search (rules, field_in)
+check_records-requires c = search (loaded_sheet, rules, field_in)
 
 pub returns : goal.returns
-returns c = fields_do _ _ _ _ c.requires _ c.field_count.ensures _ c.with_params-env.ensures _ _ c.check_records.ensures (search rules)
+returns c = fields_do _ _ _ _ (loaded_sheet c.args.scope.now.sheet.loaded) c.requires.item _ c.field_count.ensures _ c.requires.is _ _ c.check_records.ensures (search (loaded_sheet, rules))

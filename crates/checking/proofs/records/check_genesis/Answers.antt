@@ -1,10 +1,7 @@
 use borrow.Author.Rules.{rules}
 use Rattle.refusals.proofs.Answers.{handed_on}
-use Rattle.checking.proofs.Recording.{genesis_stmt, genesis_ok, genesis_no}
+use Rattle.checking.proofs.Recording.{genesis_ok, genesis_no}
 use Rattle.checking.proofs.records.check_genesis.Goals as goal
-
-pub asset_calls_consumed-requires : goal.asset_calls_consumed-requires
-asset_calls_consumed-requires c = search (rules, genesis_stmt, c.in_ok-check_stmt_types.was)
 
 pub returns : goal.returns
 returns c = search (rules, genesis_ok, c.in_ok-check_stmt_types.was)

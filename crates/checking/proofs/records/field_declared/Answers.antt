@@ -1,10 +1,13 @@
 use borrow.Author.Rules.{rules}
 use Rattle.refusals.proofs.Answers.{handed_on}
-use Rattle.checking.proofs.Recording.{named_type, declared_ok, declared_no}
+use Rattle.checking.proofs.Recording.{next_type, before_type, declared_ok, declared_no}
 use Rattle.checking.proofs.records.field_declared.Goals as goal
 
 pub storable-requires : goal.storable-requires
-storable-requires c = search (rules, named_type)
+storable-requires c = search (rules, next_type)
+
+pub refuse_word64_as_digest-requires : goal.refuse_word64_as_digest-requires
+refuse_word64_as_digest-requires c = search (rules, before_type)
 
 pub returns : goal.returns
 returns c = search (rules, declared_ok, c.in_ok-storable.was)

@@ -1,6 +1,5 @@
-use borrow.Author.Rules.{rules}
-use Rattle.grammar.proofs.KindLaws.{expr_some}
+use Rattle.grammar.proofs.KindLaws.{looked_expr}
 use Rattle.grammar.proofs.words.expr_kind.Goals as goal
 
 pub returns : goal.returns
-returns c = search (rules, expr_some, c.in_ok-place_of_expr.was)
+returns c = looked_expr _ _ c.kind_in.ensures

@@ -6,7 +6,7 @@ pub returns-then-not-is : goal.returns-then-not-is
 returns-then-not-is c = search (tested, no_entry)
 
 pub check_entry-requires : goal.check_entry-requires
-check_entry-requires c = search (tested, an_entry)
+check_entry-requires c = record { few_lines = search tested; entry_at = search (tested, an_entry) }
 
 pub returns : goal.returns
 returns c = search (tested, entry-judged)

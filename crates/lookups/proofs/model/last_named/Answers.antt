@@ -1,9 +1,10 @@
 use borrow.Author.Rules.{rules}
+use Rattle.rules.proofs.Standing.{loaded_sheet}
 use Rattle.lookups.proofs.Finding.{start, turn_hit, turn_miss, over}
 use Rattle.lookups.proofs.model.last_named.Goals as goal
 
 pub loop-at-init : goal.loop-at-init
-loop-at-init c = start _ _ _ _ _ _ _ c.requires (cc) (cc) (cc)
+loop-at-init c = start _ _ _ _ _ _ _ (search (loaded_sheet, rules)) c.requires (cc) (cc) (cc)
 
 pub loop-at-preserved-then-is_named : goal.loop-at-preserved-then-is_named
 loop-at-preserved-then-is_named c = search (rules, turn_hit, c.in-Some.ensures.steps)

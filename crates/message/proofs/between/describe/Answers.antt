@@ -5,9 +5,9 @@ pub returns-in-Int : goal.returns-in-Int
 unfolding describe
 returns-in-Int c = cc
 
-pub returns-in-Boolean : goal.returns-in-Boolean
+pub returns-in-Bool : goal.returns-in-Bool
 unfolding describe
-returns-in-Boolean c = cc
+returns-in-Bool c = cc
 
 pub returns-in-Address : goal.returns-in-Address
 unfolding describe

@@ -17,7 +17,7 @@ sort_of_group-requires c =
 
 pub returns-then-k-first : goal.returns-then-k-first
 returns-then-k-first c =
-    next_first _ _ _ _ _ _ _ _ c.cell-kind.ensures.value c.cell-first.ensures.value c.cell-second.ensures.value c.cell.ensures.value c.if-k-first.true c.sort_of_group.ensures
+    next_first _ _ _ _ _ _ _ _ c.kind-kind.ensures c.cell-first.ensures.value c.cell-second.ensures.value c.cell.ensures.value c.if-k-first.true c.sort_of_group.ensures
 
 pub overflow_add-first : goal.overflow_add-first
 overflow_add-first c = omega (arith, c.requires.small)
@@ -28,7 +28,7 @@ sort_of_group-requires-then-k-first-2 c =
 
 pub returns-then-k-first-2 : goal.returns-then-k-first-2
 returns-then-k-first-2 c =
-    next_second _ _ _ _ _ _ _ _ c.cell-kind.ensures.value c.cell-first.ensures.value c.cell-second.ensures.value c.cell.ensures.value c.if-k-first.false c.if-k-first-2.true c.sort_of_group-then-k-first-2.ensures
+    next_second _ _ _ _ _ _ _ _ c.kind-kind.ensures c.cell-first.ensures.value c.cell-second.ensures.value c.cell.ensures.value c.if-k-first.false c.if-k-first-2.true c.sort_of_group-then-k-first-2.ensures
 
 pub sort_of_group-requires-2 : goal.sort_of_group-requires-2
 sort_of_group-requires-2 c =
@@ -36,4 +36,4 @@ sort_of_group-requires-2 c =
 
 pub returns : goal.returns
 returns c =
-    next_third _ _ _ _ _ _ _ _ c.cell-kind.ensures.value c.cell-first.ensures.value c.cell-second.ensures.value c.cell.ensures.value c.if-k-first.false c.if-k-first-2.false c.sort_of_group-2.ensures
+    next_third _ _ _ _ _ _ _ _ c.kind-kind.ensures c.cell-first.ensures.value c.cell-second.ensures.value c.cell.ensures.value c.if-k-first.false c.if-k-first-2.false c.sort_of_group-2.ensures

@@ -1,101 +1,40 @@
-use borrow.Author.Rules.{rules}
 use Rattle.refusals.proofs.Answers.{handed_on}
-use Rattle.typing.proofs.Calls.{each_falls, each_rest, laws_each, args_keyed, laws_args, laws_call, laws_keyed}
-use Rattle.typing.proofs.Keys.{amount_falls, amount_asks, laws_amount, keys_below, keys_asked, laws_keyed_call, keys_next, keys_some, keys_falls, keys_rest, laws_keys}
+use Rattle.typing.proofs.Calls.{laws_each, laws_args, laws_call, laws_keyed}
+use Rattle.typing.proofs.Keys.{amount_falls, amount_asks, laws_amount, keys_below, keys_asked, laws_keyed_call, keys_falls, keys_rest, laws_keys}
 use Rattle.typing.proofs.Asking.{laws_again, laws_kind}
 use Rattle.typing.proofs.Operators.{laws_bin, laws_un}
 use Rattle.rules.proofs.Standing.{loaded_sheet}
 use Rattle.typing.proofs.typing.+expression_types.Goals as goal
 
-pub ask_each-returns-then-left-eq0 : goal.ask_each-returns-then-left-eq0
-ask_each-returns-then-left-eq0 t c = search laws_each
-
-pub ask_each-ty_of-requires : goal.ask_each-ty_of-requires
-ask_each-ty_of-requires t c = search laws_each
-
-pub ask_each-end-requires : goal.ask_each-end-requires
-ask_each-end-requires t c = search laws_each
-
-pub ask_each-overflow_sub-left : goal.ask_each-overflow_sub-left
-ask_each-overflow_sub-left t c = search laws_each
-
-pub ask_each-ask_each-requires : goal.ask_each-ask_each-requires
-ask_each-ask_each-requires t c = (search (loaded_sheet, rules, each_falls), each_rest _ _ _ _ _ _ c.requires c.if-left-eq0.false _ _ c.ty_of.ensures _ c.in_ok-ty_of.was _ c.end.ensures)
-
 pub check_amount-ty_of-requires : goal.check_amount-ty_of-requires
-check_amount-ty_of-requires t c = (amount_falls _ _ _ _ _ c.requires _ c.call_arg_count.ensures _ _ c.name.ensures c.moves_amount.ensures c.if-call_arg_count-lt2.false c.if-not-moves_amount.false-raw _ _ c.end.ensures c.end-arg.ensures _ c.decreases, amount_asks _ _ _ _ _ c.requires _ c.call_arg_count.ensures _ _ c.name.ensures c.moves_amount.ensures c.if-call_arg_count-lt2.false c.if-not-moves_amount.false-raw _ _ c.end.ensures c.end-arg.ensures)
+check_amount-ty_of-requires t c = (amount_falls _ _ _ _ _ (loaded_sheet c.args.scope.now.sheet.loaded) c.args.scope.now.in_force c.requires _ c.call_arg_count.ensures _ _ c.name.ensures c.moves_amount.ensures c.if-call_arg_count-lt2.false c.if-not-moves_amount.false-raw _ _ c.end.ensures c.end-arg.ensures _ c.decreases, amount_asks _ _ _ _ _ (loaded_sheet c.args.scope.now.sheet.loaded) c.args.scope.now.in_force c.requires _ c.call_arg_count.ensures _ _ c.name.ensures c.moves_amount.ensures c.if-call_arg_count-lt2.false c.if-not-moves_amount.false-raw _ _ c.end.ensures c.end-arg.ensures)
 
 pub check_keyed_call-check_keys-requires : goal.check_keyed_call-check_keys-requires
-check_keyed_call-check_keys-requires t c = (keys_below _ _ _ _ _ _ c.requires _ c.in-Some.is _ _ c.check_amount.ensures c.in_ok-check_amount.was _ _ _ _ c.name-method.ensures c.wants.ensures c.end-at.ensures c.call_arg_count.ensures _ c.decreases, keys_asked _ _ _ _ _ _ c.requires _ c.in-Some.is _ _ c.check_amount.ensures c.in_ok-check_amount.was _ _ _ _ c.name-method.ensures c.wants.ensures c.end-at.ensures c.call_arg_count.ensures)
+check_keyed_call-check_keys-requires t c = (keys_below _ _ _ _ _ _ (loaded_sheet c.args.scope.now.sheet.loaded) c.args.scope.now.in_force c.requires _ c.in-Some.is _ _ c.check_amount.ensures c.in_ok-check_amount.was _ _ _ _ c.name-method.ensures c.wants.ensures c.end-at.ensures c.call_arg_count.ensures _ c.decreases, keys_asked _ _ _ _ _ _ (loaded_sheet c.args.scope.now.sheet.loaded) c.args.scope.now.in_force c.requires _ c.in-Some.is _ _ c.check_amount.ensures c.in_ok-check_amount.was _ _ _ _ c.name-method.ensures c.wants.ensures c.end-at.ensures c.call_arg_count.ensures)
 
 pub check_keys-declared_arg-want-requires : goal.check_keys-declared_arg-want-requires
 check_keys-declared_arg-want-requires t c = search laws_keys
 
-pub check_keys-overflow_add-index : goal.check_keys-overflow_add-index
-check_keys-overflow_add-index t c = keys_next _ _ _ _ _ _ _ _ _ c.requires c.if-wants-index.false
-
-pub check_keys-overflow_sub-left : goal.check_keys-overflow_sub-left
-check_keys-overflow_sub-left t c = keys_some _ _ _ _ _ _ _ _ _ c.requires c.if-wants-index.false
-
 pub check_keys-check_keys-requires : goal.check_keys-check_keys-requires
-check_keys-check_keys-requires t c = (keys_falls _ _ _ _ _ _ _ _ _ c.requires c.if-wants-index.false _ _ c.ty_of.ensures _ _ _ c.in_ok-got.was c.declared_arg-want.ensures c.judge_key.ensures c.in_ok-judge_key.was _ c.end.ensures _ c.decreases, keys_rest _ _ _ _ _ _ _ _ _ c.requires c.if-wants-index.false _ _ c.ty_of.ensures _ _ _ c.in_ok-got.was c.declared_arg-want.ensures c.judge_key.ensures c.in_ok-judge_key.was _ c.end.ensures)
-
-pub ty_again-typing-requires : goal.ty_again-typing-requires
-ty_again-typing-requires t c = search laws_again
-
-pub ty_again-bounds-table-i : goal.ty_again-bounds-table-i
-ty_again-bounds-table-i t c = search laws_again
+check_keys-check_keys-requires t c = (keys_falls _ _ _ _ _ _ _ _ _ (loaded_sheet c.args.scope.now.sheet.loaded) c.args.scope.now.in_force c.requires c.if-wants-index.false _ _ c.ty_of.ensures _ _ _ c.in_ok-got.was c.declared_arg-want.ensures c.judge_key.ensures c.in_ok-judge_key.was _ c.end.ensures _ c.decreases, keys_rest _ _ _ _ _ _ _ _ _ (loaded_sheet c.args.scope.now.sheet.loaded) c.args.scope.now.in_force c.requires c.if-wants-index.false _ _ c.ty_of.ensures _ _ _ c.in_ok-got.was c.declared_arg-want.ensures c.judge_key.ensures c.in_ok-judge_key.was _ c.end.ensures)
 
 pub ty_again-returns-in-Ok : goal.ty_again-returns-in-Ok
 ty_again-returns-in-Ok t c = search laws_again
 
-pub ty_again-returns-in-Err : goal.ty_again-returns-in-Err
-ty_again-returns-in-Err t c = search laws_again
-
-pub ty_of_binary-overflow_add-i : goal.ty_of_binary-overflow_add-i
-ty_of_binary-overflow_add-i t c = search laws_bin
-
 pub ty_of_binary-ty_of-requires : goal.ty_of_binary-ty_of-requires
 ty_of_binary-ty_of-requires t c = search laws_bin
-
-pub ty_of_binary-end-right-requires : goal.ty_of_binary-end-right-requires
-ty_of_binary-end-right-requires t c = search laws_bin
 
 pub ty_of_binary-judge_binary-requires : goal.ty_of_binary-judge_binary-requires
 ty_of_binary-judge_binary-requires t c = search laws_bin
 
-pub ty_of_unary-overflow_add-i : goal.ty_of_unary-overflow_add-i
-ty_of_unary-overflow_add-i t c = search laws_un
-
 pub ty_of_unary-ty_of-requires : goal.ty_of_unary-ty_of-requires
 ty_of_unary-ty_of-requires t c = search laws_un
-
-pub ty_of_unary-judge_unary-requires : goal.ty_of_unary-judge_unary-requires
-ty_of_unary-judge_unary-requires t c = search laws_un
-
-pub type_args-overflow_add-i : goal.type_args-overflow_add-i
-type_args-overflow_add-i t c = search laws_args
-
-pub type_args-end-at-requires : goal.type_args-end-at-requires
-type_args-end-at-requires t c = search laws_args
-
-pub type_args-call_arg_count-requires : goal.type_args-call_arg_count-requires
-type_args-call_arg_count-requires t c = search laws_args
 
 pub type_args-ask_each-requires : goal.type_args-ask_each-requires
 type_args-ask_each-requires t c = search laws_args
 
-pub type_args-type_keyed-requires : goal.type_args-type_keyed-requires
-type_args-type_keyed-requires t c = (search (loaded_sheet, rules), args_keyed _ _ _ _ _ _ c.requires _ c.end-at.ensures _ c.call_arg_count.ensures _ _ c.ask_each.ensures c.in_ok-ask_each.was)
-
-pub type_call-overflow_add-i : goal.type_call-overflow_add-i
-type_call-overflow_add-i t c = search laws_call
-
 pub type_call-keyed_of-keyed-requires : goal.type_call-keyed_of-keyed-requires
 type_call-keyed_of-keyed-requires t c = search laws_call
-
-pub type_call-overflow_add-i-2 : goal.type_call-overflow_add-i-2
-type_call-overflow_add-i-2 t c = search laws_call
 
 pub type_call-expect_asset_receiver-requires : goal.type_call-expect_asset_receiver-requires
 type_call-expect_asset_receiver-requires t c = search laws_call
@@ -103,26 +42,11 @@ type_call-expect_asset_receiver-requires t c = search laws_call
 pub type_call-expect_keyed_op-requires : goal.type_call-expect_keyed_op-requires
 type_call-expect_keyed_op-requires t c = search laws_call
 
-pub type_call-type_args-requires : goal.type_call-type_args-requires
-type_call-type_args-requires t c = search laws_call
-
-pub type_keyed-check_keyed_call-requires : goal.type_keyed-check_keyed_call-requires
-type_keyed-check_keyed_call-requires t c = search laws_keyed
-
-pub type_keyed-overflow_add-i : goal.type_keyed-overflow_add-i
-type_keyed-overflow_add-i t c = search laws_keyed
-
 pub type_keyed-ty_of_call-requires : goal.type_keyed-ty_of_call-requires
 type_keyed-ty_of_call-requires t c = search laws_keyed
 
-pub typing-returns-then-is-3 : goal.typing-returns-then-is-3
-typing-returns-then-is-3 t c = search laws_kind
-
 pub typing-ty_of-requires : goal.typing-ty_of-requires
 typing-ty_of-requires t c = search laws_kind
-
-pub typing-returns : goal.typing-returns
-typing-returns t c = search laws_kind
 
 pub ask_each-returns-in_err-ty_of : goal.ask_each-returns-in_err-ty_of
 ask_each-returns-in_err-ty_of t c = rw (handed_on _ _ c.from_residual.ensures) (search (laws_each, c.in_err-ty_of.was))
@@ -171,12 +95,6 @@ type_args-returns-in_err-ask_each t c = rw (handed_on _ _ c.from_residual.ensure
 
 pub type_args-returns : goal.type_args-returns
 type_args-returns t c = search (laws_args, c.in_ok-ask_each.was)
-
-pub type_call-returns-in_err-expect_asset_receiver : goal.type_call-returns-in_err-expect_asset_receiver
-type_call-returns-in_err-expect_asset_receiver t c = rw (handed_on _ _ c.from_residual.ensures) (search (laws_call, c.in_err-expect_asset_receiver.was))
-
-pub type_call-returns-in_err-expect_keyed_op : goal.type_call-returns-in_err-expect_keyed_op
-type_call-returns-in_err-expect_keyed_op t c = rw (handed_on _ _ c.from_residual-in_err-expect_keyed_op.ensures) (search (laws_call, c.in_ok-expect_asset_receiver.was, c.in_err-expect_keyed_op.was))
 
 pub type_call-returns : goal.type_call-returns
 type_call-returns t c = search (laws_call, c.in_ok-expect_asset_receiver.was, c.in_ok-expect_keyed_op.was)

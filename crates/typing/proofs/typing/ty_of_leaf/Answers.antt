@@ -9,24 +9,22 @@ use borrow.Author.Tests.{eqb-true, eqb-false}
 use Rattle.text.proofs.Tests.{or_parts}
 use Rattle.sheet.specs.Scratch.{kind_at, name_at}
 use Rattle.sheet.proofs.Tested.{tested}
+use Rattle.rules.proofs.Standing.{loaded_sheet}
 use Rattle.rules.specs.declared.ty.Ty.{Ty}
 use Rattle.rules.specs.declared.ty.Ty.TheVariants.{Int, Address, Time, Str}
 use Rattle.rules.specs.Kept.{Table, kept}
 use Rattle.rules.specs.Typing.{typing, ty_of_leaf, ty_of_ident}
-use Rattle.rules.specs.Standing.{expr_at}
+use Rattle.rules.specs.Standing.{expr_at, Loaded}
 use Rattle.rules.proofs.Exprs.{leaf_at, leaf_at_lem}
 use Rattle.rules.proofs.Parts.{stop, ◌also◌, pick}
 use Rattle.env.specs.Answers.{typed_of}
-use Rattle.env.specs.Force.{env_of, Ready}
+use Rattle.env.specs.Force.{env_of, InForce}
 use Rattle.env.specs.declared.env.Env.{Env}
 use Rattle.typing.specs.Asks.{AsksLeaf, TypesLeaf}
 use Rattle.grammar.specs.Kinds as kinds
 use Rattle.typing.proofs.typing.ty_of_leaf.Goals as goal
 
-module _ (s S : List ℕ) (env : Env) (T : Table) (i : ℕ) (h : AsksLeaf s S env T i) where
-  ready : Ready s S env T
-  ready = h.asks.ready
-
+module _ (s S : List ℕ) (env : Env) (T : Table) (i : ℕ) (loaded : Loaded s S) (force : InForce S env) (h : AsksLeaf S T i) where
   low : kinds.int ≤ kind_at S i
   low = omega (arith, h.asks.here.kind.0)
 
@@ -35,7 +33,7 @@ module _ (s S : List ℕ) (env : Env) (T : Table) (i : ℕ) (h : AsksLeaf s S en
 
   leaf : (k : ℕ) (t : Ty) → kind_at S i ≡ k → kinds.int ≤ k → k < kinds.un → t ≡ ty_of_leaf (env_of s T env) (leaf_at k (name_at s S i)) → Leaf t
   unfolding typing typed_of kept
-  leaf k t e l u q = record { types = record { gives = rw (leaf_at_lem h.asks.ready.force.loaded h.asks.here k l u e, q) refl } }
+  leaf k t e l u q = record { types = record { gives = rw (leaf_at_lem loaded h.asks.here k l u e, q) refl } }
 
   named : (x : List ℕ) (t : Ty) → kind_at S i ≡ kinds.id → x ≡ name_at s S i → t ≡ ty_of_ident (env_of s T env) x → Leaf t
   unfolding ty_of_leaf
@@ -79,20 +77,17 @@ module _ (s S : List ℕ) (env : Env) (T : Table) (i : ℕ) (h : AsksLeaf s S en
         also stop)
         low h.kind x y z (eqb-false _ _ (sym e ∙ m.0)) (eqb-false _ _ (sym f ∙ m.1)) (eqb-false _ _ (sym g ∙ n.1)))
 
-pub ty_of_ident-requires : goal.ty_of_ident-requires
-ty_of_ident-requires c = search (tested, ready)
-
 pub returns-then-is : goal.returns-then-is
-returns-then-is c = search (tested, named)
+returns-then-is c = search (loaded_sheet, tested, named)
 
 pub returns-then-is-2 : goal.returns-then-is-2
-returns-then-is-2 c = search (tested, date)
+returns-then-is-2 c = search (loaded_sheet, tested, date)
 
 pub returns-then-is-3 : goal.returns-then-is-3
-returns-then-is-3 c = search (tested, string)
+returns-then-is-3 c = search (loaded_sheet, tested, string)
 
 pub returns-then-is-4 : goal.returns-then-is-4
-returns-then-is-4 c = search (tested, address)
+returns-then-is-4 c = search (loaded_sheet, tested, address)
 
 pub returns-else-is-4 : goal.returns-else-is-4
-returns-else-is-4 c = search (tested, other)
+returns-else-is-4 c = search (loaded_sheet, tested, other)

@@ -3,7 +3,7 @@ use Rattle.wrapping.proofs.Wrapped.{seek_start, seek_line, seek_found, seek_next
 use Rattle.wrapping.proofs.marks.Wrapped.contains.Goals as goal
 
 pub loop-at-init : goal.loop-at-init
-loop-at-init c = seek_start _ _ _ _ _ _ _ c.requires (cc) (cc) cc
+loop-at-init c = seek_start _ _ _ _ _ _ _ c.args.self.now.few c.args.self.now.row (cc) (cc) cc
 
 pub is_marked-requires : goal.is_marked-requires
 is_marked-requires c = search (rules, seek_line, c.in-Some.ensures.steps)

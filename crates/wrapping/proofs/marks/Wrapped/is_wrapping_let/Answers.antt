@@ -1,4 +1,5 @@
 use Rattle.sheet.proofs.Tested.{tested}
+use Rattle.rules.proofs.Standing.{loaded_sheet}
 use Rattle.wrapping.proofs.Wrapped.{no_let, let_value, let_holds}
 use Rattle.wrapping.proofs.marks.Wrapped.is_wrapping_let.Goals as goal
 
@@ -6,7 +7,7 @@ pub returns-then-not-is : goal.returns-then-not-is
 returns-then-not-is c = search (tested, no_let)
 
 pub wraps-requires : goal.wraps-requires
-wraps-requires c = search (tested, let_value)
+wraps-requires c = search (loaded_sheet, tested, let_value)
 
 pub returns : goal.returns
 returns c = search (tested, let_holds)

@@ -1,5 +1,5 @@
 use Prim.Native.Nat.{◌-◌}
-use Rattle.wrapping.specs.Marks.{names_in}
+use Rattle.wrapping.specs.Names.{names_in}
 use Rattle.wrapping.proofs.Wrapped.{Walking}
 use Rattle.wrapping.proofs.marks.Wrapped.wraps.Given as goal
 

@@ -14,13 +14,13 @@ pub add_arg-returns : goal.add_arg-returns
 add_arg-returns t c = search (loaded_sheet, tested, arg_mofn)
 
 pub add_args-returns-then-stop-i : goal.add_args-returns-then-stop-i
-add_args-returns-then-stop-i t c = search (rules, args_none)
+add_args-returns-then-stop-i t c = search (loaded_sheet, rules, args_none)
 
 pub add_args-add_args-requires : goal.add_args-add_args-requires
-add_args-add_args-requires t c = search (rules, args_falls)
+add_args-add_args-requires t c = search (loaded_sheet, rules, args_falls)
 
 pub add_args-returns : goal.add_args-returns
-add_args-returns t c = search (rules, args_all)
+add_args-returns t c = search (loaded_sheet, rules, args_all)
 
 pub add_type-returns-then-line_count-i : goal.add_type-returns-then-line_count-i
 add_type-returns-then-line_count-i t c = search (loaded_sheet, rules, type_none)
