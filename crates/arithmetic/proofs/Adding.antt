@@ -4,31 +4,31 @@ use mathlib.Core.List.{List}
 use mathlib.Core.Bool.{Bool, true, false, not, ◌&&◌}
 use Prim.Native.Nat.{ℕ}
 use native.Mathlib.Omega.{arith}
+use Rattle.std.specs.Prelude.{Option, Some, None, is_some}
+use Rattle.rules.specs.Ast.{AssignOp, SubFrom, Expr, Entry}
+use Rattle.rules.specs.Arithmetic.{any, acknowledged, sum_terms, without, is_sum, addends, bounded}
+use Rattle.rules.specs.Standing.{expr_at, Loaded, Here}
+use Rattle.arithmetic.specs.Tests.{others, added, adds_unbounded, has_op}
+use Rattle.rules.specs.Operators.{assign_meant, bin_meant}
 use lib.Dec.{eqb}
 use borrow.Author.Tests.{ne_eqb}
-use Rattle.std.specs.Prelude.{Option, Some, None, is_some}
-use Rattle.grammar.specs.Grammar as grammar
-use Rattle.sheet.specs.Scratch.{kind_at, op_at}
-use Rattle.rules.specs.Ast.{AssignOp, SubFrom, Expr, Entry}
-use Rattle.rules.specs.Arithmetic.{op_place, is_op, any, acknowledged, sum_terms, without, is_sum, addends, bounded}
-use Rattle.rules.specs.Standing.{expr_at, Loaded, Here}
+use Rattle.sheet.specs.Scratch.{op_at}
 use Rattle.rules.proofs.Exprs.{by_kind}
-use Rattle.arithmetic.specs.Tests.{others, added, adds_unbounded}
-use Rattle.rules.specs.Operators.{assign_meant}
-use Rattle.arithmetic.proofs.Ops.{op_place_lem}
+use Rattle.arithmetic.proofs.Ops.{op_meant}
+use Rattle.grammar.specs.Coded.{bin_number, bin_of}
 use Rattle.grammar.specs.Kinds as kinds
+use Rattle.grammar.specs.Grammar as grammar
+use Rattle.grammar.specs.declared.ops.BinOp.TheVariants as op
 use Rattle.grammar.specs.declared.ops.AssignOp as code
 use Rattle.grammar.specs.declared.ops.AssignOp.TheVariants as assign
-use Rattle.grammar.specs.Operators as ops
 
--- ------------------------------------------------------------ the value by its kind
+-- ------------------------------------------------------------ sums
 
-module _ (s S : List ℕ) (i : ℕ) (d : Loaded s S) (h : Here S grammar.Expr i) where
-  sum_at : is_sum (expr_at s i) ≡ (eqb (kind_at S i) kinds.bin && eqb (op_at S i) ops.bin_add)
-  unfolding is_sum is_op op_place
-  sum_at =
-      by_kind d h (λ k e. is_sum e ≡ (eqb k kinds.bin && eqb (op_at S i) ops.bin_add))
-      (λ k _ b. rw (ne_eqb k kinds.bin (omega arith)) refl) refl (op_place_lem (op_at S i) ops.bin_add (omega arith)) refl refl (λ k w a. rw (ne_eqb k kinds.bin (omega arith)) refl)
+sum_at : (s S : List ℕ) (i : ℕ) → Loaded s S → Here S grammar.Expr i → is_sum (expr_at s i) ≡ has_op S op.Add i
+unfolding is_sum bin_meant
+sum_at s S i d h =
+    by_kind d h (λ k e. is_sum e ≡ (eqb k kinds.bin && eqb (bin_number (bin_of (op_at S i))) (bin_number op.Add)))
+    (λ k _ b. rw (ne_eqb k kinds.bin (omega arith)) refl) refl (op_meant (op_at S i) op.Add) refl refl (λ k w a. rw (ne_eqb k kinds.bin (omega arith)) refl)
 
 -- ------------------------------------------------------------ adds_unbounded
 
@@ -66,7 +66,7 @@ module _ (s : List ℕ) (E : Entry) (T : Expr) (o : code.AssignOp) (i : ℕ) (a 
     unfolding others added addends
     adds_all r q g = g ∙ sym (by_addends ∙ rw q refl)
 
-    module _ (S : List ℕ) (d : Loaded s S) (h : Here S grammar.Expr i) (q : o ≡ assign.Set) (b : Bool) (t : b ≡ (eqb (kind_at S i) kinds.bin && eqb (op_at S i) ops.bin_add)) where
+    module _ (S : List ℕ) (d : Loaded s S) (h : Here S grammar.Expr i) (q : o ≡ assign.Set) (b : Bool) (t : b ≡ has_op S op.Add i) where
       is_set_lem : adds_unbounded E (assign_meant o) T (expr_at s i) ≡ added E (elim b [ true ↦ without T (sum_terms (expr_at s i)) | false ↦ None ])
       unfolding addends
       is_set_lem = by_addends ∙ rw (q, addends, sum_at s S i d h, ← t) refl

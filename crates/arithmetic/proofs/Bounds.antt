@@ -19,15 +19,14 @@ use Rattle.rules.specs.Model.{is_asset_param}
 use Rattle.rules.specs.Typing.{ident_of}
 use Rattle.rules.specs.Arithmetic.{any, amount_of, is_minted_amount, bounded_addend, is_mints, asset_params, bounded}
 use Rattle.rules.specs.Check.{param_types}
-use Rattle.rules.specs.Standing.{node_name, nodes_at, expr_at, param_at, params_at, type_at, entry_at, Loaded, Here}
+use Rattle.rules.specs.Standing.{node_name, nodes_at, expr_at, params_at, entry_at, Loaded, Here}
 use Rattle.rules.proofs.Exprs.{int_at, ident_at, is_dot_at, dot_at_lem}
 use Rattle.rules.proofs.Standing.{row_first}
-use Rattle.rules.proofs.Records.{param_at_lem}
+use Rattle.rules.proofs.Rows.{among_any}
 use Rattle.lookups.specs.Found.{found_node, Stretch, Last, of_kind}
 use Rattle.lookups.specs.Lines.{KindAt}
 use Rattle.lookups.proofs.Fields.{last_map, all_kind, param-name}
 use Rattle.lookups.proofs.Finding.{among_last}
-use Rattle.lookups.proofs.Types.{named_word}
 use Rattle.arithmetic.specs.Tests.{names, amount_bounded}
 use Rattle.arithmetic.proofs.Rows.{parts_of_lem}
 use Rattle.grammar.specs.Kinds as kinds
@@ -84,20 +83,11 @@ module _ (s S : List ℕ) (i m : ℕ) (d : Loaded s S) (h : KindAt kinds.entry S
         by_cases (Some j) = refl
         by_cases None = refl
 
--- ------------------------------------------------------------ is_asset
+-- ------------------------------------------------------------ is_asset_param
 
--- What `is_asset` meets: a parameter of the name n.
-module _ (s S : List ℕ) (i : ℕ) (x n : Name) (b : Bool) (d : Loaded s S) (h : Here S grammar.Param i) (e : n ≡ name_at s S i) (q : b ≡ same x n) where
-  the_param : param_at s i ≡ record { name = name_at s S i; ty = type_at s (suc i) }
-  the_param = (param_at_lem d h.within (omega (arith, h.kind.0, h.kind.1))).0
-
-  pub other_name : not b ≡ true → false ≡ (is_asset_param (param_at s i) && same x (param_at s i).name)
-  other_name f = sym (both_not (is_asset_param (param_at s i)) (same x (param_at s i).name) (rw (the_param, ← e, ← q) (not-true b f)))
-
-  pub that_name : (t : Name) (r : Bool) → not b ≡ false → t ≡ name_at s S (i + 1) → r ≡ same t (bytes "Q_Asset") → r ≡ (is_asset_param (param_at s i) && same x (param_at s i).name)
-  unfolding is_asset_param
-  that_name t r f g k =
-      named_word s S (suc i) t "Q_Asset" r d (rw (← add-one i) g) k ∙ rw the_param (both_yes (is (type_name (type_at s (suc i))) "Q_Asset") (same x (name_at s S i)) (rw (← e, ← q) (not-false b f)))
+pub an_asset : (x : Name) (ps : List Param) (b : Bool) → b ≡ any (λ p. same (type_name p.ty) (bytes "Q_Asset") && same x p.name) ps → b ≡ among x (asset_params ps)
+unfolding asset_params is_asset_param is
+an_asset x ps b e = e ∙ sym (among_any is_asset_param (λ p. p.name) asset_params refl (λ p ps. refl) x ps)
 
 -- ------------------------------------------------------------ bounded
 

@@ -1,26 +1,24 @@
 -- Clauses that cap a name from above. Assumes nothing.
 use mathlib.Core.Logic.{◌≢◌, ◌⊎◌, inl, inr}
 use mathlib.Core.Path.{◌≡◌, refl, sym, ◌∙◌}
-use mathlib.Core.List.{List}
-use mathlib.Core.Bool.{Bool, true, false, not, ◌&&◌, ◌||◌, or-false}
-use Prim.Native.Nat.{ℕ, ◌+◌, ◌<◌, ◌≤◌}
+use mathlib.Core.List.{List, [], ◌∷◌, ◌++◌}
+use mathlib.Core.Bool.{Bool, true, false, not, ◌&&◌, ◌||◌, or-false, or_assoc}
+use Prim.Native.Nat.{ℕ, ◌+◌}
 use native.Mathlib.Numerals.{add-one}
-use native.Mathlib.Omega.{arith}
 use lib.Dec.{eqb}
-use borrow.Author.Tests.{not-true, not-false}
+use borrow.Author.Tests.{not-true, not-false, eqb-true}
 use Rattle.grammar.specs.Grammar as grammar
 use Rattle.sheet.specs.Scratch.{kind_at, op_at, end_at}
 use Rattle.rules.specs.Text.{Name}
-use Rattle.rules.specs.Ast.{Le, Lt, Ge, Gt, Expr, Exprs, nil, more}
-use Rattle.rules.specs.Arithmetic.{op_place, is_op, mentions, subtracts, upper_bounds, caps_from_above, limits_cap}
+use Rattle.rules.specs.Ast.{And, Expr, leaf, unary, binary, field, call, wrap}
+use Rattle.rules.specs.Arithmetic.{any, op_place, is_op, mentions, subtracts, upper_bounds, caps_from_above, limits_cap}
 use Rattle.rules.specs.Standing.{expr_at, clause_at, Loaded, Here}
 use Rattle.rules.proofs.Exprs.{by_kind}
-use Rattle.rules.proofs.Forest.{joined, parts_of}
-use Rattle.rules.proofs.Walks.{any_joined, Walk, walk_one, walk_over, walk_line, walk_found, walk_inside, walk_behind}
 use Rattle.rules.proofs.Standing.{row_first}
 use Rattle.rules.proofs.Records.{limits_at}
-use Rattle.arithmetic.specs.Tests.{compares}
-use Rattle.arithmetic.proofs.Ops.{op_place_lem, op_meant, the_bin, the_op}
+use Rattle.arithmetic.specs.Tests.{compares, has_op, terms}
+use Rattle.arithmetic.proofs.Ops.{op_meant, the_bin, is_bin, op_is}
+use Rattle.rules.specs.Operators.{bin_meant}
 use Rattle.arithmetic.proofs.Rows.{no_limits}
 use Rattle.grammar.specs.Kinds as kinds
 use Rattle.grammar.specs.Operators as ops
@@ -31,18 +29,20 @@ use Rattle.grammar.specs.declared.ops.BinOp.TheVariants as op
 -- ------------------------------------------------------------ subtracts, upper_bounds
 
 -- What `subtracts` meets: b tells whether the expression at line i is a difference.
-module _ (s S : List ℕ) (i : ℕ) (x : Name) (d : Loaded s S) (h : Here S grammar.Expr i) (b : Bool) (t : b ≡ (eqb (kind_at S i) kinds.bin && eqb (op_at S i) ops.bin_sub)) where
+module _ (s S : List ℕ) (i : ℕ) (x : Name) (d : Loaded s S) (h : Here S grammar.Expr i) (b : Bool) (t : b ≡ has_op S op.Sub i) where
   pub no_difference : not b ≡ true → false ≡ subtracts (expr_at s i) x
-  unfolding subtracts is_op op_place
+  unfolding subtracts bin_meant
   no_difference q =
-      by_kind d h (λ k e. (eqb k kinds.bin && eqb (op_at S i) ops.bin_sub) ≡ false → false ≡ subtracts e x)
-      (λ k _ _ _. refl) (λ _. refl) (λ e. rw (op_place_lem (op_at S i) ops.bin_sub (omega arith), e) refl) (λ _. refl) (λ _. refl) (λ k w _ _. refl)
+      by_kind d h (λ k e. (eqb k kinds.bin && eqb (bin_number (bin_of (op_at S i))) (bin_number op.Sub)) ≡ false → false ≡ subtracts e x)
+      (λ k _ _ _. refl) (λ _. refl) (λ e. rw (op_meant (op_at S i) op.Sub, e) refl) (λ _. refl) (λ _. refl) (λ k w _ _. refl)
       (sym t ∙ not-true b q)
 
   module _ (q : not b ≡ false) (j : ℕ) (f : j ≡ end_at S (i + 1)) (m : Bool) (r : m ≡ mentions (expr_at s j) x) where
     difference : subtracts (expr_at s i) x ≡ (m && not (mentions (expr_at s (i + 1)) x))
-    unfolding subtracts is_op op_place
-    difference = rw (the_op s S i d h ops.bin_sub b t (not-false b q), ← f, ← r) refl
+    unfolding subtracts bin_meant
+    difference =
+        let k = not-false b q in
+        rw (the_bin s S i d h (is_bin s S i d h op.Sub b t k), subtracts, op_is s S i d h op.Sub b t k, ← f, ← r) refl
 
     pub not_taken : not m ≡ true → false ≡ subtracts (expr_at s i) x
     not_taken e = sym (difference ∙ rw (not-true m e) refl)
@@ -98,10 +98,10 @@ module _ (s S : List ℕ) (i : ℕ) (x : Name) (d : Loaded s S) (h : Here S gram
 
     by_op : compares (expr_at s i) x
         ≡ (((eqb (bin_number r) ops.bin_le || eqb (bin_number r) ops.bin_lt) && upper_bounds a b x) || ((eqb (bin_number r) ops.bin_ge || eqb (bin_number r) ops.bin_gt) && upper_bounds b a x))
-    unfolding compares op_place
+    unfolding compares bin_meant
     by_op =
         let n = op_at S i in
-        rw (the_bin s S i d h q, op_meant n Le, op_meant n Lt, op_meant n Ge, op_meant n Gt, ← f, ← g) refl
+        rw (the_bin s S i d h q, op_meant n op.Le, op_meant n op.Lt, op_meant n op.Ge, op_meant n op.Gt, ← f, ← g) refl
 
     pub compares_below : (t : Bool) → (r ≡ op.Le) ⊎ (r ≡ op.Lt) → t ≡ upper_bounds (expr_at s (i + 1)) (expr_at s j) x → t ≡ compares (expr_at s i) x
     compares_below t (inl e) u = u ∙ sym (by_op ∙ rw e (or-false _))
@@ -116,56 +116,30 @@ module _ (s S : List ℕ) (i : ℕ) (x : Name) (d : Loaded s S) (h : Here S gram
 
 -- ------------------------------------------------------------ caps_from_above
 
-unfoldable pub caps_any : Exprs → Name → Bool
-caps_any nil x = false
-caps_any (more e es) x = caps_from_above e x || caps_any es x
+any_append : {A : Type 0} (p : A → Bool) (as' bs : List A) → any p (as' ++ bs) ≡ (any p as' || any p bs)
+unfolding any
+any_append p [] bs = refl
+any_append p (a ∷ as') bs = rw (any_append p as' bs) (sym (or_assoc (p a) (any p as') (any p bs)))
 
-caps_joined : (x : Name) (es fs : Exprs) → caps_any (joined es fs) x ≡ (caps_any es x || caps_any fs x)
-unfolding caps_any
-caps_joined x es fs = any_joined (λ e. caps_from_above e x) (λ es. caps_any es x) refl (λ e es. refl) es fs
+-- one of the terms caps x
+pub caps_terms : (e : Expr) (x : Name) → any (λ t. compares t x) (terms (bin_meant op.And) e) ≡ caps_from_above e x
+unfolding caps_from_above compares terms bin_meant is_op op_place any
+caps_terms (leaf l s k) x = refl
+caps_terms (unary l s o e) x = refl
+caps_terms (binary l s o e f) x = by_cases (is_op o And) refl (caps_terms e x) (caps_terms f x)
+  where
+    c : Expr → Bool
+    c = λ t. compares t x
 
-abbrev pub Caps : (s S : List ℕ) → Name → Bool → ℕ → ℕ → Type 0
-Caps s S x whole end at = Walk s S (λ es. whole ≡ caps_any es x) end at
-
-pub caps_start : (s S : List ℕ) (x : Name) (end i : ℕ) → Loaded s S → Here S grammar.Expr i → end ≡ end_at S i → Caps s S x (caps_from_above (expr_at s i) x) end i
-unfolding caps_any
-caps_start s S x end i d h e = walk_one d h e (sym (or-false _))
-
--- the test for `and` at line i
-module _ (s S : List ℕ) (i : ℕ) (x : Name) (d : Loaded s S) (h : Here S grammar.Expr i) (b : Bool) (t : b ≡ (eqb (kind_at S i) kinds.bin && eqb (op_at S i) ops.bin_and)) where
-  caps_and : b ≡ true → caps_from_above (expr_at s i) x ≡ caps_any (parts_of (expr_at s i)) x
-  unfolding caps_from_above caps_any parts_of is_op op_place
-  caps_and q = rw (the_op s S i d h ops.bin_and b t q) (twice (caps_from_above (expr_at s (i + 1)) x) (caps_from_above (expr_at s (end_at S (i + 1))) x))
-    where
-      twice : (a c : Bool) → (((a || c) || false) || false) ≡ (a || (c || false))
-      twice true c = refl
-      twice false c = or-false (c || false)
-
-  caps_other : b ≡ false → caps_from_above (expr_at s i) x ≡ compares (expr_at s i) x
-  unfolding caps_from_above compares is_op op_place
-  caps_other q =
-      by_kind d h (λ k e. (eqb k kinds.bin && eqb (op_at S i) ops.bin_and) ≡ false → caps_from_above e x ≡ compares e x)
-      (λ k _ _ _. refl) (λ _. refl) (λ e. rw (op_place_lem (op_at S i) ops.bin_and (omega arith), e) refl) (λ _. refl) (λ _. refl) (λ k w _ _. refl)
-      (sym t ∙ q)
-
-module _ (s S : List ℕ) (x : Name) (whole : Bool) (end at : ℕ) (w : Caps s S x whole end at) where
-  pub caps_over : end ≤ at → false ≡ whole
-  unfolding caps_any
-  caps_over h = sym (walk_over w h)
-
-  module _ (h : at < end) (b : Bool) (t : b ≡ (eqb (kind_at S at) kinds.bin && eqb (op_at S at) ops.bin_and)) where
-    pub caps_into : b ≡ true → Caps s S x whole end (at + 1)
-    unfolding caps_any
-    caps_into q = walk_inside w h (λ es z. z ∙ rw (caps_and s S at x w.loaded (walk_line w h) b t q, caps_joined) refl)
-
-    module _ (q : b ≡ false) (c : Bool) (e : c ≡ compares (expr_at s at) x) where
-      pub caps_found : c ≡ true → true ≡ whole
-      unfolding caps_any
-      caps_found f = walk_found w h (λ es z. sym (z ∙ rw (caps_other s S at x w.loaded (walk_line w h) b t q, ← e, f) refl))
-
-      pub caps_next : (at' : ℕ) → c ≡ false → at' ≡ end_at S at → Caps s S x whole end at'
-      unfolding caps_any
-      caps_next at' f g = walk_behind w h at' g (λ es z. z ∙ rw (caps_other s S at x w.loaded (walk_line w h) b t q, ← e, f) refl)
+    by_cases : (r : Bool) → is_op o And ≡ r → any c (terms (bin_meant op.And) e) ≡ caps_from_above e x → any c (terms (bin_meant op.And) f) ≡ caps_from_above f x
+        → any c (terms (bin_meant op.And) (binary l s o e f)) ≡ caps_from_above (binary l s o e f) x
+    by_cases true q g h =
+        rw (terms, caps_from_above, eqb-true (op_place o) ops.bin_and q)
+        (any_append c (terms (bin_meant op.And) e) (terms (bin_meant op.And) f) ∙ rw (g, h) (sym (or-false _) ∙ sym (or-false _)))
+    by_cases false q g h = rw (terms, caps_from_above, q) (or-false _)
+caps_terms (field l s e n m) x = refl
+caps_terms (call l s c es) x = refl
+caps_terms (wrap l s w e) x = refl
 
 -- ------------------------------------------------------------ clauses
 

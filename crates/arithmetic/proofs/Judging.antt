@@ -9,7 +9,7 @@ use native.Mathlib.Omega.{arith}
 use lib.ListN.{get_or}
 use lib.Dec.{eqb}
 use borrow.Author.Tests.{not-true, not-false}
-use Rattle.std.specs.Prelude.{Result, Ok, Err, Option, Some, None, is_some}
+use Rattle.std.specs.Prelude.{Result, Ok, Option, Some, None, is_some}
 use Rattle.grammar.specs.Grammar as grammar
 use Rattle.grammar.specs.Coded.{assign_of}
 use Rattle.grammar.specs.declared.ops.AssignOp as code
@@ -21,17 +21,15 @@ use Rattle.rules.specs.declared.ty.Ty.{Ty}
 use Rattle.rules.specs.Arithmetic.{any, acknowledged, addends, bounded, limits_bound, overflow_text, check_sum, check_arithmetic}
 use Rattle.rules.specs.Check.{param_types}
 use Rattle.rules.specs.Typing.{ident_of}
-use Rattle.rules.specs.Standing.{expr_at, stmt_at, stmts_at, entry_at, place_at, Loaded, Here}
+use Rattle.rules.specs.Standing.{expr_at, stmt_at, stmts_at, entry_at, place_at, Loaded, Here, Row}
 use Rattle.rules.proofs.Parts.{stop, ◌also◌, pick}
 use Rattle.rules.proofs.Exprs.{ident_at}
 use Rattle.rules.proofs.Standing.{row_first, row_rest}
 use Rattle.rules.proofs.Records.{named, guard_at, let_at, emit_at, assign_at, do_at}
-use Rattle.refusals.specs.Answers.{Answers}
+use Rattle.refusals.specs.Answers.{Answers, expected}
 use Rattle.lookups.specs.Lines.{KindAt}
-use Rattle.sheet.specs.declared.records.Records.{Records}
 use Rattle.refusals.specs.Refusal.{refusal_of, done_of}
 use Rattle.refusals.specs.declared.refusal.Refusal.TheVariants.{Overflow}
-use Rattle.lookups.proofs.Rows.{Turn}
 use Rattle.refusals.proofs.Answers.{gives, fits, misfits}
 use Rattle.arithmetic.specs.Tests.{names, added, adds_unbounded}
 use Rattle.rules.specs.Operators.{assign_meant}
@@ -163,29 +161,27 @@ module _ (s S : List ℕ) (E : Entry) (i : ℕ) (d : Loaded s S) (h : Here S gra
             is_bound : limits_bound E (name_at s S (i + 1)) ≡ m
             is_bound = rw (← u) (sym z)
 
-            pub limits_fine : m ≡ true → Answers (check_sum E (param_types E.params) (stmt_at s i)) (done_of s (Ok tt))
-            limits_fine k = fine (rw (is_bound, k) (or_true (is_some (get (name_at s S (i + 1)) (param_types E.params)) || not b)))
-
-            pub overflow : m ≡ false → Answers (check_sum E (param_types E.params) (stmt_at s i)) (done_of s (Err (Overflow i)))
-            unfolding done_of refusal_of
-            overflow k =
-                rw (← add-one i, named d target.within)
-                (the_sum (Some (name_at s S (i + 1))) _ the_name
-                (judge-refused E (param_types E.params) (place_at s i) (name_at s S (i + 1)) (terms_of op T W) (adds ∙ not-false b n) (is-param ∙ c) (is_bound ∙ k)))
+            pub limits_judged : (r : Result Unit Refusal) → r ≡ expected m (Overflow i) → Answers (check_sum E (param_types E.params) (stmt_at s i)) (done_of s r)
+            unfolding expected done_of refusal_of
+            limits_judged r e = rw e (by_cases m refl)
+              where
+                by_cases : (t : Bool) → m ≡ t → Answers (check_sum E (param_types E.params) (stmt_at s i)) (done_of s (expected t (Overflow i)))
+                by_cases true k = fine (rw (is_bound, k) (or_true (is_some (get (name_at s S (i + 1)) (param_types E.params)) || not b)))
+                by_cases false k =
+                    rw (← add-one i, named d target.within)
+                    (the_sum (Some (name_at s S (i + 1))) _ the_name
+                    (judge-refused E (param_types E.params) (place_at s i) (name_at s S (i + 1)) (terms_of op T W) (adds ∙ not-false b n) (is-param ∙ c) (is_bound ∙ k)))
 
 -- ------------------------------------------------------------ check_arithmetic
 
-pub sums_start : (s S : List ℕ) (i : ℕ) (r : Records) → Loaded s S → KindAt kinds.entry S i → r.lines.now ≡ S → r.at ≡ skip S (clause_count S i) (skip S (param_count S i) (suc i)) → r.left ≡ body_count S i
-    → Turn grammar.Stmt stmts_at (check_sum (entry_at s i) (param_types (entry_at s i).params)) (check_arithmetic (entry_at s i) (param_types (entry_at s i).params)) s S r
-unfolding check_arithmetic
-sums_start s S i r d h l e m =
-    let q = parts_of_lem s S i d h in
-    let b : (entry_at s i).body ≡ stmts_at s r.left r.at = rw (q.is, e, m) refl in
-    record {
-      lines = l;
-      walk = record {
-        loaded = d;
-        row = rw (e, m) q.body;
-        known = λ k a. subst (λ ss. Answers (for_each ss (check_sum (entry_at s i) (param_types (entry_at s i).params))) (done_of s k)) (sym b) a;
-      };
-    }
+-- the statements of the entry at line i
+module _ {s S : List ℕ} {i m j : ℕ} (d : Loaded s S) (h : KindAt kinds.entry S i) (at : j ≡ skip S (clause_count S i) (skip S (param_count S i) (suc i))) (count : m ≡ body_count S i) where
+  pub body-row : Row S grammar.Stmt m j
+  body-row = rw (at, count) (parts_of_lem s S i d h).body
+
+  pub sums_judged : (r : Result Unit Refusal) → Answers (for_each (stmts_at s m j) (check_sum (entry_at s i) (param_types (entry_at s i).params))) (done_of s r)
+      → Answers (check_arithmetic (entry_at s i) (param_types (entry_at s i).params)) (done_of s r)
+  unfolding check_arithmetic
+  sums_judged r a =
+      let body : (entry_at s i).body ≡ stmts_at s m j = rw ((parts_of_lem s S i d h).is, at, count) refl in
+      subst (λ ss. Answers (for_each ss (check_sum (entry_at s i) (param_types (entry_at s i).params))) (done_of s r)) (sym body) a

@@ -5,6 +5,7 @@ use mathlib.Core.Bool.{Bool, true, false, ◌&&◌, ◌||◌, or_assoc, or-false
 use Prim.Native.Nat.{ℕ, ◌+◌, ◌<◌, ◌≤◌}
 use lib.Dec.{eqb}
 use Rattle.text.specs.Text.{same}
+use Rattle.text.proofs.Words.{same_swap}
 use Rattle.grammar.specs.Grammar as grammar
 use Rattle.sheet.specs.Scratch.{kind_at, name_at, end_at}
 use Rattle.rules.specs.Text.{Name, among}
@@ -60,22 +61,14 @@ module _ (s S : List ℕ) (x : Name) (whole : Bool) (end at : ℕ) (w : Mention 
     mention_past at' l q =
         walk_behind w h at' q (λ es z. z ∙ rw (mentions_wrap (expr_at s at) x (sym e ∙ l)) refl)
 
-    module _ (l : a ≡ false) (b : Bool) (t : b ≡ (eqb (kind_at S at) kinds.id && same (name_at s S at) x)) where
+    module _ (l : a ≡ false) (b : Bool) (t : b ≡ (eqb (kind_at S at) kinds.id && same x (name_at s S at))) where
       self : (es : Exprs) → mentions_any (more (expr_at s at) es) x ≡ (b || mentions_any (joined (parts_of (expr_at s at)) es) x)
       unfolding mentions_any
       self es =
-          rw (mentions_self s S at x w.loaded (walk_line w h) (sym e ∙ l), any_joined (λ e. mentions e x) (λ es. mentions_any es x) refl (λ e es. refl), ← t, or_assoc) refl
+          rw (mentions_self s S at x w.loaded (walk_line w h) (sym e ∙ l), any_joined (λ e. mentions e x) (λ es. mentions_any es x) refl (λ e es. refl), same_swap (name_at s S at) x, ← t, or_assoc) refl
 
       pub mention_found : b ≡ true → true ≡ whole
       mention_found f = walk_found w h (λ es z. sym (z ∙ self es ∙ rw f refl))
 
       pub mention_onward : b ≡ false → Mention s S x whole end (at + 1)
       mention_onward f = walk_inside w h (λ es z. z ∙ self es ∙ rw f refl)
-
--- What `is_named` meets: t tells whether line i is an `id`.
-module _ (s S : List ℕ) (i : ℕ) (x : Name) (t : Bool) (e : t ≡ eqb (kind_at S i) kinds.id) where
-  pub other_kind : t ≡ false → false ≡ (eqb (kind_at S i) kinds.id && same (name_at s S i) x)
-  other_kind n = rw (← e, n) refl
-
-  pub named_kind : (n : Name) (r : Bool) → t ≡ true → n ≡ name_at s S i → r ≡ same n x → r ≡ (eqb (kind_at S i) kinds.id && same (name_at s S i) x)
-  named_kind n r q f g = rw (← e, q, ← f) g

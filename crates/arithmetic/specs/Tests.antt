@@ -1,8 +1,30 @@
 -- Tests of the code that the rules have no name for.
-use Rattle.std.specs.Prelude.{Bool, true, false, not, ◌&&◌, ◌||◌, List, map, Option, Some, None}
+use Rattle.std.specs.Prelude.{ℕ, ◌≡◌, Bool, true, false, not, ◌&&◌, ◌||◌, eqb, List, [], ◌∷◌, ◌++◌, map, Option, Some, None}
+use Rattle.grammar.specs.Coded.{bin_number, bin_of}
+use Rattle.grammar.specs.Kinds as kinds
+use Rattle.grammar.specs.declared.ops.BinOp as code
+use Rattle.sheet.specs.Scratch.{kind_at, op_at}
 use Rattle.rules.specs.Text.{Name, among}
-use Rattle.rules.specs.Ast.{Lt, Gt, Le, Ge, AssignOp, Expr, leaf, unary, binary, field, call, wrap, Param, Entry}
+use Rattle.rules.specs.Ast.{BinOp, Lt, Gt, Le, Ge, AssignOp, Expr, leaf, unary, binary, field, call, wrap, Param, Entry}
 use Rattle.rules.specs.Arithmetic.{any, is_op, acknowledged, upper_bounds, without, addends, is_mints, asset_params, bounded}
+use Rattle.rules.specs.Standing.{expr_at}
+
+-- line i is a `bin` with the operator
+abbrev pub has_op : List ℕ → code.BinOp → ℕ → Bool
+has_op S o i = eqb (kind_at S i) kinds.bin && eqb (bin_number (bin_of (op_at S i))) (bin_number o)
+
+-- what the operator joins in an expression, from left to right
+unfoldable pub terms : BinOp → Expr → List Expr
+terms p (leaf l s k) = leaf l s k ∷ []
+terms p (unary l s o e) = unary l s o e ∷ []
+terms p (binary l s o a b) = elim (is_op o p) [ true ↦ terms p a ++ terms p b | false ↦ binary l s o a b ∷ [] ]
+terms p (field l s e n m) = field l s e n m ∷ []
+terms p (call l s c es) = call l s c es ∷ []
+terms p (wrap l s w e) = wrap l s w e ∷ []
+
+-- a test of lines by post tells p of the expressions there
+abbrev pub Tells : List ℕ → (post : ℕ → Bool → Type 0) → (Expr → Bool) → Type 0
+Tells s post p = (at : ℕ) (b : Bool) → post at b → b ≡ p (expr_at s at)
 
 -- a comparison that caps x
 unfoldable pub compares : Expr → Name → Bool

@@ -12,7 +12,7 @@ use crate::limits::limits_bound;
 use crate::sums::{adds_unbounded, is_param};
 use grammar::Kind;
 use lookups::body_line;
-use refusals::Refusal;
+use refusals::{Refusal, expect};
 use sheet::{LoadedSheet, body_count};
 
 // The statement at line stmt of an entry.
@@ -41,10 +41,7 @@ fn check_sum(sheet: &LoadedSheet<'_>, entry: usize, stmt: usize) -> Result<(), R
     if is_param(sheet, entry, x) {
         return Ok(());
     }
-    if limits_bound(sheet, entry, x) {
-        return Ok(());
-    }
-    Err(Refusal::Overflow(stmt))
+    expect(limits_bound(sheet, entry, x), Refusal::Overflow(stmt))
 }
 
 // The entry at line i: each sum that its statements add up in a field.
@@ -52,8 +49,7 @@ pub fn check_arithmetic(sheet: &LoadedSheet<'_>, i: usize) -> Result<(), Refusal
     requires { KindAt kinds.entry sheet.now.lines.now i }
     ensures { Answers (check_arithmetic (entry_at sheet.now.bytes.now i) (param_types (entry_at sheet.now.bytes.now i).params)) (done_of sheet.now.bytes.now result) }
 {
-    for at in sheet.records(body_line(sheet.lines, i), body_count(sheet.lines, i)) {
-        check_sum(sheet, i, at)?;
-    }
-    Ok(())
+    sheet
+        .records(body_line(sheet.lines, i), body_count(sheet.lines, i))
+        .try_for_each(|at| check_sum(sheet, i, at))
 }

@@ -1,7 +1,5 @@
 // `limits_bound`: whether a `limits` clause caps a name from above.
-ghost use Rattle.std.specs.Prelude.{◌&&◌, ◌≡◌, eqb};
-ghost use Rattle.text.specs.Text.{same};
-ghost use Rattle.sheet.specs.Scratch.{kind_at, name_at};
+ghost use Rattle.std.specs.Prelude.{◌≡◌};
 ghost use Rattle.grammar.specs.Grammar.{Clause, Expr};
 ghost use Rattle.rules.specs.Arithmetic.{caps_from_above, limits_bound, limits_cap, upper_bounds};
 ghost use Rattle.rules.specs.Arithmetic.{mentions as mentions_of, subtracts as subtracts_of};
@@ -10,21 +8,10 @@ ghost use Rattle.lookups.specs.Lines.{KindAt};
 ghost use Rattle.arithmetic.specs.Tests.{compares as compares_of};
 ghost use Rattle.grammar.specs.Kinds as kinds;
 
-use crate::lines::{acknowledged, is_op};
+use crate::lines::{acknowledged, any_term, is_op};
 use grammar::{BinOp, Kind};
-use lookups::clauses_line;
+use lookups::{clauses_line, is_named};
 use sheet::{LoadedSheet, clause_count};
-use text::is_word;
-
-// Whether line i is the bare name x.
-fn is_named(sheet: &LoadedSheet<'_>, i: usize, x: &[u8]) -> bool
-    ensures { result ≡ (eqb (kind_at sheet.now.lines.now i) kinds.id && same (name_at sheet.now.bytes.now sheet.now.lines.now i) x.now) }
-{
-    if !sheet.is(i, Kind::Id) {
-        return false;
-    }
-    is_word(sheet.name(i), x)
-}
 
 // Whether the name x stands in the expression at line i, outside of `checked` and `wrapping`.
 fn mentions(sheet: &LoadedSheet<'_>, i: usize, x: &[u8]) -> bool
@@ -33,13 +20,13 @@ fn mentions(sheet: &LoadedSheet<'_>, i: usize, x: &[u8]) -> bool
 {
     let stop = sheet.end(i);
     let mut at = i;
-    // The body chooses how far a turn goes, which no iterator of the library lets it.
+    // A `while`: an iterator would have this loop in its `next`, as at `any_term`.
     while at < stop {
         if acknowledged(sheet, at) {
             at = sheet.end(at);
             continue;
         }
-        if is_named(sheet, at, x) {
+        if is_named(sheet, Kind::Id, x, at) {
             return true;
         }
         at += 1;
@@ -52,7 +39,7 @@ fn subtracts(sheet: &LoadedSheet<'_>, i: usize, x: &[u8]) -> bool
     requires { Here sheet.now.lines.now Expr i }
     ensures { result ≡ subtracts_of (expr_at sheet.now.bytes.now i) x.now }
 {
-    if !is_op(sheet.lines, i, BinOp::Sub) {
+    if !is_op(sheet, i, BinOp::Sub) {
         return false;
     }
     if !mentions(sheet, sheet.end(i + 1), x) {
@@ -92,20 +79,7 @@ fn caps_from_above(sheet: &LoadedSheet<'_>, i: usize, x: &[u8]) -> bool
     requires { Here sheet.now.lines.now Expr i }
     ensures { result ≡ caps_from_above (expr_at sheet.now.bytes.now i) x.now }
 {
-    let stop = sheet.end(i);
-    let mut at = i;
-    // The body chooses how far a turn goes, which no iterator of the library lets it.
-    while at < stop {
-        if is_op(sheet.lines, at, BinOp::And) {
-            at += 1;
-            continue;
-        }
-        if compares(sheet, at, x) {
-            return true;
-        }
-        at = sheet.end(at);
-    }
-    false
+    any_term(sheet, BinOp::And, i, |at| compares(sheet, at, x))
 }
 
 // Whether the clause at line i is a `limits` that caps x.
@@ -124,10 +98,7 @@ pub fn limits_bound(sheet: &LoadedSheet<'_>, entry: usize, x: &[u8]) -> bool
     ensures { result ≡ limits_bound (entry_at sheet.now.bytes.now entry) x.now }
 {
     let first = clauses_line(sheet.lines, entry);
-    for at in sheet.records(first, clause_count(sheet.lines, entry)) {
-        if limits_cap(sheet, at, x) {
-            return true;
-        }
-    }
-    false
+    sheet
+        .records(first, clause_count(sheet.lines, entry))
+        .any(|at| limits_cap(sheet, at, x))
 }

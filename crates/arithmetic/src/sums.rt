@@ -1,24 +1,23 @@
-// The terms of a sum, and which of them are bounded.
+// The terms of a sum, and which of them are bounded. Here and in limits.rt the entry's line stands beside the sheet: in a struct of both, each promise
+// would say `entry.now.sheet.bytes.now` and `entry.now.line` for two short names.
 ghost use Rattle.std.specs.Prelude.{◌&&◌, not, ◌≡◌, is_some};
-ghost use Rattle.text.specs.Text.{same};
-ghost use Rattle.grammar.specs.Grammar.{Expr, Param};
+ghost use Rattle.grammar.specs.Grammar.{Expr};
 ghost use Rattle.rules.specs.Arithmetic.{any, asset_params, is_mints, same_target, sum_terms, without};
 ghost use Rattle.rules.specs.Arithmetic.{bounded as bounded_of};
-ghost use Rattle.rules.specs.Model.{is_asset_param};
-ghost use Rattle.rules.specs.Standing.{Here, entry_at, expr_at, param_at};
+ghost use Rattle.rules.specs.Standing.{Here, entry_at, expr_at};
 ghost use Rattle.rules.specs.Text.{among};
 ghost use Rattle.lookups.specs.Lines.{KindAt};
 ghost use Rattle.arithmetic.specs.Tests.{adds_unbounded, amount_bounded, names, others};
 ghost use Rattle.rules.specs.Operators.{assign_meant};
 ghost use Rattle.grammar.specs.Kinds as kinds;
 
-use crate::lines::{acknowledged, is_op};
+use crate::lines::{acknowledged, any_term, is_op};
 use grammar::{AssignOp, BinOp, Kind};
-use lookups::{clauses_line, last_named};
+use lookups::{clauses_line, has_param, last_named};
 use sheet::{LoadedSheet, clause_count, param_count};
 use text::is_word;
 
-// Whether an entry has a parameter of the name x.
+// Whether an entry has a parameter of the name x. By the search that tells a parameter's type, whose law is there.
 pub fn is_param(sheet: &LoadedSheet<'_>, entry: usize, x: &[u8]) -> bool
     requires { KindAt kinds.entry sheet.now.lines.now entry }
     ensures { result ≡ among x.now (names (entry_at sheet.now.bytes.now entry).params) }
@@ -33,28 +32,12 @@ pub fn is_param(sheet: &LoadedSheet<'_>, entry: usize, x: &[u8]) -> bool
     .is_some()
 }
 
-// Whether the parameter at line i is a Q_Asset of the name x.
-fn is_asset(sheet: &LoadedSheet<'_>, i: usize, x: &[u8]) -> bool
-    requires { Here sheet.now.lines.now Param i }
-    ensures { result ≡ (is_asset_param (param_at sheet.now.bytes.now i) && same x.now (param_at sheet.now.bytes.now i).name) }
-{
-    if !is_word(x, sheet.name(i)) {
-        return false;
-    }
-    is_word(sheet.name(i + 1), b"Q_Asset")
-}
-
-// Whether one of an entry's parameters is such a one.
+// Whether an entry has a Q_Asset parameter of the name x.
 fn is_asset_param(sheet: &LoadedSheet<'_>, entry: usize, x: &[u8]) -> bool
     requires { KindAt kinds.entry sheet.now.lines.now entry }
     ensures { result ≡ among x.now (asset_params (entry_at sheet.now.bytes.now entry).params) }
 {
-    for at in sheet.records(entry + 1, param_count(sheet.lines, entry)) {
-        if is_asset(sheet, at, x) {
-            return true;
-        }
-    }
-    false
+    has_param(sheet, entry, x, b"Q_Asset")
 }
 
 // Whether an entry has a `mints` clause.
@@ -63,12 +46,9 @@ fn has_mints(sheet: &LoadedSheet<'_>, entry: usize) -> bool
     ensures { result ≡ any is_mints (entry_at sheet.now.bytes.now entry).clauses }
 {
     let first = clauses_line(sheet.lines, entry);
-    for at in sheet.records(first, clause_count(sheet.lines, entry)) {
-        if sheet.is(at, Kind::Mints) {
-            return true;
-        }
-    }
-    false
+    sheet
+        .records(first, clause_count(sheet.lines, entry))
+        .any(|at| sheet.is(at, Kind::Mints))
 }
 
 // Whether `x.amount` is bounded in an entry.
@@ -127,20 +107,9 @@ fn has_target(sheet: &LoadedSheet<'_>, target: usize, value: usize) -> bool
     requires value_at { Here sheet.now.lines.now Expr value }
     ensures { result ≡ is_some (without (expr_at sheet.now.bytes.now target) (sum_terms (expr_at sheet.now.bytes.now value))) }
 {
-    let stop = sheet.end(value);
-    let mut at = value;
-    // The body chooses how far a turn goes, which no iterator of the library lets it.
-    while at < stop {
-        if is_op(sheet.lines, at, BinOp::Add) {
-            at += 1;
-            continue;
-        }
-        if same_target(sheet, target, at) {
-            return true;
-        }
-        at = sheet.end(at);
-    }
-    false
+    any_term(sheet, BinOp::Add, value, |at| {
+        same_target(sheet, target, at)
+    })
 }
 
 // Whether a term of the sum at line value is unbounded; where own, the first that is the target is left out.
@@ -159,9 +128,9 @@ fn has_unbounded(
     let stop = sheet.end(value);
     let mut at = value;
     let mut due = own;
-    // The body chooses how far a turn goes, which no iterator of the library lets it.
+    // The loop of `any_term`, whose test could not change `due` on the way.
     while at < stop {
-        if is_op(sheet.lines, at, BinOp::Add) {
+        if is_op(sheet, at, BinOp::Add) {
             at += 1;
             continue;
         }
@@ -196,7 +165,7 @@ pub fn adds_unbounded(
     }
     match op {
         AssignOp::Set => {
-            is_op(sheet.lines, value, BinOp::Add)
+            is_op(sheet, value, BinOp::Add)
                 && has_target(sheet, target, value)
                 && has_unbounded(sheet, entry, target, value, true)
         }

@@ -30,10 +30,9 @@ fn consumed_asset_calls(sheet: &LoadedSheet<'_>, from: usize, count: usize) -> R
     requires { Row sheet.now.lines.now Expr count from }
     ensures { Answers (for_each (list (exprs_at sheet.now.bytes.now count from)) consumed_asset_call) (done_of sheet.now.bytes.now result) }
 {
-    for at in sheet.records(from, count) {
-        consumed_asset_call(sheet, at)?;
-    }
-    Ok(())
+    sheet
+        .records(from, count)
+        .try_for_each(|at| consumed_asset_call(sheet, at))
 }
 
 // The expression at line i is a statement.
@@ -89,18 +88,16 @@ pub fn clauses_assets(sheet: &LoadedSheet<'_>, from: usize, count: usize) -> Res
     requires { Row sheet.now.lines.now Clause count from }
     ensures { Answers (for_each (clauses_at sheet.now.bytes.now count from) clause_assets) (done_of sheet.now.bytes.now result) }
 {
-    for at in sheet.records(from, count) {
-        clause_assets(sheet, at)?;
-    }
-    Ok(())
+    sheet
+        .records(from, count)
+        .try_for_each(|at| clause_assets(sheet, at))
 }
 
 pub fn body_assets(sheet: &LoadedSheet<'_>, from: usize, count: usize) -> Result<(), Refusal>
     requires { Row sheet.now.lines.now Stmt count from }
     ensures { Answers (for_each (stmts_at sheet.now.bytes.now count from) asset_calls_consumed) (done_of sheet.now.bytes.now result) }
 {
-    for at in sheet.records(from, count) {
-        asset_calls_consumed(sheet, at)?;
-    }
-    Ok(())
+    sheet
+        .records(from, count)
+        .try_for_each(|at| asset_calls_consumed(sheet, at))
 }

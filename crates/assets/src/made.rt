@@ -52,8 +52,7 @@ pub fn no_asset_calls(sheet: &LoadedSheet<'_>, from: usize, count: usize) -> Res
     requires { Row sheet.now.lines.now Expr count from }
     ensures { Answers (for_each (list (exprs_at sheet.now.bytes.now count from)) no_asset_call) (done_of sheet.now.bytes.now result) }
 {
-    for at in sheet.records(from, count) {
-        no_asset_call(sheet, at)?;
-    }
-    Ok(())
+    sheet
+        .records(from, count)
+        .try_for_each(|at| no_asset_call(sheet, at))
 }

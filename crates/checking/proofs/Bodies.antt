@@ -3,7 +3,7 @@ use mathlib.Core.Logic.{◌≢◌}
 use mathlib.Core.Path.{◌≡◌, refl, sym, ap, ◌∙◌}
 use mathlib.Core.List.{List, [], ◌∷◌, ◌++◌, append-nil, map-append}
 use mathlib.Core.Bool.{Bool, true, false, not}
-use Prim.Native.Nat.{ℕ, suc, ◌+◌, ◌-◌, ◌≤◌}
+use Prim.Native.Nat.{ℕ, suc, ◌+◌, ◌-◌, ◌<◌, ◌≤◌}
 use native.Mathlib.Numerals.{add-one}
 use native.Mathlib.Omega.{arith}
 use lib.Dec.{eqb}
@@ -16,7 +16,7 @@ use Rattle.sheet.specs.Scratch.{kind_at, name_at, end_at, skip, emit_arg_count}
 use Rattle.sheet.specs.Tree.{Node, node}
 use Rattle.sheet.proofs.Tested.{tested}
 use Rattle.rules.specs.Ast.{Stmt, guard, bind, emit, assign, do', line, line_after, list}
-use Rattle.rules.specs.Asking.{code, code_r, Res, ok, refused, ◌>>=◌, ◌>>◌}
+use Rattle.rules.specs.Asking.{Rule, code, code_r, Res, ok, ◌>>=◌, ◌>>◌}
 use Rattle.rules.specs.declared.ty.Ty.{Ty}
 use Rattle.rules.specs.declared.ty.Ty.TheVariants.{Collection}
 use Rattle.rules.specs.Kept.{Table, kept, ty_of_mark, ty_from}
@@ -27,12 +27,13 @@ use Rattle.rules.specs.Statements.{check_stmt_types, expect_predicate, refuse_na
 use Rattle.rules.specs.Check.{check_local, check_body}
 use Rattle.rules.specs.Standing.{node_at, nodes_at, expr_at, exprs_at, stmt_at, stmts_at, Loaded, Here, Row}
 use Rattle.rules.proofs.AnyTable.{from_table, first_time}
-use Rattle.rules.proofs.Binding.{kept-length, then_ok, then_refused, kept_assoc, refused_behind}
+use Rattle.rules.proofs.Binding.{and_then, kept_bind, kept-length, then_ok, kept_assoc, refused_behind}
 use Rattle.rules.proofs.Parts.{stop as end', ◌also◌, pick}
 use Rattle.rules.proofs.Records.{guard_at, let_at, emit_at, assign_at, do_at, no_stmts, stmts_next}
 use Rattle.rules.proofs.Rows.{row_some}
-use Rattle.rules.proofs.Standing.{Stands, stands, row_first, nodes_last, row_rest}
-use Rattle.refusals.proofs.Answers.{fits, misfits}
+use Rattle.rules.proofs.Standing.{loaded_sheet, Stands, stands, row_first, nodes_last, row_rest}
+use Rattle.refusals.specs.Answers.{expected}
+use Rattle.refusals.proofs.Answers.{expects}
 use denote.Enum.Bare.{sameb}
 use Rattle.rules.specs.contracts.ty.Ty.{the_type}
 use Rattle.rules.proofs.Keeps.{code_tells}
@@ -41,18 +42,17 @@ use Rattle.lookups.specs.Found.{node_kind, of_kind}
 use Rattle.refusals.specs.Refusal.{refusal_of, done_of}
 use Rattle.refusals.specs.declared.refusal.Refusal.{Refusal}
 use Rattle.refusals.specs.declared.refusal.Refusal.TheVariants.{CollectionLocal}
-use Rattle.env.specs.Answers.{typed_of}
 use Rattle.env.specs.Force.{params_in, env_of, local_of, named_end, lets, ends_in, InForce, bind_next}
 use Rattle.env.proofs.Bound.{bound_in_force}
 use Rattle.env.proofs.Mentioned.{not_stale_at}
 use Rattle.env.specs.declared.env.Env.{Env}
-use Rattle.typing.specs.Asks.{Asks, Types, Does}
+use Rattle.typing.specs.Asks.{Asks, KindIn, Types, Does}
 use Rattle.typing.proofs.Asking.{asks_line}
 use Rattle.typing.proofs.Calls.{did, stopped, does_length}
 use Rattle.typing.proofs.Operators.{gave}
 use Rattle.typing.proofs.Doing.{does_then, does_cut, does_nothing}
 use Rattle.statements.specs.Checked.{StmtIn, StmtOf}
-use Rattle.emits.specs.Emit.{EmitIn, emit_rule}
+use Rattle.emits.specs.Emit.{emit_rule}
 use Rattle.checking.specs.Walk.{no_let, a_let, RoomTyped, stmt_rule, BodyStmt, Binds, StmtDoes, BodyAt}
 use Rattle.checking.proofs.Locals.{lets-append, OnTyped, on_typed}
 use Rattle.grammar.specs.Kinds as kinds
@@ -88,101 +88,86 @@ module _ (s S : List ℕ) (env : Env) (T : Table) (i : ℕ) (loaded : Loaded s S
   let_is : (stmt_at s i ≡ bind (name_at s S i) (expr_at s (suc i))) × Row S grammar.Expr 1 (suc i) × (skip S 1 (suc i) ≡ end_at S i)
   let_is = let_at loaded h.stmt.here h.kind
 
-  pub let_asks : Asks S T (i + 1)
+  let_asks : Asks S T (i + 1)
   let_asks = record { room = h.stmt.room; here = rw (add-one i) (row_first let_is.1) }
 
   module _ (a : Result Ty Refusal) (U : Table) (y : Types s (ty_of (env_of s T env) (expr_at s (i + 1))) T a U) where
-    module _ (c : Ty) (e : a ≡ Ok c) (b : Bool) (f : b ≡ sameb the_type c Collection) where
+    module _ (c : Ty) (e : a ≡ Ok c) (b : Bool) (f : b ≡ not (sameb the_type c Collection)) (r : Result Unit Refusal) (g : r ≡ expected b (CollectionLocal (i + 1))) where
       typed : kept (ty_of (env_of s T env) (expr_at s (suc i))) T ≡ record { res = ok c; table = U }
       typed = rw (← add-one i) (gave s _ T a U y c e)
 
-      pub let_bound : env.next ≡ i → b ≡ false → StmtDoes s S (env_of s T env) i T (Ok tt) U
-      unfolding stmt_rule check_local done_of
-      let_bound n q =
-          let k : kept (check_local (expr_at s (suc i)) c) U ≡ record { res = ok tt; table = U } =
-          (fits (not (eq_ty c Collection)) _ _ _ (rw (← told_ty c Collection b f, q) refl)).answers U in
-          record {
-            does = record { gives = rw let_is.0 (then_ok _ (check_local (expr_at s (suc i))) T U c _ typed k) };
-            binds = λ z w.
-                record { type = c; typed = typed; fits = k; marked = marked_by s S env T (suc i) c U loaded force (rw (add-one i) at let_asks) (omega (arith, n)) typed };
-          }
+      judged : kept (check_local (expr_at s (suc i)) c) U ≡ record { res = done_of s r; table = U }
+      unfolding check_local refusal_of
+      judged =
+          let x : b ≡ not (eq_ty c Collection) = f ∙ ap not (told_ty c Collection _ refl) in
+          (expects s (not (eq_ty c Collection)) (CollectionLocal (suc i)) r (rw (← x, ← add-one i) g)).answers U
 
-      pub let_collection : b ≡ true → StmtDoes s S (env_of s T env) i T (Err (CollectionLocal (i + 1))) U
-      unfolding stmt_rule check_local done_of refusal_of
-      let_collection q =
-          let k : kept (check_local (expr_at s (suc i)) c) U ≡ record { res = refused (refusal_of s (CollectionLocal (suc i))); table = U } =
-          (misfits (not (eq_ty c Collection)) _ _ _ (rw (← told_ty c Collection b f, q) refl)).answers U in
-          record {
-            does = record { gives = rw (let_is.0, add-one i) (then_ok _ (check_local (expr_at s (suc i))) T U c _ typed k) };
-            binds = λ z w. absurd (let v : ◌≡◌ {A = ℕ} 0 1 = cc in omega arith);
-          }
-
-    pub let_refused : (r : Refusal) → a ≡ Err r → StmtDoes s S (env_of s T env) i T (Err r) U
-    unfolding stmt_rule done_of typed_of
-    let_refused r e =
-        record {
-          does = record { gives = rw let_is.0 (then_refused _ (check_local (expr_at s (suc i))) T U (refusal_of s r) (rw (← add-one i) (y.gives ∙ rw e refl))) };
-          binds = λ z w. absurd (let v : ◌≡◌ {A = ℕ} 0 1 = cc in omega arith);
-        }
-
--- a statement that binds nothing
-other : {s S : List ℕ} {Γ : typing.Env} {i : ℕ} {T U : Table} {r : Result Unit Refusal} → kind_at S i ≢ kinds.let' → Does s (stmt_rule Γ (stmt_at s i)) T r U → StmtDoes s S Γ i T r U
-other n d = record { does = d; binds = λ z w. absurd (n w) }
-
-module _ (s S : List ℕ) (env : Env) (T : Table) (i : ℕ) (loaded : Loaded s S) (force : InForce S env) (typed : RoomTyped s S env T) (h : Here S grammar.Stmt i) (q : kind_at S i ≡ kinds.do') where
-  do_is : (stmt_at s i ≡ do' (expr_at s (suc i))) × Row S grammar.Expr 1 (suc i) × (skip S 1 (suc i) ≡ end_at S i)
-  do_is = do_at loaded h q
-
-  pub do_types : StmtIn S T i
-  do_types = record { room = typed.room; here = h }
-
-  module _ (d : Result Unit Refusal) (U : Table) (a : Does s (check_stmt_types (env_of s T env) (stmt_at s i)) T d U) where
-    pub do_no : (x : Refusal) → d ≡ Err x → StmtDoes s S (env_of s T env) i T (Err x) U
-    unfolding stmt_rule
-    do_no x e = other (omega (arith, q)) (rw do_is.0 (does_cut s _ _ T d U (rw do_is.0 at a) x e))
-
-    module _ (e : d ≡ Ok tt) where
-      on : OnTyped s S env T U
-      on = on_typed s S env T U _ tt typed (did s _ T d U a.gives e)
-
-      pub do_asks : Asks S U (i + 1)
-      do_asks = record { room = on.on.room; here = rw (add-one i) (row_first do_is.1) }
-
-      pub do_ok : (r : Result Unit Refusal) (W : Table) → Does s (refuse_name_recipient (env_of s U env) (expr_at s (i + 1))) U r W → StmtDoes s S (env_of s T env) i T r W
+      pub let_judged : env.next ≡ i → StmtDoes s S (env_of s T env) i T r U
       unfolding stmt_rule
-      do_ok r W k =
-          other (omega (arith, q))
-          (rw do_is.0 (does_then s _ _ T d U (rw do_is.0 at a) e r W (rw (← on.on.same, ← add-one i) k)))
+      let_judged n =
+          record {
+            does = record { gives = rw let_is.0 (then_ok _ (check_local (expr_at s (suc i))) T U c _ typed judged) };
+            binds = λ z w.
+                record {
+                  type = c;
+                  typed = typed;
+                  fits = did s _ U r U judged z;
+                  marked = marked_by s S env T (suc i) c U loaded force (rw (add-one i) at let_asks) (omega (arith, n)) typed;
+                };
+          }
+
+-- what the rule of a statement does, by its kind
+module _ {s S : List ℕ} {i : ℕ} (loaded : Loaded s S) (h : Here S grammar.Stmt i) (Γ : typing.Env) (T : Table) where
+  pub guard_is : kind_at S i ≡ kinds.guard → kept (stmt_rule Γ (stmt_at s i)) T ≡ kept (expect_predicate Γ (expr_at s (suc i))) T
+  unfolding stmt_rule
+  guard_is q = rw (guard_at loaded h q).0 refl
+
+  pub let_steps : kind_at S i ≡ kinds.let' → kept (stmt_rule Γ (stmt_at s i)) T ≡ and_then (kept (ty_of Γ (expr_at s (suc i))) T) (λ t U. kept (check_local (expr_at s (suc i)) t) U)
+  unfolding stmt_rule
+  let_steps q = rw (let_at loaded h q).0 (kept_bind _ _ T)
+
+  pub emit_is : kind_at S i ≡ kinds.emit → kept (stmt_rule Γ (stmt_at s i)) T ≡ kept (emit_rule Γ (name_at s S i) (list (exprs_at s (emit_arg_count S i) (suc i)))) T
+  unfolding stmt_rule
+  emit_is q = rw (emit_at loaded h q).0 refl
+
+  pub assign_is : kind_at S i ≡ kinds.assign → kept (stmt_rule Γ (stmt_at s i)) T ≡ kept (check_stmt_types Γ (stmt_at s i)) T
+  unfolding stmt_rule
+  assign_is q = rw (assign_at loaded h q).0 refl
+
+  pub do_steps : kind_at S i ≡ kinds.do' → kept (stmt_rule Γ (stmt_at s i)) T ≡ and_then (kept (check_stmt_types Γ (stmt_at s i)) T) (λ _ U. kept (refuse_name_recipient Γ (expr_at s (suc i))) U)
+  unfolding stmt_rule
+  do_steps q = rw (do_at loaded h q).0 (kept_bind _ _ T)
+
+-- a rule that ends leaves in force what was
+pub same_on : (s S : List ℕ) (env : Env) (T : Table) (t : Stmt) (U : Table) → RoomTyped s S env T → kept (check_stmt_types (env_of s T env) t) T ≡ record { res = ok tt; table = U } → env_of s U env ≡ env_of s T env
+same_on s S env T t U h e = (on_typed s S env T U _ tt h e).on.same
+
+-- a statement but an `emit` has an expression first
+pub stmt_expr : {s S : List ℕ} {i : ℕ} → Loaded s S → Here S grammar.Stmt i → kind_at S i ≢ kinds.emit → (kinds.guard ≤ kind_at S i) × Here S grammar.Expr (suc i)
+stmt_expr {s} {S} {i} d h n = (
+  h.kind.0,
+  pick {P = λ k. kind_at S i ≡ k → Here S grammar.Expr (suc i)} {i = kinds.guard} {n = 5} (kind_at S i)
+      ((λ e. row_first (guard_at d h e).1)
+      also (λ e. row_first (let_at d h e).1)
+      also (λ e. absurd (n e))
+      also (λ e. row_first (assign_at d h e).1)
+      also (λ e. row_first (do_at d h e).1)
+      also end')
+      h.kind.0 h.kind.1 refl,
+)
 
 module _ (s S : List ℕ) (env : Env) (T : Table) (i : ℕ) (loaded : Loaded s S) (force : InForce S env) (h : BodyStmt s S env T i) where
-  pub guard_asks : kind_at S i ≡ kinds.guard → Asks S T (i + 1)
-  guard_asks q = record { room = h.typed.room; here = rw (add-one i) (row_first (guard_at loaded h.here q).1) }
-
-  pub guard_does : (r : Result Unit Refusal) (U : Table) → kind_at S i ≡ kinds.guard → Does s (expect_predicate (env_of s T env) (expr_at s (i + 1))) T r U → StmtDoes s S (env_of s T env) i T r U
-  unfolding stmt_rule
-  guard_does r U q a = other (omega (arith, q)) (rw ((guard_at loaded h.here q).0, ← add-one i) a)
-
   pub stmt_let : kind_at S i ≡ kinds.let' → StmtOf kinds.let' S T i
   stmt_let q = record { stmt = record { room = h.typed.room; here = h.here }; kind = q }
 
   pub stmt_do : kind_at S i ≢ kinds.guard → kind_at S i ≢ kinds.let' → kind_at S i ≢ kinds.emit → kind_at S i ≢ kinds.assign → kind_at S i ≡ kinds.do'
   stmt_do a b c d = omega (arith, h.here.kind.0, h.here.kind.1)
 
-  pub emit_in : kind_at S i ≡ kinds.emit → EmitIn S T i
+  pub emit_in : kind_at S i ≡ kinds.emit → KindIn kinds.emit S T i
   emit_in q = record { room = h.typed.room; within = h.here.within; kind = q }
-
-  pub emit_does : (r : Result Unit Refusal) (U : Table) → kind_at S i ≡ kinds.emit → Does s (emit_rule (env_of s T env) (name_at s S i) (list (exprs_at s (emit_arg_count S i) (suc i)))) T r U → StmtDoes s S (env_of s T env) i T r U
-  unfolding stmt_rule
-  emit_does r U q a = other (omega (arith, q)) (rw (emit_at loaded h.here q).0 a)
 
   pub assign_in : kind_at S i ≡ kinds.assign → StmtIn S T i
   assign_in q = record { room = h.typed.room; here = h.here }
-
-  pub assign_does : (r : Result Unit Refusal) (U : Table) → kind_at S i ≡ kinds.assign → Does s (check_stmt_types (env_of s T env) (stmt_at s i)) T r U → StmtDoes s S (env_of s T env) i T r U
-  unfolding stmt_rule
-  assign_does r U q a =
-      let t = (assign_at loaded h.here q).0 in
-      other (omega (arith, q)) (rw t (rw t at a))
 
 -- ------------------------------------------------------------ statements one behind another
 
@@ -302,9 +287,6 @@ module _ (s S : List ℕ) (env : Env) (T : Table) (left : ℕ) (loaded : Loaded 
   pub body_here : Here S grammar.Stmt at
   body_here = here
 
-  pub body_some : 1 ≤ left
-  body_some = omega arith
-
   -- `check_body` from this statement on, in which the rest is checked
   stmts_are : stmts_at s left at ≡ stmt_at s at ∷ stmts_at s (left - 1) (end_at S at)
   stmts_are = ap (λ k. stmts_at s k at) (let y : left ≡ suc (left - 1) = omega arith in y) ∙ stmts_next loaded (left - 1) here.within
@@ -366,12 +348,47 @@ module _ (s S : List ℕ) (env : Env) (T : Table) (left : ℕ) (loaded : Loaded 
       unfolding bind_next
       body_ok r W k = behind.steps r W (rw (← behind.grows.is) k)
 
-pub body_none : (s S : List ℕ) (T : Table) (Γ : typing.Env) (left at : ℕ) → left ≡ 0 → Does s (check_body Γ (stmts_at s left at)) T (Ok tt) T
-unfolding check_body
-body_none s S T Γ left at e = rw (e, no_stmts s at) (does_nothing s T)
+-- ------------------------------------------------------------ what is left of a body
+
+-- What answers for the m statements behind those that are bound in env, on the table T, answers for the whole, which began on T₀.
+pub record BodyLeft (s₀ : List ℕ) (whole : Rule Unit) (T₀ : Table) (s S : List ℕ) (env : Env) (T : Table) (m : ℕ) : Type 0 where
+  pub body : BodyAt s S env T m
+  pub whole_by : (r : Result Unit Refusal) (W : Table) → Does s (check_body (env_of s T env) (stmts_at s m env.next)) T r W → Does s₀ whole T₀ r W
+
+pub left_start : (s S : List ℕ) (env : Env) (T : Table) (m : ℕ) → BodyAt s S env T m → BodyLeft s (check_body (env_of s T env) (stmts_at s m env.next)) T s S env T (m - 0)
+left_start s S env T m h = let z : m - 0 ≡ m = omega arith in record { body = rw z h; whole_by = λ r W k. rw z at k }
+
+module _ {s₀ : List ℕ} {whole : Rule Unit} {T₀ : Table} {s S : List ℕ} {env : Env} {T : Table} {m i : ℕ} (w : BodyLeft s₀ whole T₀ s S env T (m - i)) where
+  pub left_over : m ≤ i → Does s₀ whole T₀ (Ok tt) T
+  unfolding check_body
+  left_over l =
+      let e : m - i ≡ 0 = omega arith in
+      w.whole_by (Ok tt) T (rw (e, no_stmts s env.next) (does_nothing s T))
+
+  module _ (loaded : Loaded s S) (force : InForce S env) (l : i < m) where
+    some : m - i ≢ 0
+    some = omega arith
+
+    pub left_stmt : BodyStmt s S env T env.next
+    left_stmt = body_stmt s S env T (m - i) loaded force w.body some
+
+    pub left_here : Here S grammar.Stmt env.next
+    left_here = body_here s S env T (m - i) loaded force w.body some
+
+    module _ (o : Result Unit Refusal) (U : Table) (does : StmtDoes s S (env_of s T env) env.next T o U) where
+      pub left_refused : (x : Refusal) → o ≡ Err x → Does s₀ whole T₀ (Err x) U
+      left_refused x e = w.whole_by (Err x) U (body_no s S env T (m - i) loaded force w.body some o U does x e)
+
+      pub left_next : o ≡ Ok tt → BodyLeft s₀ whole T₀ s S (bind_next S env) U (m - (i + 1))
+      left_next e =
+          let z : m - (i + 1) ≡ m - i - 1 = omega arith in
+          record {
+            body = rw z (body_rest s S env T (m - i) loaded force w.body some o U does e);
+            whole_by = λ r W k. w.whole_by r W (body_ok s S env T (m - i) loaded force w.body some o U does e r W (rw z at k));
+          }
 
 pub stmt_length : (s S : List ℕ) (Γ : typing.Env) (i : ℕ) (T : Table) (r : Result Unit Refusal) (U : Table) → StmtDoes s S Γ i T r U → length U ≡ length T
 stmt_length s S Γ i T r U a = does_length s _ T r U a.does
 
--- what `check_stmt` asks of its calls, and that they keep the length of the table
-pub ruleset stmt_needs = (tested, stmt_let, stmt_do, emit_in, assign_in, stmt_length, does_length)
+-- what `check_stmt`, `check_let` and `check_do` do and ask of their calls, and that these keep the length of the table
+pub ruleset stmt_needs = (tested, loaded_sheet, stmt_let, stmt_do, emit_in, assign_in, stmt_length, does_length, guard_is, let_steps, emit_is, assign_is, do_steps, same_on, stmt_expr)

@@ -1,5 +1,5 @@
-pub mod Each
 pub mod Locals
+pub mod Steps
 pub mod Recording
 pub mod Bodies
 pub mod Entries

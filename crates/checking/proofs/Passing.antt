@@ -18,7 +18,7 @@ use Rattle.sheet.specs.Tree.{take_nodes}
 use Rattle.rules.specs.Ast.{Param, Expr, Field, Stmt, Event, Entry, nodes, field_of, stmt_of, item_of, event_of, entry_of}
 use Rattle.rules.specs.Standing.{field_at, stmt_at, stmts_at, param_at, next, node_at, nodes_at, expr_at, params_at, event_at, entry_at, model_in, Loaded, Here, Row, stop as none'}
 use Rattle.rules.proofs.Rows.{Listed, params, stmts}
-use Rattle.rules.proofs.Standing.{row_nth, Stands, stands, nodes_next, row_first}
+use Rattle.rules.proofs.Standing.{loaded_sheet, row_nth, Stands, stands, nodes_next, row_first}
 use Rattle.rules.specs.Asking.{Rule, ◌>>=◌, for_each}
 use Rattle.rules.specs.Kept.{Table, kept}
 use Rattle.rules.specs.Model.{Model, item_model, joined, build}
@@ -38,11 +38,13 @@ use Rattle.env.specs.Force.{env_of, params_in, lets, ends_in, new, in_genesis}
 use Rattle.sheet.specs.declared.loaded_sheet.LoadedSheet.{LoadedSheet}
 use Rattle.env.specs.declared.env.Env.{Env}
 use Rattle.typing.proofs.Doing.{does_nothing, does_then, does_cut, asks_none}
-use Rattle.typing.specs.Asks.{Asks, Does}
+use Rattle.typing.specs.Asks.{KindIn, Does}
 use Rattle.statements.specs.Checked.{StmtIn}
-use Rattle.checking.specs.Each.{Step, Post, Gives, GivesOf, its_kind, other_kind, GivesEach, over, refused, onward}
-use Rattle.checking.specs.Walk.{KindIn, SheetIn, EntryIn, ScopeIn}
-use Rattle.checking.proofs.Each.{EachLeft, each_here, each_refused, each_onward, DoesEach, does_at, each_does}
+use Rattle.typing.specs.Each.{Step, Post, Gives, GivesEach, over, refused, onward}
+use Rattle.typing.proofs.Each.{EachLeft, each_here, each_refused, each_onward, DoesEach, does_at, each_does}
+use Rattle.checking.specs.Each.{GivesOf, its_kind, other_kind}
+use Rattle.checking.specs.Walk.{SheetIn, EntryIn, ScopeIn}
+use Rattle.checking.proofs.Steps.{kept_then}
 
 -- ------------------------------------------------------------ parts of a model
 
@@ -185,7 +187,7 @@ module _ {A : Type 0} {get : Model → List A} {k : ℕ} (part : PartOf get k) (
   pub model_does : {T : Table} {r : Result Unit Refusal} {U : Table} → GivesEach (GivesOf k S (Gives post)) S (item_count S 0) 1 T r U → Does s (for_each (get (model_in s)) rule) T r U
   model_does g = rw (items_at d).0 (items_do (items_at d).1 g)
 
-new_env : (s : List ℕ) (T : Table) → env_of s T (new 0 0) ≡ typing.new (model_in s) []
+pub new_env : (s : List ℕ) (T : Table) → env_of s T (new 0 0) ≡ typing.new (model_in s) []
 unfolding new env_of params_in lets nodes_at take_nodes nodes of_kind ends_in typing.new param_types
 new_env s T = refl
 
@@ -248,51 +250,45 @@ module _ (s S : List ℕ) (T : Table) (i : ℕ) (loaded : Loaded s S) (h : KindI
   stmts_do env f r U g q =
       rw genesis_is.0 (each_does stmts (check_genesis (typing.in_genesis (typing.new (model_in s) []))) loaded (λ j T' x V p. rw (f, genesis_env s T') at (does_at (λ T' j. check_genesis (env_of s T' env) (stmt_at s j)) q j T' x V p)) genesis_is.1 g)
 
-module _ (s S : List ℕ) (T : Table) (i : ℕ) (loaded : Loaded s S) (h : KindIn kinds.invariant S T i) where
-  invariant-is : (model_here s i ≡ of_invariant (expr_at s (suc i) ∷ [])) × Row S grammar.Expr 1 (suc i)
-  invariant-is = invariant-model loaded h.within h.kind
+module _ {s S : List ℕ} {T : Table} {i : ℕ} (loaded : Loaded s S) (h : KindIn kinds.invariant S T i) where
+  pub invariant-expr : (kind_at S i ≡ kinds.invariant) × Here S grammar.Expr (suc i)
+  invariant-expr = (h.kind, row_first (invariant-model loaded h.within h.kind).1)
 
-  pub invariant-asks : Asks S T (i + 1)
-  invariant-asks = record { room = h.room; here = rw (add-one i) (row_first invariant-is.1) }
+  pub invariant-is : (Γ : typing.Env) → kept (for_each (model_here s i).invariants (expect_predicate Γ)) T ≡ kept (expect_predicate Γ (expr_at s (suc i))) T
+  invariant-is Γ = rw (invariant-model loaded h.within h.kind).0 (one (expect_predicate Γ) (expr_at s (suc i)) T)
 
-  pub invariant-does : (env : Env) → env ≡ new 0 0 → (r : Result Unit Refusal) (U : Table) → Does s (expect_predicate (env_of s T env) (expr_at s (i + 1))) T r U
-      → Does s (for_each (model_here s i).invariants (expect_predicate (typing.new (model_in s) []))) T r U
-  invariant-does env f r U a =
-      record { gives = rw invariant-is.0 (one (expect_predicate (typing.new (model_in s) [])) (expr_at s (suc i)) T ∙ rw (← new_env s T, ← f, ← add-one i) a.gives) }
+pub ruleset invariant_needs = (loaded_sheet, new_env, invariant-expr, invariant-is)
 
 -- the parameters of an event or an entry, of which no type is asked
-module _ {s S : List ℕ} {T : Table} {m : ℕ} (i : ℕ) (d : Loaded s S) (w : Row S grammar.Param m (i + 1)) (rule : Param → Rule Unit) {r : Result Unit Refusal} {U : Table} {post : Post}
-    (g : GivesEach (Gives post) S m (i + 1) T r U)
-    (answers : (shown : MutBor Table) (j : ℕ) (x : Result Unit Refusal) (left : MutBor Table) → post shown j x left → Answers (rule (param_at s j)) (done_of s x))
-    (same : (shown : MutBor Table) (j : ℕ) (x : Result Unit Refusal) (left : MutBor Table) → post shown j x left → left.now ≡ shown.now) where
-  pub params_do : Does s (for_each (params_at s m (i + 1)) rule) T r U
-  params_do =
-      each_does params rule d (λ j T' x V p. does_at {s = s} (λ _ j. rule (param_at s j)) (λ shown j x left q. rw (same shown j x left q) (asks_none s _ shown.now x (answers shown j x left q))) j T' x V p) w g
+module _ (s S : List ℕ) (i : ℕ) (m : ℕ) (em : m ≡ param_count S i) {T : Table} {r : Result Unit Refusal} {U : Table} {post : Post} (loaded : Loaded s S) (g : GivesEach (Gives post) S m (i + 1) T r U) where
+  abbrev Answered : (Param → Rule Unit) → Type 0
+  Answered rule = (shown : MutBor Table) (j : ℕ) (x : Result Unit Refusal) (left : MutBor Table) → post shown j x left → Answers (rule (param_at s j)) (done_of s x)
 
-module _ (s S : List ℕ) (i : ℕ) (m : ℕ) (em : m ≡ param_count S i) where
-  module _ (loaded : Loaded s S) (h : KindAt kinds.event S i) where
-    pub event_is : ((event_at s i).params ≡ params_at s m (i + 1)) × Row S grammar.Param m (i + 1)
-    event_is = let l = event_at_lem loaded h.within h.kind in rw (em, add-one i) (ap (λ (x : Event). x.params) l.0, l.1)
+  abbrev Leaves : Type 0
+  Leaves = (shown : MutBor Table) (j : ℕ) (x : Result Unit Refusal) (left : MutBor Table) → post shown j x left → left.now ≡ shown.now
 
-    pub event_param : (k : ℕ) → k < m → Here S grammar.Param (skip S k (i + 1))
-    event_param k l = row_nth k l event_is.1
+  params_do : (rule : Param → Rule Unit) → Row S grammar.Param m (i + 1) → Answered rule → Leaves → Does s (for_each (params_at s m (i + 1)) rule) T r U
+  params_do rule w answers same =
+      each_does params rule loaded (λ j T' x V p. does_at {s = s} (λ _ j. rule (param_at s j)) (λ shown j x left q. rw (same shown j x left q) (asks_none s _ shown.now x (answers shown j x left q))) j T' x V p) w g
 
-    pub event_does : (T : Table) (r : Result Unit Refusal) (U : Table) → Does s (for_each (params_at s m (i + 1)) check_event_param) T r U
-        → Does s (for_each (model_here s i).events (λ e. for_each e.params check_event_param)) T r U
-    event_does T r U a =
-        record { gives = rw (event_model loaded h.within h.kind) (one (λ x. for_each x.params check_event_param) (event_at s i) T ∙ rw event_is.0 a.gives) }
+  pub event_does : KindAt kinds.event S i → Answered check_event_param → Leaves → Does s (for_each (model_here s i).events (λ e. for_each e.params check_event_param)) T r U
+  event_does h answers same =
+      let l = event_at_lem loaded h.within h.kind in
+      let all : (event_at s i).params ≡ params_at s m (i + 1) = rw (em, add-one i) (ap (λ (x : Event). x.params) l.0) in
+      record { gives = rw (event_model loaded h.within h.kind) (one (λ x. for_each x.params check_event_param) (event_at s i) T ∙ rw all (params_do check_event_param (rw (em, add-one i) l.1) answers same).gives) }
 
-  module _ (loaded : Loaded s S) (h : KindAt kinds.entry S i) where
-    pub entry_is : ((entry_at s i).params ≡ params_at s m (i + 1)) × Row S grammar.Param m (i + 1)
-    entry_is = let l = entry_at_lem loaded h.within h.kind in rw (em, add-one i) (ap (λ (x : Entry). x.params) l.is, l.params)
+  pub entry_params_do : KindAt kinds.entry S i → Answered check_entry_param → Leaves → Does s (for_each (model_here s i).entries (λ e. for_each e.params check_entry_param)) T r U
+  entry_params_do h answers same =
+      let l = entry_at_lem loaded h.within h.kind in
+      let all : (entry_at s i).params ≡ params_at s m (i + 1) = rw (em, add-one i) (ap (λ (x : Entry). x.params) l.is) in
+      record { gives = rw (entry_model loaded h.within h.kind) (one (λ x. for_each x.params check_entry_param) (entry_at s i) T ∙ rw all (params_do check_entry_param (rw (em, add-one i) l.params) answers same).gives) }
 
-    pub entry_param : (k : ℕ) → k < m → Here S grammar.Param (skip S k (i + 1))
-    entry_param k l = row_nth k l entry_is.1
+module _ (s S : List ℕ) (i : ℕ) (m : ℕ) (em : m ≡ param_count S i) (loaded : Loaded s S) where
+  pub event_param : KindAt kinds.event S i → (k : ℕ) → k < m → Here S grammar.Param (skip S k (i + 1))
+  event_param h k l = row_nth k l (rw (em, add-one i) (event_at_lem loaded h.within h.kind).1)
 
-    pub entry_params_do : (T : Table) (r : Result Unit Refusal) (U : Table) → Does s (for_each (params_at s m (i + 1)) check_entry_param) T r U
-        → Does s (for_each (model_here s i).entries (λ e. for_each e.params check_entry_param)) T r U
-    entry_params_do T r U a =
-        record { gives = rw (entry_model loaded h.within h.kind) (one (λ x. for_each x.params check_entry_param) (entry_at s i) T ∙ rw entry_is.0 a.gives) }
+  pub entry_param : KindAt kinds.entry S i → (k : ℕ) → k < m → Here S grammar.Param (skip S k (i + 1))
+  entry_param h k l = row_nth k l (rw (em, add-one i) (entry_at_lem loaded h.within h.kind).params)
 
 pub entry_does : {s S : List ℕ} → Loaded s S → {i : ℕ} {T : Table} {r : Result Unit Refusal} {U : Table} → Here S grammar.Item i → kind_at S i ≡ kinds.entry
     → Does s (check_entry (model_in s) (entry_at s i)) T r U → Does s (for_each (model_here s i).entries (check_entry (model_in s))) T r U
@@ -324,12 +320,7 @@ sheet_room S T h U e = rw e h.room
 pub room_as : (S : List ℕ) (T : Table) → line_count S ≤ length T → (U : Table) → length U ≡ length T → line_count S ≤ length U
 room_as S T h U e = rw e h
 
--- what `before_entries` and `check` ask of their calls
-pub ruleset sheet_needs = (sheet_as, few_lines, sheet_room, room_as)
+-- what `before_entries` does and asks of its calls, and `check`
+pub ruleset room_needs = (kept_then, room_as)
 
--- a rule behind another, and one that refuses
-pub behind : {s : List ℕ} {p q : Rule Unit} {T U W : Table} {d r : Result Unit Refusal} → Does s p T d U → d ≡ Ok tt → Does s q U r W → Does s (p >>= λ _. q) T r W
-behind {s} {p} {q} {T} {U} {W} {d} {r} a e k = does_then s p q T d U a e r W k
-
-pub cut : {s : List ℕ} {p : Rule Unit} (q : Rule Unit) {T U : Table} {d : Result Unit Refusal} {x : Refusal} → Does s p T d U → d ≡ Err x → Does s (p >>= λ _. q) T (Err x) U
-cut {s} {p} q {T} {U} {d} {x} a e = does_cut s p q T d U a x e
+pub ruleset sheet_needs = (kept_then, sheet_as, few_lines, sheet_room)

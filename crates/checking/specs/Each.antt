@@ -1,43 +1,18 @@
--- A step that is called at each of the records of a row, until it refuses.
-use Rattle.std.specs.Prelude.{ℕ, suc, ◌<◌, List, ◌≡◌, ◌≢◌, length, Result, Ok, Err}
+-- A step that is called at each item of a kind, until it refuses.
+use Rattle.std.specs.Prelude.{ℕ, List, ◌≡◌, ◌≢◌, length, Result, Ok}
 use Rattle.grammar.specs.Grammar as grammar
-use Rattle.sheet.specs.Scratch.{kind_at, end_at, skip}
+use Rattle.sheet.specs.Scratch.{kind_at}
 use Rattle.rules.specs.Kept.{Table}
 use Rattle.rules.specs.Standing.{Here}
 use Rattle.refusals.specs.declared.refusal.Refusal.{Refusal}
+use Rattle.typing.specs.Each.{Step}
 use denote.Ref.{MutBor}
 
--- what a step answers and leaves at a line, with a table
-abbrev pub Step : Type 1
-Step = ℕ → Table → Result Unit Refusal → Table → Type 0
-
--- what a step promises of a call with a table and a line
-abbrev pub Post : Type 1
-Post = MutBor Table → ℕ → Result Unit Refusal → MutBor Table → Type 0
-
--- a step may be called at each of m records, the first at line i, with a table of the length of T
-abbrev pub TakesEach : (MutBor Table → ℕ → Type 0) → List ℕ → Table → (m i : ℕ) → Type 0
-TakesEach pre S T m i = (shown : MutBor Table) (k : ℕ) → length shown.now ≡ length T → k < m → pre shown (skip S k i)
-
--- ... at each item of kind k
+-- a step may be called at each item of kind k, with a table of the length of T
 abbrev pub TakesItems : (MutBor Table → ℕ → Type 0) → List ℕ → Table → (k : ℕ) → Type 0
 TakesItems pre S T k = (shown : MutBor Table) (i : ℕ) → length shown.now ≡ length T → Here S grammar.Item i → kind_at S i ≡ k → pre shown i
 
--- a call of the step may answer r and leave U
-pub record Gives (post : Post) (i : ℕ) (T : Table) (r : Result Unit Refusal) (U : Table) : Type 0 where
-  pub shown : MutBor Table
-  pub shows : shown.now ≡ T
-  pub left : MutBor Table
-  pub met : post shown i r left
-  pub leaves : left.now ≡ U
-
--- ... where the record is of kind k; another is passed over
+-- what the step answers and leaves where the record is of kind k; another is passed over
 pub data GivesOf (k : ℕ) (S : List ℕ) (P : Step) : ℕ → Table → Result Unit Refusal → Table → Type 0 where
   its_kind : {i : ℕ} {T U : Table} {r : Result Unit Refusal} → kind_at S i ≡ k → P i T r U → GivesOf k S P i T r U
   other_kind : {i : ℕ} {T : Table} → kind_at S i ≢ k → GivesOf k S P i T (Ok tt) T
-
--- the step at m records, the first at line i, until it refuses
-pub data GivesEach (P : Step) (S : List ℕ) : (m i : ℕ) → Table → Result Unit Refusal → Table → Type 0 where
-  over : {i : ℕ} {T : Table} → GivesEach P S 0 i T (Ok tt) T
-  refused : {m i : ℕ} {T U : Table} {x : Refusal} → P i T (Err x) U → GivesEach P S (suc m) i T (Err x) U
-  onward : {m i : ℕ} {T U W : Table} {r : Result Unit Refusal} → P i T (Ok tt) U → GivesEach P S m (end_at S i) U r W → GivesEach P S (suc m) i T r W

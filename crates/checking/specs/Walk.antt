@@ -18,7 +18,7 @@ use Rattle.rules.specs.Check.{clause_predicate, clause_assets, param_types, chec
 use Rattle.rules.specs.Standing.{expr_at, stmt_at, Here, Row}
 use Rattle.env.specs.Force.{lets, new}
 use Rattle.env.specs.declared.env.Env.{Env}
-use Rattle.typing.specs.Asks.{Does}
+use Rattle.typing.specs.Asks.{KindIn, Does}
 use Rattle.emits.specs.Emit.{emit_rule}
 use Rattle.grammar.specs.Kinds as kinds
 use Rattle.sheet.specs.Line.{most_lines}
@@ -45,12 +45,6 @@ pub record SheetIn (S : List ℕ) (T : Table) : Type 0 where
   pub room : line_count S ≤ length T
 
 -- ------------------------------------------------------------ fields, clauses, and statements of genesis
-
--- a record of kind k
-pub record KindIn (k : ℕ) (S : List ℕ) (T : Table) (i : ℕ) : Type 0 where
-  pub room : line_count S ≤ length T
-  pub within : i < line_count S
-  pub kind : kind_at S i ≡ k
 
 -- a clause
 pub record ClauseIn (S : List ℕ) (T : Table) (i : ℕ) : Type 0 where

@@ -11,16 +11,15 @@ ghost use Rattle.rules.specs.Typing as typing;
 ghost use Rattle.sheet.specs.Scratch.{item_count, line_count};
 ghost use Rattle.lookups.specs.Lines.{KindAt};
 ghost use Rattle.typing.specs.Asks.{Does};
-ghost use Rattle.checking.specs.Each.{Gives, GivesEach, GivesOf, TakesItems};
+ghost use Rattle.typing.specs.Each.{Gives, GivesEach};
+ghost use Rattle.checking.specs.Each.{GivesOf, TakesItems};
 ghost use Rattle.env.specs.Force.{in_genesis, new};
 ghost use Rattle.checking.specs.Walk.{ScopeIn, SheetIn};
 ghost use Rattle.grammar.specs.Kinds as kinds;
 ghost use Rattle.grammar.specs.Coded.{kind_number};
 
 use crate::entry::check_entry;
-use crate::records::{
-    check_entry_param, check_event_param, check_field, check_genesis, check_records,
-};
+use crate::records::{check_entry_param, check_event_param, check_field, check_genesis};
 use declarations::guardian_fields;
 use env::Scope;
 use grammar::Kind;
@@ -28,6 +27,7 @@ use key_kinds::check_key_kinds;
 use refusals::Refusal;
 use sheet::{LoadedSheet, field_count, genesis_count, item_count, param_count};
 use statements::expect_predicate;
+use typing::check_records;
 
 // The step that is given, at each item of a kind in the order of the sheet, until it refuses.
 fn check_items<F: Fn(&mut [u8], usize) -> Result<(), Refusal>>(
@@ -61,7 +61,7 @@ fn state_fields(scope: &Scope<'_>, table: &mut [u8], i: usize) -> Result<(), Ref
     )
 }
 
-// The fields of all states. Here and in the passes below, the walk goes over the scope's own sheet, of which its steps speak.
+// The fields of all states. Where a pass has a scope, here and below, the walk goes over the scope's own sheet, of which its steps speak.
 #[tactic(auto, using(crate::proofs::Passing::items_in))]
 fn check_fields(sheet: &LoadedSheet<'_>, table: &mut [u8]) -> Result<(), Refusal>
     requires { line_count sheet.now.lines.now ≤ length table.old }
@@ -99,7 +99,7 @@ fn check_events(sheet: &LoadedSheet<'_>, table: &mut [u8]) -> Result<(), Refusal
     )
 }
 
-// The parameters of the entry at line i.
+// The parameters of the entry at line i. Those of events and of entries are two rules of `check`, and so two passes.
 fn entry_params(sheet: &LoadedSheet<'_>, table: &mut [u8], i: usize) -> Result<(), Refusal>
     requires { KindAt kinds.entry sheet.now.lines.now i }
     ensures { Does sheet.now.bytes.now (for_each (item_model (item_of (node_at sheet.now.bytes.now i))).entries (λ e. for_each e.params check_entry_param)) table.old result table.new }
@@ -123,6 +123,7 @@ fn check_params(sheet: &LoadedSheet<'_>, table: &mut [u8]) -> Result<(), Refusal
 }
 
 // The condition of the invariant at line i.
+#[tactic(auto, using(crate::proofs::Passing::invariant_needs))]
 fn check_invariant(scope: &Scope<'_>, table: &mut [u8], i: usize) -> Result<(), Refusal>
     requires { ScopeIn kinds.invariant (new 0 0) scope.now.sheet.lines.now scope.now.env table.old i }
     ensures { let s = scope.now.sheet.bytes.now in Does s (for_each (item_model (item_of (node_at s i))).invariants (expect_predicate (typing.new (model_in s) []))) table.old result table.new }
@@ -189,7 +190,7 @@ fn check_entries(sheet: &LoadedSheet<'_>, table: &mut [u8]) -> Result<(), Refusa
 }
 
 // What comes before the first entry.
-#[tactic(auto, using(crate::proofs::Passing::sheet_needs))]
+#[tactic(auto, using(crate::proofs::Passing::room_needs), unfolding(rules::specs::Check::before_entries, rules::proofs::Binding::and_then, refusals::specs::Refusal::done_of))]
 pub fn before_entries(sheet: &LoadedSheet<'_>, table: &mut [u8]) -> Result<(), Refusal>
     requires { line_count sheet.now.lines.now ≤ length table.old }
     ensures { Does sheet.now.bytes.now (before_entries (model_in sheet.now.bytes.now)) table.old result table.new }
@@ -203,7 +204,7 @@ pub fn before_entries(sheet: &LoadedSheet<'_>, table: &mut [u8]) -> Result<(), R
 
 // The rules on a sheet that is read: accepted, or the first refusal, and the table with the types asked. Of several
 // guardian sets with a bad size among the fields the Rust may name any; the first in the sheet is named here.
-#[tactic(auto, using(crate::proofs::Passing::sheet_needs))]
+#[tactic(auto, using(crate::proofs::Passing::sheet_needs), unfolding(rules::specs::Check::check, rules::proofs::Binding::and_then, refusals::specs::Refusal::done_of))]
 pub fn check(sheet: &LoadedSheet<'_>, table: &mut [u8]) -> Result<(), Refusal>
     requires { SheetIn sheet.now.lines.now table.old }
     ensures { Does sheet.now.bytes.now (check_of (model_in sheet.now.bytes.now)) table.old result table.new }

@@ -7,10 +7,9 @@ ghost use Rattle.grammar.specs.Grammar.{Param, Ty};
 ghost use Rattle.refusals.specs.Answers.{Answers};
 ghost use Rattle.refusals.specs.Refusal.{done_of};
 ghost use Rattle.env.specs.Force.{env_of};
-ghost use Rattle.typing.specs.Asks.{Does};
+ghost use Rattle.typing.specs.Asks.{Does, KindIn};
 ghost use Rattle.statements.specs.Checked.{StmtIn};
-ghost use Rattle.checking.specs.Each.{Gives, GivesEach, TakesEach};
-ghost use Rattle.checking.specs.Walk.{ClauseIn, declared_rule, KindIn};
+ghost use Rattle.checking.specs.Walk.{ClauseIn, declared_rule};
 ghost use Rattle.grammar.specs.Kinds as kinds;
 
 use assets::asset_calls_consumed;
@@ -22,6 +21,7 @@ use sheet::{LoadedSheet, default_count};
 use statements::{check_default, check_stmt_types, expect_predicate};
 
 // What a field declares: its type may be stored, and its name tells no digest.
+#[tactic(auto, using(crate::proofs::Recording::record_needs), unfolding(crate::specs::Walk::declared_rule, rules::proofs::Binding::and_then, refusals::specs::Refusal::done_of))]
 fn field_declared(sheet: &LoadedSheet<'_>, i: usize) -> Result<(), Refusal>
     requires { Here sheet.now.lines.now Ty (suc i) }
     ensures { Answers (declared_rule (param_at sheet.now.bytes.now i).name (type_at sheet.now.bytes.now (suc i))) (done_of sheet.now.bytes.now result) }
@@ -31,6 +31,7 @@ fn field_declared(sheet: &LoadedSheet<'_>, i: usize) -> Result<(), Refusal>
 }
 
 // The default of the field at line i, where it has one.
+#[tactic(auto, using(crate::proofs::Recording::record_needs), unfolding(rules::proofs::Binding::and_then, refusals::specs::Refusal::done_of, rules::specs::Asking::if_some, rules::specs::Kept::kept))]
 fn field_default(scope: &Scope<'_>, table: &mut [u8], i: usize) -> Result<(), Refusal>
     requires { KindIn kinds.field scope.now.sheet.lines.now table.old i }
     ensures { let s = scope.now.sheet.bytes.now in Does s (if_some (field_at s i).default (check_default (env_of s table.old scope.now.env) (field_at s i))) table.old result table.new }
@@ -41,6 +42,7 @@ fn field_default(scope: &Scope<'_>, table: &mut [u8], i: usize) -> Result<(), Re
     check_default(scope, table, i)
 }
 
+#[tactic(auto, using(crate::proofs::Recording::record_needs), unfolding(rules::proofs::Binding::and_then, refusals::specs::Refusal::done_of, rules::specs::Asking::if_some, rules::specs::Kept::kept))]
 pub fn check_field(scope: &Scope<'_>, table: &mut [u8], i: usize) -> Result<(), Refusal>
     requires { KindIn kinds.field scope.now.sheet.lines.now table.old i }
     ensures { let s = scope.now.sheet.bytes.now in Does s (check_field (env_of s table.old scope.now.env) (field_at s i)) table.old result table.new }
@@ -50,6 +52,7 @@ pub fn check_field(scope: &Scope<'_>, table: &mut [u8], i: usize) -> Result<(), 
 }
 
 // A parameter of an event.
+#[tactic(auto, using(crate::proofs::Recording::record_needs), unfolding(rules::specs::Check::check_event_param, rules::proofs::Binding::and_then, refusals::specs::Refusal::done_of))]
 pub fn check_event_param(sheet: &LoadedSheet<'_>, i: usize) -> Result<(), Refusal>
     requires { Here sheet.now.lines.now Param i }
     ensures { Answers (check_event_param (param_at sheet.now.bytes.now i)) (done_of sheet.now.bytes.now result) }
@@ -59,6 +62,7 @@ pub fn check_event_param(sheet: &LoadedSheet<'_>, i: usize) -> Result<(), Refusa
 }
 
 // A parameter of an entry.
+#[tactic(auto, using(crate::proofs::Recording::record_needs), unfolding(rules::specs::Check::check_entry_param, rules::proofs::Binding::and_then, refusals::specs::Refusal::done_of))]
 pub fn check_entry_param(sheet: &LoadedSheet<'_>, i: usize) -> Result<(), Refusal>
     requires { Here sheet.now.lines.now Param i }
     ensures { Answers (check_entry_param (param_at sheet.now.bytes.now i)) (done_of sheet.now.bytes.now result) }
@@ -68,6 +72,7 @@ pub fn check_entry_param(sheet: &LoadedSheet<'_>, i: usize) -> Result<(), Refusa
 }
 
 // The condition of `limits` and `denies`; other clauses have none.
+#[tactic(auto, using(crate::proofs::Recording::record_needs), unfolding(rules::proofs::Binding::and_then, refusals::specs::Refusal::done_of, rules::specs::Asking::if_some, rules::specs::Kept::kept))]
 pub fn clause_predicate(scope: &Scope<'_>, table: &mut [u8], i: usize) -> Result<(), Refusal>
     requires { ClauseIn scope.now.sheet.lines.now table.old i }
     ensures { let s = scope.now.sheet.bytes.now in Does s (clause_predicate (env_of s table.old scope.now.env) (clause_at s i)) table.old result table.new }
@@ -79,27 +84,11 @@ pub fn clause_predicate(scope: &Scope<'_>, table: &mut [u8], i: usize) -> Result
 }
 
 // A statement of genesis: `let`, `guard` and `emit` are not typed there.
+#[tactic(auto, using(crate::proofs::Recording::record_needs), unfolding(rules::specs::Check::check_genesis, rules::proofs::Binding::and_then, refusals::specs::Refusal::done_of))]
 pub fn check_genesis(scope: &Scope<'_>, table: &mut [u8], i: usize) -> Result<(), Refusal>
     requires { StmtIn scope.now.sheet.lines.now table.old i }
     ensures { let s = scope.now.sheet.bytes.now in Does s (check_genesis (env_of s table.old scope.now.env) (stmt_at s i)) table.old result table.new }
 {
     check_stmt_types(scope, table, i)?;
     asset_calls_consumed(&scope.sheet, i)
-}
-
-// The step that is given, at each of `count` records, the first of which stands at line from, until it refuses.
-pub fn check_records<F: Fn(&mut [u8], usize) -> Result<(), Refusal>>(
-    sheet: &LoadedSheet<'_>,
-    table: &mut [u8],
-    from: usize,
-    count: usize,
-    check: F,
-) -> Result<(), Refusal>
-    requires { TakesEach (F.pre check) sheet.now.lines.now table.old count from }
-    ensures { GivesEach (Gives (F.post check)) sheet.now.lines.now count from table.old result table.new }
-{
-    for at in sheet.records(from, count) {
-        check(table, at)?;
-    }
-    Ok(())
 }

@@ -8,8 +8,7 @@ ghost use Rattle.refusals.specs.Refusal.{done_of};
 ghost use Rattle.sheet.specs.Scratch.{line_count};
 ghost use Rattle.declarations.specs.Tests.{starts_any};
 
-use crate::answer::expect;
-use refusals::Refusal;
+use refusals::{Refusal, expect};
 use sheet::LoadedSheet;
 use text::is_word;
 
@@ -23,7 +22,7 @@ fn starts_with(s: &[u8], word: &[u8]) -> bool
             .all(|(a, b)| a.to_ascii_lowercase() == *b)
 }
 
-// Whether s starts with a digest word.
+// Whether s starts with a digest word. One behind the other: an array of the words would be laid out at each place of a name.
 fn starts_digest(s: &[u8]) -> bool
     ensures { result ≡ starts_any (lower_of s.now) DIGEST_NAME_TOKENS }
 {

@@ -1,5 +1,5 @@
 // Guardian sets.
-ghost use Rattle.std.specs.Prelude.{◌≡◌, ◌*◌, ◌+◌, ◌-◌, ◌≤◌};
+ghost use Rattle.std.specs.Prelude.{◌≡◌};
 ghost use Rattle.rules.specs.Ast.{args};
 ghost use Rattle.rules.specs.Types.{parse_u64};
 ghost use Rattle.rules.specs.Declarations.{guardian_bound, guardian_fits, members_of};
@@ -9,35 +9,17 @@ ghost use Rattle.grammar.specs.Grammar as grammar;
 ghost use Rattle.refusals.specs.Refusal.{done_of};
 ghost use Rattle.declarations.specs.Tests.{size_fits};
 
-use crate::answer::expect;
 use grammar::Kind;
-use refusals::Refusal;
+use narrow::exceeds;
+use refusals::{Refusal, expect};
 use sheet::{LoadedSheet, type_arg_count};
 use text::is_word;
-
-// The number n with one more digit, which is 0 for a byte below the digits.
-fn with_digit(n: usize, b: u8) -> usize
-    requires { n ≤ 256 }
-    ensures { result ≡ n * 10 + (b - 48) }
-{
-    n * 10 + usize::from(b.saturating_sub(b'0'))
-}
 
 // Whether a text without its underscores is a number from 1 to 256.
 fn size_fits(text: &[u8]) -> bool
     ensures { result ≡ size_fits (parse_u64 text.now) }
 {
-    let mut n: usize = 0;
-    for &b in text {
-        if b == b'_' {
-            continue;
-        }
-        n = with_digit(n, b);
-        if 256 < n {
-            return false;
-        }
-    }
-    1 <= n
+    exceeds(text, 0) & !exceeds(text, 256)
 }
 
 // Whether the first argument of the `type` record at line ty is a set's size.

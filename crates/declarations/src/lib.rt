@@ -1,7 +1,6 @@
 // Declarations over loaded lines: which types may be declared, digest names, and the sizes of guardian sets.
 #![tactic(auto)]
 
-mod answer;
 mod digest;
 mod guardian;
 mod state_guardians;

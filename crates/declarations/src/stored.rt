@@ -9,10 +9,9 @@ ghost use Rattle.grammar.specs.Grammar as grammar;
 ghost use Rattle.refusals.specs.Refusal.{done_of};
 ghost use Rattle.declarations.specs.Tests.{takes_none};
 
-use crate::answer::expect;
 use grammar::Kind;
 use lookups::ty_of_decl;
-use refusals::Refusal;
+use refusals::{Refusal, expect};
 use rules::Ty;
 use sheet::{LoadedSheet, type_arg_count};
 use text::is_word;

@@ -2,16 +2,17 @@
 ghost use Rattle.std.specs.Prelude.{suc};
 ghost use Rattle.sheet.specs.Scratch.{name_at, emit_arg_count};
 ghost use Rattle.rules.specs.Ast.{list};
-ghost use Rattle.grammar.specs.Grammar as grammar;
-ghost use Rattle.rules.specs.Standing.{expr_at, exprs_at, Here, param_at, params_at};
+ghost use Rattle.grammar.specs.Kinds as kinds;
+ghost use Rattle.lookups.specs.Lines.{KindAt};
+ghost use Rattle.rules.specs.Standing.{expr_at, exprs_at, param_at};
 ghost use Rattle.rules.specs.Statements.{check_emit_field, check_emit_fields};
 ghost use Rattle.env.specs.Force.{env_of};
-ghost use Rattle.typing.specs.Asks.{Does};
-ghost use Rattle.emits.specs.Emit.{EmitIn, emit_rule, FieldIn, FieldsIn, fields_rule, JudgesField, Mismatches};
+ghost use Rattle.typing.specs.Asks.{Does, KindIn};
+ghost use Rattle.emits.specs.Emit.{emit_rule, FieldIn, fields_at, Mismatches};
 
 use env::Scope;
 use lookups::{event_named, one_word, ty_of_decl};
-use refusals::Refusal;
+use refusals::{Refusal, expect};
 use rules::Ty;
 use sheet::{emit_arg_count, param_count};
 use typing::{ask_each, ty_of};
@@ -31,25 +32,6 @@ fn mismatch(want: Ty, got: Ty, straight: bool) -> bool
         | ((got == Ty::Address) & one_word(want))
 }
 
-// Judges the argument at line arg, of the type got, for the parameter at line param, of the type want.
-#[tactic(auto, using(crate::proofs::Emitted::laws_fields))]
-fn judge_field(
-    scope: &Scope<'_>,
-    arg: usize,
-    param: usize,
-    want: Ty,
-    got: Ty,
-) -> Result<(), Refusal>
-    requires { Here scope.now.sheet.lines.now grammar.Expr arg }
-    ensures { JudgesField scope.now.sheet.bytes.now scope.now.env arg param want got result }
-{
-    if mismatch(want, got, scope.is_name_param(arg)) {
-        Err(Refusal::EmitField { arg, param, got })
-    } else {
-        Ok(())
-    }
-}
-
 // The argument at line arg for the event's parameter at line param.
 fn check_field(scope: &Scope<'_>, table: &mut [u8], arg: usize, param: usize) -> Result<(), Refusal>
     requires { FieldIn scope.now.sheet.lines.now table.old arg param }
@@ -57,56 +39,41 @@ fn check_field(scope: &Scope<'_>, table: &mut [u8], arg: usize, param: usize) ->
 {
     let got = ty_of(scope, table, arg)?;
     let want = ty_of_decl(&scope.sheet, param + 1);
-    judge_field(scope, arg, param, want, got)
+    expect(
+        !mismatch(want, got, scope.is_name_param(arg)),
+        Refusal::EmitField { arg, param, got },
+    )
 }
 
-// `args` arguments from line arg on, side by side with `params` parameters from line param on, as far as both go.
-fn check_fields(
-    scope: &Scope<'_>,
-    table: &mut [u8],
-    arg: usize,
-    args: usize,
-    param: usize,
-    params: usize,
-) -> Result<(), Refusal>
-    requires { FieldsIn scope.now.sheet.lines.now table.old arg args param params }
-    ensures { let s = scope.now.sheet.bytes.now in Does s (fields_rule (env_of s table.old scope.now.env) (list (exprs_at s args arg)) (params_at s params param)) table.old result table.new }
+// The arguments of the `emit` at line i, side by side with the parameters of the event at line event.
+fn check_fields(scope: &Scope<'_>, table: &mut [u8], i: usize, event: usize) -> Result<(), Refusal>
+    requires emit_at { KindIn kinds.emit scope.now.sheet.lines.now table.old i }
+    requires event_at { KindAt kinds.event scope.now.sheet.lines.now event }
+    ensures { let s = scope.now.sheet.bytes.now in Does s (fields_at s scope.now.sheet.lines.now (env_of s table.old scope.now.env) i event) table.old result table.new }
 {
-    if (args == 0) | (params == 0) {
-        return Ok(());
+    let sheet = &scope.sheet;
+    let args = sheet.records(i + 1, emit_arg_count(sheet.lines, i));
+    let params = sheet.records(event + 1, param_count(sheet.lines, event));
+    for (arg, param) in args.zip(params) {
+        check_field(scope, table, arg, param)?;
     }
-    check_field(scope, table, arg, param)?;
-    check_fields(
-        scope,
-        table,
-        scope.sheet.end(arg),
-        args - 1,
-        scope.sheet.end(param),
-        params - 1,
-    )
+    Ok(())
 }
 
 // `check_emit_fields` of the `emit` at line i.
 fn check_emit_fields(scope: &Scope<'_>, table: &mut [u8], i: usize) -> Result<(), Refusal>
-    requires { EmitIn scope.now.sheet.lines.now table.old i }
+    requires { KindIn kinds.emit scope.now.sheet.lines.now table.old i }
     ensures { let s = scope.now.sheet.bytes.now in Does s (check_emit_fields (env_of s table.old scope.now.env) (name_at s scope.now.sheet.lines.now i) (list (exprs_at s (emit_arg_count scope.now.sheet.lines.now i) (suc i)))) table.old result table.new }
 {
     match event_named(&scope.sheet, scope.sheet.name(i)) {
-        Some(event) => check_fields(
-            scope,
-            table,
-            i + 1,
-            emit_arg_count(scope.sheet.lines, i),
-            event + 1,
-            param_count(scope.sheet.lines, event),
-        ),
+        Some(event) => check_fields(scope, table, i, event),
         None => Ok(()),
     }
 }
 
 // The `emit` at line i: all arguments are typed, then judged by the event's parameters.
 pub fn check_emit(scope: &Scope<'_>, table: &mut [u8], i: usize) -> Result<(), Refusal>
-    requires { EmitIn scope.now.sheet.lines.now table.old i }
+    requires { KindIn kinds.emit scope.now.sheet.lines.now table.old i }
     ensures { let s = scope.now.sheet.bytes.now in Does s (emit_rule (env_of s table.old scope.now.env) (name_at s scope.now.sheet.lines.now i) (list (exprs_at s (emit_arg_count scope.now.sheet.lines.now i) (suc i)))) table.old result table.new }
 {
     ask_each(scope, table, i + 1, emit_arg_count(scope.sheet.lines, i))?;

@@ -1,19 +1,18 @@
 // `refuse_name_recipient`.
-ghost use Rattle.rules.specs.Ast.{list};
 ghost use Rattle.grammar.specs.Grammar as grammar;
-ghost use Rattle.rules.specs.Standing.{expr_at, exprs_at, Here};
+ghost use Rattle.rules.specs.Standing.{expr_at, Here};
 ghost use Rattle.rules.specs.Statements.{refuse_name_recipient};
 ghost use Rattle.env.specs.Force.{env_of};
-ghost use Rattle.typing.specs.Asks.{Asks, AsksAll, Does};
-ghost use Rattle.emits.specs.Recipient.{JudgesRecipient, recipient_rule, recipients_rule, Recipients};
+ghost use Rattle.typing.specs.Asks.{Asks, Does};
+ghost use Rattle.emits.specs.Recipient.{recipient_rule, Recipients};
 
 use env::Scope;
 use grammar::Kind;
-use refusals::Refusal;
+use refusals::{Refusal, expect};
 use rules::Ty;
 use sheet::{LoadedSheet, call_arg_count};
 use text::is_word;
-use typing::ty_of;
+use typing::{check_records, ty_of};
 
 // How many arguments, from the first on, of a call with the callee at this line are recipients.
 #[tactic(auto, using(crate::proofs::Recipients::laws_recipients))]
@@ -34,42 +33,13 @@ fn recipients(sheet: &LoadedSheet<'_>, callee: usize) -> usize
     0
 }
 
-// Judges the recipient at line arg by its type.
-#[tactic(auto, using(crate::proofs::Recipients::laws_recipients))]
-fn judge_recipient(arg: usize, ty: Ty) -> Result<(), Refusal>
-    ensures { JudgesRecipient arg ty result }
-{
-    if ty == Ty::Name {
-        Err(Refusal::Recipient(arg))
-    } else {
-        Ok(())
-    }
-}
-
 // The recipient at line arg.
 fn check_recipient(scope: &Scope<'_>, table: &mut [u8], arg: usize) -> Result<(), Refusal>
     requires { Asks scope.now.sheet.lines.now table.old arg }
     ensures { let s = scope.now.sheet.bytes.now in Does s (recipient_rule (env_of s table.old scope.now.env) (expr_at s arg)) table.old result table.new }
 {
     let ty = ty_of(scope, table, arg)?;
-    judge_recipient(arg, ty)
-}
-
-// `left` recipients, the first of which stands at line at.
-fn check_recipients(
-    scope: &Scope<'_>,
-    table: &mut [u8],
-    at: usize,
-    left: usize,
-) -> Result<(), Refusal>
-    requires { AsksAll scope.now.sheet.lines.now table.old left at }
-    ensures { let s = scope.now.sheet.bytes.now in Does s (recipients_rule (env_of s table.old scope.now.env) (list (exprs_at s left at))) table.old result table.new }
-{
-    if left == 0 {
-        return Ok(());
-    }
-    check_recipient(scope, table, at)?;
-    check_recipients(scope, table, scope.sheet.end(at), left - 1)
+    expect(ty != Ty::Name, Refusal::Recipient(arg))
 }
 
 // No recipient of the call at line i is a name. Any other expression has none.
@@ -82,8 +52,11 @@ pub fn refuse_name_recipient(scope: &Scope<'_>, table: &mut [u8], i: usize) -> R
     }
     let args = call_arg_count(scope.sheet.lines, i);
     let due = recipients(&scope.sheet, i + 1);
-    if args < due {
-        return check_recipients(scope, table, scope.sheet.end(i + 1), args);
-    }
-    check_recipients(scope, table, scope.sheet.end(i + 1), due)
+    check_records(
+        &scope.sheet,
+        table,
+        scope.sheet.end(i + 1),
+        args.min(due),
+        |table, arg| check_recipient(scope, table, arg),
+    )
 }

@@ -1,5 +1,5 @@
 -- The judging of types that were asked, test by test. Assumes nothing.
-use mathlib.Core.Path.{◌≡◌, refl, sym, ◌∙◌}
+use mathlib.Core.Path.{◌≡◌, refl, sym, ap, ◌∙◌}
 use mathlib.Core.List.{List, [], ◌∷◌}
 use mathlib.Core.Bool.{Bool, true, false, not, ◌||◌, ◌&&◌}
 use Prim.Native.Nat.{ℕ}
@@ -18,7 +18,9 @@ use Rattle.refusals.specs.Answers.{Answers}
 use Rattle.refusals.specs.Refusal.{refusal_of, done_of}
 use Rattle.refusals.specs.declared.refusal.Refusal.{Refusal}
 use Rattle.refusals.specs.declared.refusal.Refusal.TheVariants.{Not, Neg, Logical, Arithmetic, Ordering, NamesCompared, Compared, Amount, NameNotParam, NameWanted, Holds}
-use Rattle.refusals.proofs.Answers.{gives, fits, misfits, passes, refuses}
+use Rattle.std.specs.Result.{result_and}
+use Rattle.refusals.specs.Answers.{expected}
+use Rattle.refusals.proofs.Answers.{gives, expects, passes, refuses}
 use denote.Enum.Bare.{sameb}
 use Rattle.rules.specs.contracts.ty.Ty.{the_type}
 use Rattle.rules.proofs.Same.{told_ty}
@@ -27,6 +29,7 @@ use Rattle.grammar.specs.declared.ops.UnaryOp as code
 use Rattle.env.specs.Answers.{typed_of, both_of, Judged, Judged2, JudgedIn, JudgesAmount, JudgesKey}
 use Rattle.env.specs.Force.{env_of}
 use Rattle.env.specs.declared.env.Env.{Env}
+use Rattle.env.specs.declared.judge.Sides.{Sides}
 
 -- ------------------------------------------------------------ operands
 
@@ -58,33 +61,33 @@ pub record Binary (rule : (left right : Expr) (l r : Ty) → Rule Ty) (f : Ty �
   pub is : (a b : Expr) (l r : Ty) → rule a b l r ≡ (want wants l a >> (want wants r b >> ret n))
 
 module _ {op : UnaryOp} {f : Ty → Bool} {why : ℕ → Refusal} {n : Ty} (u : Unary op f why n) (o : code.UnaryOp) (i : ℕ) (c : Ty) (b : Bool) (q : unary_meant o ≡ op) (h : b ≡ f c) where
-  pub unary_fine : b ≡ true → Judged (λ s. judge_unary (unary_meant o) (expr_at s i)) c (Ok n)
-  unfolding typed_of
-  unary_fine e = record { judged = λ s. rw (q, u.is (expr_at s i) c) (operand_fine u.wants b c h s i (ret n) _ e (gives n)) }
+  pub unary_judged : (t : Result Unit Refusal) (r : Result Ty Refusal) → t ≡ expected b (why i) → r ≡ result_and t (Ok n) → Judged (λ s. judge_unary (unary_meant o) (expr_at s i)) c r
+  unfolding expected typed_of
+  unary_judged t r e a = rw (a, e) (by_cases b refl)
+    where
+      by_cases : (x : Bool) → b ≡ x → Judged (λ s. judge_unary (unary_meant o) (expr_at s i)) c (result_and (expected x (why i)) (Ok n))
+      by_cases true z = record { judged = λ s. rw (q, u.is (expr_at s i) c) (operand_fine u.wants b c h s i (ret n) _ z (gives n)) }
+      by_cases false z = record { judged = λ s. rw (q, u.is (expr_at s i) c) (operand_wrong u.wants b c h s i (ret n) z) }
 
-  pub unary_wrong : b ≡ false → Judged (λ s. judge_unary (unary_meant o) (expr_at s i)) c (Err (why i))
-  unary_wrong e = record { judged = λ s. rw (q, u.is (expr_at s i) c) (operand_wrong u.wants b c h s i (ret n) e) }
-
-module _ {rule : (left right : Expr) (l r : Ty) → Rule Ty} {f : Ty → Bool} {why : ℕ → Refusal} {n : Ty} (o : Binary rule f why n) (i j : ℕ) (c d : Ty) where
-  by_tests : (b x : Bool) → b ≡ f c → x ≡ f d → Judged2 (λ s. rule (expr_at s i) (expr_at s j)) c d (both_of b x (why i) (why j) n)
+module _ {rule : (left right : Expr) (l r : Ty) → Rule Ty} {f : Ty → Bool} {why : ℕ → Refusal} {n : Ty} (o : Binary rule f why n) (x : Sides) where
+  by_tests : (b d : Bool) → b ≡ f x.l → d ≡ f x.r → Judged2 rule x (both_of b d (why x.left) (why x.right) n)
   unfolding both_of typed_of
-  by_tests false x h y = record { judged = λ s. rw (o.is (expr_at s i) (expr_at s j) c d) (operand_wrong o.wants false c h s i _ refl) }
+  by_tests false d h y = record { judged = λ s. rw (o.is (expr_at s x.left) (expr_at s x.right) x.l x.r) (operand_wrong o.wants false x.l h s x.left _ refl) }
   by_tests true false h y =
       record {
         judged = λ s.
-            rw (o.is (expr_at s i) (expr_at s j) c d)
-            (operand_fine o.wants true c h s i _ _ refl (operand_wrong o.wants false d y s j _ refl));
+            rw (o.is (expr_at s x.left) (expr_at s x.right) x.l x.r)
+            (operand_fine o.wants true x.l h s x.left _ _ refl (operand_wrong o.wants false x.r y s x.right _ refl));
       }
   by_tests true true h y =
       record {
         judged = λ s.
-            rw (o.is (expr_at s i) (expr_at s j) c d)
-            (operand_fine o.wants true c h s i _ _ refl (operand_fine o.wants true d y s j _ _ refl (gives n)));
+            rw (o.is (expr_at s x.left) (expr_at s x.right) x.l x.r)
+            (operand_fine o.wants true x.l h s x.left _ _ refl (operand_fine o.wants true x.r y s x.right _ _ refl (gives n)));
       }
 
-  pub both_judged : (b x : Bool) (a : Result Ty Refusal) → b ≡ f c → x ≡ f d → a ≡ both_of b x (why i) (why j) n
-      → Judged2 (λ s. rule (expr_at s i) (expr_at s j)) c d a
-  both_judged b x a h y e = rw e (by_tests b x h y)
+  pub both_judged : (b d : Bool) (a : Result Ty Refusal) → b ≡ f x.l → d ≡ f x.r → a ≡ both_of b d (why x.left) (why x.right) n → Judged2 rule x a
+  both_judged b d a h y e = rw e (by_tests b d h y)
 
 -- ------------------------------------------------------------ operators
 
@@ -119,45 +122,42 @@ neg_is =
 
 -- ------------------------------------------------------------ equality
 
-module _ (s : List ℕ) (i j : ℕ) (c d : Ty) (u v : Bool) (g : u ≡ sameb the_type c TName) (k : v ≡ sameb the_type d TName) where
-  named : (x : Bool) → (u || v) ≡ x → not (eq_ty c TName || eq_ty d TName) ≡ not x
-  named x e = rw (← told_ty c TName u g, ← told_ty d TName v k, e) refl
+module _ (s : List ℕ) (x : Sides) (u v : Bool) (g : u ≡ sameb the_type x.l TName) (k : v ≡ sameb the_type x.r TName) where
+  named : (b : Bool) → (u || v) ≡ b → not (eq_ty x.l TName || eq_ty x.r TName) ≡ not b
+  named b e = rw (← told_ty x.l TName u g, ← told_ty x.r TName v k, e) refl
 
-  pub names_wrong : (u || v) ≡ true → JudgedIn s (equality (expr_at s i) (expr_at s j)) c d (Err (NamesCompared i))
+  pub names_wrong : (u || v) ≡ true → JudgedIn s equality x (Err (NamesCompared x.left))
   unfolding equality typed_of refusal_of
-  names_wrong e = refuses _ 41 (span (expr_at s i)) names_compared_text _ (named true e)
+  names_wrong e = refuses _ 41 (span (expr_at s x.left)) names_compared_text _ (named true e)
 
-  module _ (b x y : Bool) (n : (u || v) ≡ false) (h : b ≡ compatible c d)
-      (p : x ≡ (eq_ty c Address && is_zero_literal (expr_at s j))) (q : y ≡ (eq_ty d Address && is_zero_literal (expr_at s i))) where
-    comparable : (compatible c d || (eq_ty c Address && is_zero_literal (expr_at s j)) || (eq_ty d Address && is_zero_literal (expr_at s i))) ≡ (b || x || y)
-    comparable = rw (h, p, q) refl
+  abbrev comparable : Bool
+  comparable =
+      compatible x.l x.r || (eq_ty x.l Address && is_zero_literal (expr_at s x.right)) || (eq_ty x.r Address && is_zero_literal (expr_at s x.left))
 
-    pub compared_fine : (b || x || y) ≡ true → JudgedIn s (equality (expr_at s i) (expr_at s j)) c d (Ok Boolean)
-    unfolding equality typed_of
-    compared_fine e =
-        passes _ 41 (span (expr_at s i)) names_compared_text _ _ (named false n)
-        (passes _ 42 (span (expr_at s j)) (compared_text c d) _ _ (comparable ∙ e) (gives Boolean))
+  module _ (b c d : Bool) (n : (u || v) ≡ false) (h : b ≡ compatible x.l x.r)
+      (p : c ≡ (eq_ty x.l Address && is_zero_literal (expr_at s x.right))) (q : d ≡ (eq_ty x.r Address && is_zero_literal (expr_at s x.left))) where
+    as_tested : comparable ≡ (b || c || d)
+    as_tested = rw (h, p, q) refl
 
-    pub compared_wrong : (b || x || y) ≡ false → JudgedIn s (equality (expr_at s i) (expr_at s j)) c d (Err (Compared j c d))
-    unfolding equality typed_of refusal_of
-    compared_wrong e =
-        passes _ 41 (span (expr_at s i)) names_compared_text _ _ (named false n)
-        (refuses _ 42 (span (expr_at s j)) (compared_text c d) _ (comparable ∙ e))
+    pub compared : (t : Result Unit Refusal) (r : Result Ty Refusal) → t ≡ expected (b || c || d) (Compared x.right x.l x.r) → r ≡ result_and t (Ok Boolean) → JudgedIn s equality x r
+    unfolding equality expected typed_of refusal_of
+    compared t r e a = passes _ 41 (span (expr_at s x.left)) names_compared_text _ _ (named false n) (rw (a, e) (by_cases (b || c || d) as_tested))
+      where
+        by_cases : (z : Bool) → comparable ≡ z
+            → Answers (expect comparable 42 (span (expr_at s x.right)) (compared_text x.l x.r) >> ret Boolean) (typed_of s (result_and (expected z (Compared x.right x.l x.r)) (Ok Boolean)))
+        by_cases true k = passes _ 42 (span (expr_at s x.right)) (compared_text x.l x.r) _ _ k (gives Boolean)
+        by_cases false k = refuses _ 42 (span (expr_at s x.right)) (compared_text x.l x.r) _ k
 
 -- ------------------------------------------------------------ keyed calls
 
 -- what is judged on every sheet is judged on this one
-pub in_sheet : {f : List ℕ → Ty → Ty → Rule Ty} {c d : Ty} {r : Result Ty Refusal} (s : List ℕ) → Judged2 f c d r → JudgedIn s (f s) c d r
+pub in_sheet : {f : (left right : Expr) (l r : Ty) → Rule Ty} {x : Sides} {r : Result Ty Refusal} (s : List ℕ) → Judged2 f x r → JudgedIn s f x r
 in_sheet s h = h.judged s
 
 module _ (callee arg : ℕ) (t : Ty) (b : Bool) (e : b ≡ is_ty t (Int ∷ Asset ∷ Unknown ∷ [])) where
-  pub amount_fine : b ≡ true → JudgesAmount callee arg t (Ok tt)
-  unfolding done_of
-  amount_fine h = record { judged = λ s. fits _ 32 _ _ (sym e ∙ h) }
-
-  pub amount_wrong : b ≡ false → JudgesAmount callee arg t (Err (Amount callee arg))
-  unfolding done_of refusal_of
-  amount_wrong h = record { judged = λ s. misfits _ 32 _ _ (sym e ∙ h) }
+  pub amount_judged : (r : Result Unit Refusal) → r ≡ expected b (Amount callee arg) → JudgesAmount callee arg t r
+  unfolding refusal_of
+  amount_judged r h = record { judged = λ s. expects s _ (Amount callee arg) r (h ∙ ap (λ k. expected k (Amount callee arg)) e) }
 
 -- a implies b
 implies : (a b : Bool) → (not a || b) ≡ not (a && not b)
@@ -191,16 +191,10 @@ module _ (s : List ℕ) (env : Env) (field : ℕ) (key : Bool) (arg : ℕ) (c d 
       holds : ((key && eq_ty d TName) || compatible c d) ≡ ((key && v) || x)
       holds = rw (h, ← told_ty d TName v k) refl
 
-      pub key_fine : ((key && v) || x) ≡ true → JudgesKey s env field key arg c d (Ok tt)
-      unfolding judge_key done_of
-      key_fine e =
+      pub key_judged : (r : Result Unit Refusal) → r ≡ expected ((key && v) || x) (Holds field arg c d) → JudgesKey s env field key arg c d r
+      unfolding judge_key refusal_of
+      key_judged r e =
           passes _ 33 _ _ _ _ (sym p ∙ not-false b n)
-          (passes _ 34 _ _ _ _ (is_named ∙ rw m refl) (fits _ 35 _ _ (holds ∙ e)))
+          (passes _ 34 _ _ _ _ (is_named ∙ rw m refl) (expects s _ (Holds field arg c d) r (e ∙ ap (λ k. expected k (Holds field arg c d)) (sym holds))))
 
-      pub key_wrong : ((key && v) || x) ≡ false → JudgesKey s env field key arg c d (Err (Holds field arg c d))
-      unfolding judge_key done_of refusal_of
-      key_wrong e =
-          passes _ 33 _ _ _ _ (sym p ∙ not-false b n)
-          (passes _ 34 _ _ _ _ (is_named ∙ rw m refl) (misfits _ 35 _ _ (holds ∙ e)))
-
-pub ruleset laws_judging = (straight_wrong, name_wrong, key_fine, key_wrong, straight_other, straight_name, names_wrong, compared_fine, compared_wrong, amount_fine, amount_wrong)
+pub ruleset laws_judging = (straight_wrong, name_wrong, key_judged, straight_other, straight_name, names_wrong, compared, amount_judged)

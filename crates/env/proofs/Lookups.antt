@@ -2,7 +2,7 @@
 use mathlib.Core.Logic.{◌≢◌}
 use mathlib.Core.Path.{◌≡◌, refl, sym, ap, ◌∙◌}
 use mathlib.Core.List.{List, [], ◌∷◌, map, map-map}
-use mathlib.Core.Bool.{Bool, true, false, true≢false, ◌||◌}
+use mathlib.Core.Bool.{Bool, true, false, true≢false}
 use Prim.Native.Nat.{ℕ, suc, ◌+◌, ◌<◌, ◌≤◌}
 use native.Mathlib.Numerals.{add-one}
 use native.Mathlib.Omega.{arith}
@@ -32,7 +32,6 @@ use Rattle.rules.specs.Standing.{node_name, nodes_at, expr_at, type_at, field_at
 use Rattle.rules.proofs.Exprs.{ident_at}
 use Rattle.rules.proofs.Parts.{parts}
 use Rattle.rules.proofs.Standing.{Stands, stands, row_behind, row_first, loaded_sheet}
-use Rattle.lookups.proofs.Tables.{either_word}
 use Rattle.lookups.specs.Found.{of_kind, found_node, found_field, FoundKind, Last, FieldNamed}
 use Rattle.lookups.proofs.Fields.{last_map, all_kind, param-name}
 use Rattle.lookups.proofs.Types.{type_name_lem}
@@ -210,18 +209,13 @@ module _ (s S : List ℕ) (env : Env) (i : ℕ) (d : Loaded s S) (r : Option ℕ
     unfolding is_pool found_field is
     pool b w = w ∙ rw (is_pool, ← f.found, e, the_type) refl
 
-    module _ (b c : Bool) (v : b ≡ same y (bytes "Map")) (w : c ≡ same y (bytes "Registry")) where
-      which : is_one (type_name (field_at s j).ty) ("Map" ∷ "Registry" ∷ []) ≡ (b || c)
-      unfolding is
-      which = rw (the_type, either_word y "Map" "Registry", v, w) refl
-
-      pub keyed : (o : Option ℕ) → o ≡ then_some (b || c) j → KeyedFound s S env i o
-      unfolding keyed_field keyed_node found_field found_node field_at
-      keyed o q = rw q (by_cases (b || c) refl)
-        where
-          by_cases : (t : Bool) → (b || c) ≡ t → KeyedFound s S env i (then_some t j)
-          by_cases true t =
-              record { found = rw (keyed_field, ← f.found, e, which, t) refl; node = rw (keyed_node, ← f.node, e, which, t) refl; kind = rw e at f.kind }
-          by_cases false t = record { found = rw (keyed_field, ← f.found, e, which, t) refl; node = rw (keyed_node, ← f.node, e, which, t) refl; kind = tt }
+    pub keyed : (b : Bool) → b ≡ is_one y ("Map" ∷ "Registry" ∷ []) → (o : Option ℕ) → o ≡ then_some b j → KeyedFound s S env i o
+    unfolding keyed_field keyed_node found_field found_node field_at
+    keyed b w o q = rw q (by_cases b w)
+      where
+        by_cases : (t : Bool) → t ≡ is_one y ("Map" ∷ "Registry" ∷ []) → KeyedFound s S env i (then_some t j)
+        by_cases true t =
+            record { found = rw (keyed_field, ← f.found, e, the_type, ← t) refl; node = rw (keyed_node, ← f.node, e, the_type, ← t) refl; kind = rw e at f.kind }
+        by_cases false t = record { found = rw (keyed_field, ← f.found, e, the_type, ← t) refl; node = rw (keyed_node, ← f.node, e, the_type, ← t) refl; kind = tt }
 
 pub ruleset laws_lookups = (loaded_sheet, pool, no_pool, by_param, value_within, by_local, by_field, deployer, no_field, no_param, param_there, no_name)

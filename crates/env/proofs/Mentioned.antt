@@ -26,7 +26,7 @@ use Rattle.rules.proofs.Parts.{stop, ◌also◌, pick, parts}
 use Rattle.rules.proofs.Exprs.{line_at}
 use Rattle.rules.proofs.Lets.{past_on, not_stale}
 use Rattle.rules.proofs.Standing.{stands, loaded_sheet}
-use Rattle.lookups.specs.Found.{found_node, FoundKind, Stretch, Last}
+use Rattle.lookups.specs.Found.{found_node, FoundKind, Last}
 use Rattle.env.specs.Force.{lets, ends_in, env_of, InForce}
 use Rattle.env.specs.declared.env.Env.{Env}
 use Rattle.env.proofs.Lets.{let_end, ends_behind, ends_past, among_later}
@@ -37,9 +37,6 @@ use Rattle.grammar.specs.Kinds as kinds
 -- line i is an `id` with one of the names
 abbrev pub hit : (s S : List ℕ) → List Name → ℕ → Bool
 hit s S xs i = eqb (kind_at S i) kinds.id && among (name_at s S i) xs
-
-pub bound-lets : (S : List ℕ) (env : Env) → InForce S env → Stretch S env.bound env.body
-bound-lets S env f = record { sort = grammar.Stmt; row = f.locals }
 
 module _ (s S : List ℕ) (env : Env) (i at : ℕ) (d : Loaded s S) (f : InForce S env) where
   pub no_id : (r : Bool) → kind_at S at ≢ kinds.id → r ≡ false → r ≡ hit s S (later i (ends_in s env)) at

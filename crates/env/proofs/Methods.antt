@@ -9,7 +9,7 @@ use native.Mathlib.Numerals.{add-one}
 use native.Mathlib.Omega.{arith}
 use lib.Dec.{eqb}
 use borrow.Author.Tests.{eq-eqb, ne_eqb, not-true, not-false}
-use Rattle.std.specs.Prelude.{Option, Some, None, is_some, Result, Ok, Err}
+use Rattle.std.specs.Prelude.{Option, Some, None, is_some, Result, Ok}
 use Rattle.text.specs.Text.{bytes, same, ended}
 use Rattle.text.specs.Word.{place_in, split}
 use Rattle.grammar.specs.Grammar as grammar
@@ -30,7 +30,8 @@ use Rattle.refusals.specs.Answers.{Answers}
 use Rattle.lookups.specs.Found.{found_node, found_field, FoundKind}
 use Rattle.refusals.specs.Refusal.{dot_at, refusal_of, done_of}
 use Rattle.refusals.specs.declared.refusal.Refusal.TheVariants.{Receiver, KeyedOp}
-use Rattle.refusals.proofs.Answers.{gives, fits, misfits}
+use Rattle.refusals.specs.Answers.{expected}
+use Rattle.refusals.proofs.Answers.{gives, expects, fits}
 use Rattle.lookups.proofs.Tables.{one_found, either_word}
 use Rattle.lookups.proofs.Types.{type_name_lem}
 use Rattle.env.specs.Calls.{wants_of, keyed_of, keyed_record, KeyedOf, Callee, op_rule, get_ty, method_ty, call_ty}
@@ -131,13 +132,9 @@ module _ (s S : List ℕ) (env : Env) (i : ℕ) (d : Loaded s S) (h : Here S gra
       on_pool : is_pool (env_of s [] env) (expr_at s (suc i)) ≡ b
       on_pool = sym (rw (add-one i) at p)
 
-      pub a_receiver : b ≡ true → Answers (expect_asset_receiver (env_of s [] env) (expr_at s i)) (done_of s (Ok tt))
-      unfolding done_of
-      a_receiver v = rw receiver (fits _ 30 _ _ (rw (z, on_pool, v) refl))
-
-      pub bad_receiver : b ≡ false → Answers (expect_asset_receiver (env_of s [] env) (expr_at s i)) (done_of s (Err (Receiver i)))
-      unfolding done_of refusal_of
-      bad_receiver v = rw receiver (misfits _ 30 _ _ (rw (z, on_pool, v) refl))
+      pub pool_judged : (r : Result Unit Refusal) → r ≡ expected b (Receiver i) → Answers (expect_asset_receiver (env_of s [] env) (expr_at s i)) (done_of s r)
+      unfolding refusal_of
+      pool_judged r v = rw (receiver, z, on_pool) (expects s b (Receiver i) r v)
 
 -- ------------------------------------------------------------ Maps and Registries
 
@@ -273,13 +270,9 @@ module _ (s S : List ℕ) (i : ℕ) (keyed : Option ℕ) (d : Loaded s S) (h : C
           let v : keyed_op_fits (field_at s f).ty (name_at s S i) ≡ b = sym (w ∙ rw (its_type s S keyed d h.kind f e, n, add-one f) refl) in
           rw (op_rule, here, e, dot_told s i (the_dot s S i) here, v) refl
 
-      pub good_op : b ≡ true → JudgesMethod (Ok tt)
-      unfolding done_of
-      good_op t = rw op (fits b 31 _ _ t)
-
-      pub bad_op : b ≡ false → JudgesMethod (Err (KeyedOp i f))
-      unfolding done_of refusal_of
-      bad_op t = rw op (misfits b 31 _ _ t)
+      pub op_judged : (r : Result Unit Refusal) → r ≡ expected b (KeyedOp i f) → JudgesMethod r
+      unfolding refusal_of
+      op_judged r t = rw op (expects s b (KeyedOp i f) r t)
 
   pub typed_method : (r : Ty) → kind_at S i ≡ kinds.dot → r ≡ method_ty (name_at s S i) (found_field s keyed) → r ≡ call_ty (found_field s keyed) (expr_at s i)
   unfolding call_ty

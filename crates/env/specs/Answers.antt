@@ -1,6 +1,6 @@
 -- How the code judges types that were asked.
 use Rattle.std.specs.Prelude.{ℕ, Bool, true, false, List, [], ◌∷◌, Result, Ok, Err}
-use Rattle.rules.specs.Ast.{span}
+use Rattle.rules.specs.Ast.{Expr, span}
 use Rattle.rules.specs.Asking.{Res, ok, refused, Rule, expect}
 use Rattle.rules.specs.declared.ty.Ty.{Ty}
 use Rattle.rules.specs.declared.ty.Ty.TheVariants.{Int, Asset, Unknown}
@@ -13,6 +13,7 @@ use Rattle.refusals.specs.Refusal.{dot_at, refusal_of, done_of}
 use Rattle.refusals.specs.declared.refusal.Refusal.{Refusal}
 use Rattle.env.specs.Force.{env_of}
 use Rattle.env.specs.declared.env.Env.{Env}
+use Rattle.env.specs.declared.judge.Sides.{Sides}
 
 unfoldable pub typed_of : List ℕ → Result Ty Refusal → Res Ty
 typed_of s (Ok t) = ok t
@@ -28,12 +29,13 @@ both_of true true left right t = Ok t
 pub record Judged (f : List ℕ → Ty → Rule Ty) (t : Ty) (r : Result Ty Refusal) : Type 0 where
   pub judged : (s : List ℕ) → Answers (f s t) (typed_of s r)
 
-pub record Judged2 (f : List ℕ → Ty → Ty → Rule Ty) (t u : Ty) (r : Result Ty Refusal) : Type 0 where
-  pub judged : (s : List ℕ) → Answers (f s t u) (typed_of s r)
+-- r is what the rule f of a binary operator answers to its sides, for the sheet s
+abbrev pub JudgedIn : List ℕ → ((left right : Expr) (l r : Ty) → Rule Ty) → Sides → Result Ty Refusal → Type 0
+JudgedIn s f x r = Answers (f (expr_at s x.left) (expr_at s x.right) x.l x.r) (typed_of s r)
 
--- ... for the sheet s
-abbrev pub JudgedIn : List ℕ → (Ty → Ty → Rule Ty) → Ty → Ty → Result Ty Refusal → Type 0
-JudgedIn s f t u r = Answers (f t u) (typed_of s r)
+-- ... whatever the sheet
+pub record Judged2 (f : (left right : Expr) (l r : Ty) → Rule Ty) (x : Sides) (r : Result Ty Refusal) : Type 0 where
+  pub judged : (s : List ℕ) → JudgedIn s f x r
 
 pub record JudgesAmount (callee arg : ℕ) (t : Ty) (r : Result Unit Refusal) : Type 0 where
   pub judged : (s : List ℕ)

@@ -15,7 +15,7 @@ ghost use Rattle.env.specs.Force.{env_of};
 use crate::env::Scope;
 use grammar::Kind;
 use lookups::declared_arg;
-use refusals::Refusal;
+use refusals::{Refusal, expect};
 use rules::Ty;
 use sheet::LoadedSheet;
 use text::{is_word, place_in};
@@ -87,11 +87,7 @@ impl Scope<'_> {
         if !(is_word(method, b"merge") | is_word(method, b"split")) {
             return Ok(());
         }
-        if self.is_pool(callee + 1) {
-            Ok(())
-        } else {
-            Err(Refusal::Receiver(callee))
-        }
+        expect(self.is_pool(callee + 1), Refusal::Receiver(callee))
     }
 }
 
@@ -124,11 +120,10 @@ pub fn expect_keyed_op(
     let Some(field) = keyed else {
         return Ok(());
     };
-    if keyed_op_fits(sheet, field + 1, sheet.name(callee)) {
-        Ok(())
-    } else {
-        Err(Refusal::KeyedOp { callee, field })
-    }
+    expect(
+        keyed_op_fits(sheet, field + 1, sheet.name(callee)),
+        Refusal::KeyedOp { callee, field },
+    )
 }
 
 // The type that `get` gives on a Map or Registry, whose declared type stands at line ty.

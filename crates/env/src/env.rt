@@ -8,7 +8,7 @@ ghost use Rattle.rules.specs.Typing.{is_name_param, is_pool, ty_of_ident};
 ghost use Rattle.env.specs.Force.{before, bind_next, env_of, FieldFound, field_ty, in_genesis, InForce, InForce-prop, KeyedFound, new, params_in};
 
 use grammar::Kind;
-use lookups::{field_named, last_named, ty_of_decl};
+use lookups::{field_named, is_keyed, last_named, ty_of_decl};
 use rules::Ty;
 use sheet::LoadedSheet;
 use text::is_word;
@@ -181,8 +181,7 @@ impl Scope<'_> {
         ensures { KeyedFound self.now.sheet.bytes.now self.now.sheet.lines.now self.now.env base result }
     {
         let field = self.field_of(base)?;
-        let ty = self.sheet.name(field + 1);
-        (is_word(ty, b"Map") | is_word(ty, b"Registry")).then_some(field)
+        is_keyed(self.sheet.name(field + 1)).then_some(field)
     }
 
     // Whether line base is the bare name of a Q_Asset field, the receiver that `merge` and `split` want.

@@ -13,9 +13,18 @@ ghost use Rattle.env.specs.Force.{env_of};
 use crate::env::Scope;
 use grammar::{BinOp, UnaryOp};
 use lookups::{compatible, is_zero_literal, numeric};
-use refusals::Refusal;
+use refusals::{Refusal, expect};
 use rules::Ty;
 use sheet::LoadedSheet;
+
+// Both sides of a `bin`: their lines and their types.
+#[derive(Clone, Copy)]
+pub struct Sides {
+    pub left: usize,
+    pub right: usize,
+    pub l: Ty,
+    pub r: Ty,
+}
 
 // Whether the type is the wanted one, or Unknown.
 fn or_unknown(ty: Ty, want: Ty) -> bool
@@ -28,20 +37,8 @@ pub fn judge_unary(op: UnaryOp, inner: usize, ty: Ty) -> Result<Ty, Refusal>
     ensures { Judged (λ s. judge_unary (unary_meant op) (expr_at s inner)) ty result }
 {
     match op {
-        UnaryOp::Not => {
-            if or_unknown(ty, Ty::Bool) {
-                Ok(Ty::Bool)
-            } else {
-                Err(Refusal::Not(inner))
-            }
-        }
-        UnaryOp::Neg => {
-            if or_unknown(ty, Ty::Int) {
-                Ok(Ty::Int)
-            } else {
-                Err(Refusal::Neg(inner))
-            }
-        }
+        UnaryOp::Not => { expect(or_unknown(ty, Ty::Bool), Refusal::Not(inner)).and(Ok(Ty::Bool)) }
+        UnaryOp::Neg => expect(or_unknown(ty, Ty::Int), Refusal::Neg(inner)).and(Ok(Ty::Int)),
     }
 }
 
@@ -58,38 +55,39 @@ fn both(l: bool, r: bool, left: Refusal, right: Refusal, ty: Ty) -> Result<Ty, R
     Ok(ty)
 }
 
-fn logical(left: usize, right: usize, l: Ty, r: Ty) -> Result<Ty, Refusal>
-    ensures { Judged2 (λ s. logical_of (expr_at s left) (expr_at s right)) l r result }
+// These three differ in a test, a refusal and a type; each is one rule of types.rs.
+fn logical(sides: Sides) -> Result<Ty, Refusal>
+    ensures { Judged2 logical_of sides result }
 {
     both(
-        or_unknown(l, Ty::Bool),
-        or_unknown(r, Ty::Bool),
-        Refusal::Logical(left),
-        Refusal::Logical(right),
+        or_unknown(sides.l, Ty::Bool),
+        or_unknown(sides.r, Ty::Bool),
+        Refusal::Logical(sides.left),
+        Refusal::Logical(sides.right),
         Ty::Bool,
     )
 }
 
-fn arithmetic(left: usize, right: usize, l: Ty, r: Ty) -> Result<Ty, Refusal>
-    ensures { Judged2 (λ s. arithmetic_of (expr_at s left) (expr_at s right)) l r result }
+fn arithmetic(sides: Sides) -> Result<Ty, Refusal>
+    ensures { Judged2 arithmetic_of sides result }
 {
     both(
-        numeric(l),
-        numeric(r),
-        Refusal::Arithmetic(left),
-        Refusal::Arithmetic(right),
+        numeric(sides.l),
+        numeric(sides.r),
+        Refusal::Arithmetic(sides.left),
+        Refusal::Arithmetic(sides.right),
         Ty::Int,
     )
 }
 
-fn ordering(left: usize, right: usize, l: Ty, r: Ty) -> Result<Ty, Refusal>
-    ensures { Judged2 (λ s. ordering_of (expr_at s left) (expr_at s right)) l r result }
+fn ordering(sides: Sides) -> Result<Ty, Refusal>
+    ensures { Judged2 ordering_of sides result }
 {
     both(
-        numeric(l),
-        numeric(r),
-        Refusal::Ordering(left),
-        Refusal::Ordering(right),
+        numeric(sides.l),
+        numeric(sides.r),
+        Refusal::Ordering(sides.left),
+        Refusal::Ordering(sides.right),
         Ty::Bool,
     )
 }
@@ -103,39 +101,30 @@ fn absent(sheet: &LoadedSheet<'_>, ty: Ty, other: usize) -> bool
 }
 
 #[tactic(auto, using(crate::proofs::Judging::laws_judging))]
-fn equality(sheet: &LoadedSheet<'_>, left: usize, right: usize, l: Ty, r: Ty) -> Result<Ty, Refusal>
-    requires { Operands sheet.now.lines.now left right }
-    ensures { JudgedIn sheet.now.bytes.now (equality_of (expr_at sheet.now.bytes.now left) (expr_at sheet.now.bytes.now right)) l r result }
+fn equality(sheet: &LoadedSheet<'_>, sides: Sides) -> Result<Ty, Refusal>
+    requires { Operands sheet.now.lines.now sides.left sides.right }
+    ensures { JudgedIn sheet.now.bytes.now equality_of sides result }
 {
+    let Sides { left, right, l, r } = sides;
     if (l == Ty::Name) | (r == Ty::Name) {
         return Err(Refusal::NamesCompared(left));
     }
-    if compatible(l, r) | absent(sheet, l, right) | absent(sheet, r, left) {
-        Ok(Ty::Bool)
-    } else {
-        Err(Refusal::Compared { right, l, r })
-    }
+    let fits = compatible(l, r) | absent(sheet, l, right) | absent(sheet, r, left);
+    expect(fits, Refusal::Compared { right, l, r }).and(Ok(Ty::Bool))
 }
 
 // Judges the types of both sides by the operator.
 #[tactic(auto, using(crate::proofs::Judging::in_sheet), unfolding(rules::specs::Operators::bin_meant, rules::specs::Typing::judge_binary))]
-pub fn judge_binary(
-    sheet: &LoadedSheet<'_>,
-    op: BinOp,
-    left: usize,
-    right: usize,
-    l: Ty,
-    r: Ty,
-) -> Result<Ty, Refusal>
-    requires { Operands sheet.now.lines.now left right }
-    ensures { JudgedIn sheet.now.bytes.now (judge_binary (bin_meant op) (expr_at sheet.now.bytes.now left) (expr_at sheet.now.bytes.now right)) l r result }
+pub fn judge_binary(sheet: &LoadedSheet<'_>, op: BinOp, sides: Sides) -> Result<Ty, Refusal>
+    requires { Operands sheet.now.lines.now sides.left sides.right }
+    ensures { JudgedIn sheet.now.bytes.now (judge_binary (bin_meant op)) sides result }
 {
     match op {
-        BinOp::Or | BinOp::And => logical(left, right, l, r),
-        BinOp::Eq | BinOp::Ne => equality(sheet, left, right, l, r),
-        BinOp::Lt | BinOp::Gt | BinOp::Le | BinOp::Ge => ordering(left, right, l, r),
+        BinOp::Or | BinOp::And => logical(sides),
+        BinOp::Eq | BinOp::Ne => equality(sheet, sides),
+        BinOp::Lt | BinOp::Gt | BinOp::Le | BinOp::Ge => ordering(sides),
         BinOp::Add | BinOp::Sub | BinOp::Mul | BinOp::Div | BinOp::Rem | BinOp::Shr => {
-            arithmetic(left, right, l, r)
+            arithmetic(sides)
         }
     }
 }
@@ -153,11 +142,7 @@ fn is_amount(ty: Ty) -> bool
 pub fn judge_amount(callee: usize, arg: usize, got: Ty) -> Result<(), Refusal>
     ensures { JudgesAmount callee arg got result }
 {
-    if is_amount(got) {
-        Ok(())
-    } else {
-        Err(Refusal::Amount { callee, arg })
-    }
+    expect(is_amount(got), Refusal::Amount { callee, arg })
 }
 
 impl Scope<'_> {
@@ -192,15 +177,12 @@ impl Scope<'_> {
         if (want == Ty::Name) & (got != Ty::Name) {
             return Err(Refusal::NameWanted { field, arg });
         }
-        if (is_key & (got == Ty::Name)) | compatible(want, got) {
-            Ok(())
-        } else {
-            Err(Refusal::Holds {
-                field,
-                arg,
-                want,
-                got,
-            })
-        }
+        let why = Refusal::Holds {
+            field,
+            arg,
+            want,
+            got,
+        };
+        expect((is_key & (got == Ty::Name)) | compatible(want, got), why)
     }
 }

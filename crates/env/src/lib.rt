@@ -8,4 +8,4 @@ mod later;
 
 pub use call::{expect_keyed_op, moves_amount, ty_of_call, ty_of_dot, wants};
 pub use env::{Env, Scope};
-pub use judge::{judge_amount, judge_binary, judge_unary};
+pub use judge::{Sides, judge_amount, judge_binary, judge_unary};

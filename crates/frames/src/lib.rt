@@ -17,12 +17,13 @@ pub struct Lengths {
     pub message: usize,
 }
 
+// The value of a decimal digit, and 0 of another byte. `to_digit` is a char's, and would be led back to bytes from there.
 fn digit(b: u8) -> usize
     ensures upper_bound { result ≤ 9 }
     ensures value { result ≡ digit_of b }
 {
     match b {
-        b'0'..=b'9' => (b - b'0') as usize,
+        b'0'..=b'9' => usize::from(b - b'0'),
         _ => 0,
     }
 }

@@ -16,6 +16,7 @@ pub enum Rule {
     Flag(usize),
 }
 
+// A method and not `TryFrom`, whose error would have nothing to say.
 impl Rule {
     // The rule of which `rule_numbers` (specs/Table.antt) has the number; 0 is no rule's, and every number from 10 on a FLAG's.
     pub fn of(n: u8) -> Option<Rule>

@@ -46,6 +46,7 @@ pub enum Kind {
     Wrapping,
 }
 
+// Methods and not `From` and `TryFrom`: each says which number it is, and `of` has nothing to say of a number that is of no kind.
 impl Kind {
     // Its place among all records.
     pub fn number(self) -> usize
@@ -105,7 +106,8 @@ fn nth_kind(kinds: &[Kind], place: usize) -> Option<Kind>
     kinds.get(place).copied()
 }
 
-// The kind of the record with this word, where the words of a table are those of some kinds.
+// The kind of the record with this word, where the words of a table are those of some kinds. The words are one text and the
+// kinds one byte each, since what is constant is laid out on the stack at each call: an array of pairs would be 24 bytes a word.
 pub fn kind_in(word: &[u8], table: &[u8], kinds: &[Kind]) -> Option<Kind>
     ensures { result ≡ option_and_then (slice_get kinds.now) (place_in word.now (split table.now)) }
 {

@@ -1,4 +1,5 @@
-// The operators, each at its place among those of its record.
+// The operators, each at its place among those of its record. `of` is a method and not `From`, which would read as if each number had an
+// operator of its own.
 ghost use Rattle.std.specs.Prelude.{◌≡◌};
 ghost use Rattle.grammar.specs.Coded.{assign_of, bin_number, bin_of, unary_of};
 

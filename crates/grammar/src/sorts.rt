@@ -15,6 +15,7 @@ pub enum Sort {
     Expr,
 }
 
+// A method and not `From`, which would read as if each number had a sort of its own.
 impl Sort {
     // The sort of which `sort_number` (specs/Table.antt) is the number; `Expr` has 8, and every further one.
     pub fn of(n: u8) -> Sort

@@ -1,5 +1,6 @@
 // The fields and parts of each record, by its kind: what specs/Table.antt makes of the grammar.
-// A table is made where it is read: bytes are made in a few instructions, numbers one by one.
+// A table is made where it is read: bytes are made in a few instructions, numbers one by one. One array of a struct each would be made whole for
+// one number of it, and a `match` on the kind was slower (docs/PROVING.md, 'Speed of the code').
 ghost use Rattle.std.specs.Prelude.{◌≡◌, ◌*◌, ◌+◌, ◌<◌, eqb, get_or};
 ghost use Rattle.grammar.specs.Coded.{kind_number, rule_of, sort_from};
 ghost use Rattle.grammar.specs.Table.{always_table, length_table, most_fields, most_groups, rule_column, sort_table, span_rule};
@@ -15,7 +16,7 @@ pub fn fields(kind: Kind) -> usize
     usize::from(LENGTHS[kind.number()])
 }
 
-// The number of the rule of field j, 0 where there is no such field. A table for each field: only the one that is read is made.
+// The number of the rule of field j, 0 where there is no such field: `rule` makes an Option of it, the tables hold bytes. A table for each field: only the one that is read is made.
 fn rule_number(kind: Kind, j: usize) -> u8
     requires { j < most_fields }
     ensures { result ≡ get_or (rule_column j) (kind_number kind) 0 }
@@ -80,6 +81,7 @@ const THIRD_RULES: [u8; 34] = [
     0, 0, 0,
 ];
 
+// No record has a fourth field; `rule` is promised for one.
 const FOURTH_RULES: [u8; 34] = [
     0, 0, 0, 0, 0, 0, 0, 0, 0, 0, 0, 0, 0, 0, 0, 0, 0, 0, 0, 0, 0, 0, 0, 0, 0, 0, 0, 0, 0, 0, 0, 0,
     0, 0,

@@ -15,6 +15,7 @@ use Rattle.sheet.specs.Scratch.{kind_at, end_at, name_at, skip, line_count, call
 use Rattle.sheet.specs.Records.{Steps}
 use Rattle.sheet.specs.Tree.{Node, take_nodes}
 use Rattle.sheet.specs.declared.records.Records.{Records}
+use Rattle.sheet.specs.declared.loaded_sheet.LoadedSheet.{LoadedSheet}
 use Rattle.sheet.proofs.Holds.{all_le, all_most}
 use Rattle.rules.specs.Text.{Name, is_one}
 use Rattle.rules.specs.Ast.{Expr, Exprs, nil, more, span, exprs_of}
@@ -26,7 +27,7 @@ use Rattle.rules.specs.Typing.{Dot, ident_of, dot_of}
 use Rattle.rules.proofs.Exprs.{call_at_lem, dot_at_lem, ident_at, is_dot_at}
 use Rattle.rules.proofs.Records.{named}
 use Rattle.rules.proofs.Rows.{records, IterWalk, iter_here, iter_found, iter_onward, iter_over}
-use Rattle.rules.proofs.Standing.{stands, exprs_next, row_first, row_rest, row_nth}
+use Rattle.rules.proofs.Standing.{loaded_sheet, stands, exprs_next, row_first, row_rest, row_nth}
 use Rattle.refusals.specs.Answers.{Answers}
 use Rattle.lookups.specs.Lines.{KindAt}
 use Rattle.refusals.specs.Refusal.{done_of}
@@ -34,6 +35,7 @@ use Rattle.refusals.specs.declared.refusal.Refusal.{Refusal}
 use Rattle.lookups.proofs.Fields.{items_at}
 use Rattle.lookups.proofs.Items.{entries_of, entries_next, entries_other}
 use Rattle.key_kinds.specs.declared.marks.KeyKind.{KeyKind}
+use Rattle.key_kinds.specs.declared.marks.Seen.{Seen}
 use Rattle.key_kinds.specs.Uses.{keyed_at, call_at, names_at, uses_at, entry_uses, item_uses, MapNamed, key_kind_of, is_other, Noted, KeyMarks, Passed, Judged}
 use Rattle.key_kinds.proofs.Calls.{calls, calls_next, calls_none, entry_calls}
 use Rattle.key_kinds.proofs.Seen.{use_judged, none_judged, passed_start, passed_next, passed_refused, passed_over, all_judged}
@@ -153,47 +155,63 @@ uses-append m names (k ∷ ks) ls = by_cases (is_keyed m k.0) refl (uses-append 
     by_cases true q h = rw (uses_of, q) (ap (λ us. record { map = k.0; is_name = is_name_key names k.1; at = span k.1 } ∷ us) h)
     by_cases false q h = rw (uses_of, q) h
 
--- the uses from line at on are left, which the marks ls are for
+-- the uses from line at on are left
 unfoldable pub left_uses : (s S : List ℕ) → (e at end : ℕ) → List Use
 left_uses s S e at end = uses_of (model_in s) (names_at s e) (calls s S at end)
 
-pub record Walking (s S : List ℕ) (ks ls : List (Option KeyKind)) (e end at : ℕ) : Type 0 where
-  pub loaded : Loaded s S
-  pub entry : KindAt kinds.entry S e
-  pub stop : end ≡ end_at S e
-  pub passed : Passed s S ks ls (entry_uses s e) (left_uses s S e at end)
+-- t is what was before the entry's uses, u what is behind those that are not left
+pub record Walking (t u : Seen) (e end at : ℕ) : Type 0 where
+  pub sheet : u.sheet ≡ t.sheet
+  pub entry : KindAt kinds.entry t.sheet.lines.now e
+  pub stop : end ≡ end_at t.sheet.lines.now e
+  pub passed : Passed t.sheet.bytes.now t.sheet.lines.now t.marks u.marks (entry_uses t.sheet.bytes.now e) (left_uses t.sheet.bytes.now t.sheet.lines.now e at end)
 
-pub walk_start : (s S : List ℕ) (ks : List (Option KeyKind)) (e end at : ℕ) → Loaded s S → KindAt kinds.entry S e → end ≡ end_at S e → at ≡ e + 1 → Walking s S ks ks e end at
+pub walk_start : (t : Seen) (e end at : ℕ) → KindAt kinds.entry t.sheet.lines.now e → end ≡ end_at t.sheet.lines.now e → at ≡ e + 1 → Walking t t e end at
 unfolding entry_uses left_uses
-walk_start s S ks e end at d h q a =
+walk_start t e end at h q a =
+    let s = t.sheet.bytes.now in
     rw a
     (record {
-      loaded = d;
+      sheet = refl;
       entry = h;
       stop = q;
-      passed = passed_start s S ks _ _ (ap (uses_of (model_in s) (names_at s e)) (entry_calls d h ∙ rw (← q, add-one e) refl));
+      passed = passed_start s t.sheet.lines.now _ _ _ (ap (uses_of (model_in s) (names_at s e)) (entry_calls (loaded_sheet t.sheet.loaded) h ∙ rw (← q, add-one e) refl));
     })
 
-module _ (s S : List ℕ) (ks ls : List (Option KeyKind)) (e end at : ℕ) (w : Walking s S ks ls e end at) where
-  pub walk_over : end ≤ at → Judged s S ks ls (entry_uses s e) (Ok tt)
+module _ (t u : Seen) (e end at : ℕ) (w : Walking t u e end at) where
+  abbrev s : List ℕ
+  s = t.sheet.bytes.now
+
+  abbrev S : List ℕ
+  S = t.sheet.lines.now
+
+  pub walk_entry : KindAt kinds.entry u.sheet.lines.now e
+  walk_entry = rw w.sheet w.entry
+
+  pub walk_over : end ≤ at → Judged s S t.marks u.marks (entry_uses s e) (Ok tt)
   unfolding left_uses uses_of
-  walk_over h = passed_over s S ks ls _ _ w.passed (ap (uses_of (model_in s) (names_at s e)) (calls_none s S at end h))
+  walk_over h = passed_over s S _ _ _ _ w.passed (ap (uses_of (model_in s) (names_at s e)) (calls_none s S at end h))
 
   module _ (h : at < end) where
-    pub walk_here : at < line_count S
-    walk_here = omega (arith, w.stop, all_most (stands w.loaded e w.entry.within).held (omega (arith, w.entry.within)))
+    pub walk_here : at < line_count u.sheet.lines.now
+    walk_here =
+        rw w.sheet
+        (let z : at < line_count S = omega (arith, h, w.stop, all_most (stands (loaded_sheet t.sheet.loaded) e w.entry.within).held (omega (arith, w.entry.within))) in z)
 
     turn : left_uses s S e at end ≡ uses_at s S e at ++ left_uses s S e (at + 1) end
     unfolding left_uses uses_at
     turn =
         ap (uses_of (model_in s) (names_at s e)) (calls_next s S at end h ∙ rw (add-one at) refl) ∙ uses-append (model_in s) (names_at s e) (call_at s S at) (calls s S (at + 1) end)
 
-    module _ (ms : List (Option KeyKind)) (r : Result Unit Refusal) (j : Judged s S ls ms (uses_at s S e at) r) where
-      pub walk_next : r ≡ Ok tt → Walking s S ks ms e end (at + 1)
-      walk_next q = record { loaded = w.loaded; entry = w.entry; stop = w.stop; passed = passed_next s S ks ls _ _ w.passed ms _ _ r turn j q }
+    module _ (v : Seen) (r : Result Unit Refusal) (j : Judged u.sheet.bytes.now u.sheet.lines.now u.marks v.marks (uses_at u.sheet.bytes.now u.sheet.lines.now e at) r) where
+      here : Judged s S u.marks v.marks (uses_at s S e at) r
+      here = rw w.sheet at j
 
-      pub walk_refused : (why : Refusal) → r ≡ Err why → Judged s S ks ms (entry_uses s e) (Err why)
-      walk_refused why q = passed_refused s S ks ls _ _ w.passed ms _ _ r turn j why q
+      pub walk_next : v.sheet ≡ u.sheet → r ≡ Ok tt → Walking t v e end (at + 1)
+      walk_next es q = record { sheet = es ∙ w.sheet; entry = w.entry; stop = w.stop; passed = passed_next s S _ _ _ _ w.passed _ _ _ r turn here q }
+
+      pub walk_refused : (why : Refusal) → r ≡ Err why → Judged s S t.marks v.marks (entry_uses s e) (Err why)
+      walk_refused why q = passed_refused s S _ _ _ _ w.passed _ _ _ r turn here why q
 
 -- ------------------------------------------------------------ items
 
@@ -232,54 +250,58 @@ no_marks {s} {S} f =
     by_cases true = refl
     by_cases false = refl
 
--- the items that r gives are left, which the marks ls are for
-pub record Items (s S : List ℕ) (ls : List (Option KeyKind)) (r : Records) : Type 0 where
-  pub loaded : Loaded s S
-  pub few : line_count S ≤ most_lines
-  pub walk : IterWalk grammar.Item nodes_at (λ ts. Passed s S (replicate most_lines None) ls (uses (model_in s) (model_in s).entries) (uses (model_in s) (entries_of ts))) s S r
+-- the items that r gives are left, which the marks of u are for
+pub record Items (x : LoadedSheet) (u : Seen) (r : Records) : Type 0 where
+  pub sheet : u.sheet ≡ x
+  pub walk : IterWalk grammar.Item nodes_at (λ ts. Passed x.bytes.now x.lines.now (replicate most_lines None) u.marks (uses (model_in x.bytes.now) (model_in x.bytes.now).entries) (uses (model_in x.bytes.now) (entries_of ts))) x.bytes.now x.lines.now r
 
 -- all of them are judged
 all_items : {s S : List ℕ} (ls : List (Option KeyKind)) (r : Result Unit Refusal) → line_count S ≤ most_lines → Judged s S (replicate most_lines None) ls (uses (model_in s) (model_in s).entries) r → Answers (check_key_kinds (model_in s)) (done_of s r)
 unfolding check_key_kinds
 all_items {s} {S} ls r f j = all_judged s S (replicate most_lines None) ls _ r (no_marks f) j
 
-pub items_start : (s S : List ℕ) (r : Records) → Loaded s S → line_count S ≤ most_lines → r.lines.now ≡ S → r.left ≡ item_count S 0 → r.at ≡ 1 → Items s S (replicate most_lines None) r
-items_start s S r d f l e a =
+pub items_start : (x : LoadedSheet) (u : Seen) (r : Records) → u.sheet ≡ x → u.marks ≡ replicate most_lines None → r.lines.now ≡ x.lines.now → r.left ≡ item_count x.lines.now 0 → r.at ≡ 1 → Items x u r
+items_start x u r es em l e a =
+    let d = loaded_sheet x.loaded in
     let q = items_at d in
     record {
-      loaded = d;
-      few = f;
+      sheet = es;
       walk = record {
         lines = l;
-        walk = rw (e, a) (record { loaded = d; row = q.1; known = passed_start s S _ _ _ (ap (λ m. uses (model_in s) m.entries) q.0) });
+        walk = rw (e, a, em) (record { loaded = d; row = q.1; known = passed_start x.bytes.now x.lines.now _ _ _ (ap (λ m. uses (model_in x.bytes.now) m.entries) q.0) });
       };
     }
 
-module _ (s S : List ℕ) (ls : List (Option KeyKind)) (r : Records) (w : Items s S ls r) where
-  pub items_over : r.left ≡ 0 → Answers (check_key_kinds (model_in s)) (done_of s (Ok tt))
+module _ (x : LoadedSheet) (u : Seen) (r : Records) (w : Items x u r) where
+  few : line_count x.lines.now ≤ most_lines
+  few = rw w.sheet at u.few
+
+  pub items_over : r.left ≡ 0 → Answers (check_key_kinds (model_in x.bytes.now)) (done_of x.bytes.now (Ok tt))
   unfolding uses build
-  items_over h = all_items ls (Ok tt) w.few (passed_over s S _ ls _ _ (iter_over records w.walk h) refl)
+  items_over h = all_items {S = x.lines.now} u.marks (Ok tt) few (passed_over x.bytes.now x.lines.now _ _ _ _ (iter_over records w.walk h) refl)
 
   module _ (t : Records) (i : ℕ) (h : Steps r i t) where
-    item_here : Here S grammar.Item i
+    item_here : Here x.lines.now grammar.Item i
     item_here = iter_here h w.walk
 
-    pub item-within : i < line_count S
-    item-within = item_here.within
+    pub item-within : i < line_count u.sheet.lines.now
+    item-within = rw w.sheet item_here.within
 
-    item_turn : (ts : List Node) → uses (model_in s) (entries_of (node_at s i ∷ ts)) ≡ item_uses s S i ++ uses (model_in s) (entries_of ts)
-    item_turn = item_next (model_in s) refl w.loaded item_here
+    item_turn : (ts : List Node) → uses (model_in x.bytes.now) (entries_of (node_at x.bytes.now i ∷ ts)) ≡ item_uses x.bytes.now x.lines.now i ++ uses (model_in x.bytes.now) (entries_of ts)
+    item_turn = item_next (model_in x.bytes.now) refl (loaded_sheet x.loaded) item_here
 
-    module _ (ms : List (Option KeyKind)) (d : Result Unit Refusal) (j : Judged s S ls ms (item_uses s S i) d) where
-      pub items_next : d ≡ Ok tt → Items s S ms t
-      items_next q =
+    module _ (v : Seen) (d : Result Unit Refusal) (j : Judged u.sheet.bytes.now u.sheet.lines.now u.marks v.marks (item_uses u.sheet.bytes.now u.sheet.lines.now i) d) where
+      judged : Judged x.bytes.now x.lines.now u.marks v.marks (item_uses x.bytes.now x.lines.now i) d
+      judged = rw w.sheet at j
+
+      pub items_next : v.sheet ≡ u.sheet → d ≡ Ok tt → Items x v t
+      items_next es q =
           record {
-            loaded = w.loaded;
-            few = w.few;
-            walk = iter_onward h records w.walk (λ ts z. passed_next s S _ ls _ _ z ms _ _ d (item_turn ts) j q);
+            sheet = es ∙ w.sheet;
+            walk = iter_onward h records w.walk (λ ts z. passed_next x.bytes.now x.lines.now _ _ _ _ z _ _ _ d (item_turn ts) judged q);
           }
 
-      pub items_refused : (why : Refusal) → d ≡ Err why → Answers (check_key_kinds (model_in s)) (done_of s (Err why))
+      pub items_refused : (why : Refusal) → d ≡ Err why → Answers (check_key_kinds (model_in x.bytes.now)) (done_of x.bytes.now (Err why))
       items_refused why q =
           iter_found h records w.walk
-          (λ ts z. all_items ms (Err why) w.few (passed_refused s S _ ls _ _ z ms _ _ d (item_turn ts) j why q))
+          (λ ts z. all_items {S = x.lines.now} v.marks (Err why) few (passed_refused x.bytes.now x.lines.now _ _ _ _ z _ _ _ d (item_turn ts) judged why q))

@@ -1,19 +1,17 @@
 // Keyed calls, their maps and their keys.
-ghost use Rattle.std.specs.Prelude.{◌&&◌, ◌≡◌, ◌<◌, suc};
-ghost use Rattle.text.specs.Text.{same};
+ghost use Rattle.std.specs.Prelude.{◌≡◌, ◌<◌};
 ghost use Rattle.grammar.specs.Grammar.{Expr};
 ghost use Rattle.grammar.specs.Kinds as kinds;
-ghost use Rattle.sheet.specs.Scratch.{name_at, line_count};
+ghost use Rattle.sheet.specs.Scratch.{line_count};
 ghost use Rattle.rules.specs.KeyKinds.{is_name_key};
 ghost use Rattle.rules.specs.Standing.{expr_at, Here};
-ghost use Rattle.rules.specs.Text.{is};
 ghost use Rattle.lookups.specs.Lines.{KindAt};
 ghost use Rattle.key_kinds.specs.Uses.{MapNamed, keyed_at, names_at};
 
 use grammar::Kind;
-use lookups::field_named;
-use sheet::{LoadedSheet, call_arg_count, param_count};
-use text::{is_word, place_in};
+use lookups::{field_named, has_param, is_keyed};
+use sheet::{LoadedSheet, call_arg_count};
+use text::place_in;
 
 // Whether line at is a call of a map's method with a key.
 pub fn is_keyed_call(sheet: &LoadedSheet<'_>, at: usize) -> bool
@@ -36,16 +34,7 @@ pub fn map_named(sheet: &LoadedSheet<'_>, x: &[u8]) -> Option<usize>
     ensures { MapNamed sheet.now.bytes.now sheet.now.lines.now x.now result }
 {
     let field = field_named(sheet, x)?;
-    let word = sheet.name(field + 1);
-    (is_word(word, b"Map") | is_word(word, b"Registry")).then_some(field)
-}
-
-// Whether the parameter at a line has the name x and is a Q_Name.
-fn is_name_param(sheet: &LoadedSheet<'_>, x: &[u8], param: usize) -> bool
-    requires { param < line_count sheet.now.lines.now }
-    ensures { result ≡ (is (name_at sheet.now.bytes.now sheet.now.lines.now (suc param)) "Q_Name" && same x.now (name_at sheet.now.bytes.now sheet.now.lines.now param)) }
-{
-    is_word(sheet.name(param + 1), b"Q_Name") & is_word(x, sheet.name(param))
+    is_keyed(sheet.name(field + 1)).then_some(field)
 }
 
 // Whether the key is a bare name of any Q_Name parameter of the entry.
@@ -57,11 +46,5 @@ pub fn is_name_key(sheet: &LoadedSheet<'_>, entry: usize, key: usize) -> bool
     if !sheet.is(key, Kind::Id) {
         return false;
     }
-    let x = sheet.name(key);
-    for param in sheet.records(entry + 1, param_count(sheet.lines, entry)) {
-        if is_name_param(sheet, x, param) {
-            return true;
-        }
-    }
-    false
+    has_param(sheet, entry, sheet.name(key), b"Q_Name")
 }

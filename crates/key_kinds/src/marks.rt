@@ -1,10 +1,11 @@
-// What keys each map, by the line of its field. `HashMap` becomes an array.
-ghost use Rattle.std.specs.Prelude.{◌≡◌, ◌<◌};
+// What keys each map, by the line of its field. `HashMap` becomes an array: there is no heap.
+ghost use Rattle.std.specs.Prelude.{◌≡◌, ◌<◌, ◌≤◌};
 ghost use Rattle.key_kinds.specs.Uses.{Noted, key_kind_of};
 ghost use Rattle.sheet.specs.Line.{most_lines};
+ghost use Rattle.sheet.specs.Scratch.{line_count};
 
 use refusals::Refusal;
-use sheet::limits;
+use sheet::{LoadedSheet, limits};
 
 // Whether a key is a name, that is, a Q_Name parameter.
 #[derive(Clone, Copy, PartialEq, Eq)]
@@ -13,9 +14,15 @@ pub enum KeyKind {
     Other,
 }
 
-// The kind of the keys seen, by the line of the map's field; None where no use was seen.
-pub type Marks = [Option<KeyKind>; limits::MOST_LINES];
+// A sheet, and the kind of the keys seen in it by the line of the map's field; None where no use was seen.
+#[derive(Drop)]
+pub struct Seen<'a> {
+    pub sheet: LoadedSheet<'a>,
+    pub marks: [Option<KeyKind>; limits::MOST_LINES],
+    ghost few: { line_count sheet.lines.now ≤ most_lines },
+}
 
+// A method and not `From`, which would not say what the bool means.
 impl KeyKind {
     #[tactic(auto, unfolding(crate::specs::Uses::key_kind_of))]
     pub fn of(named: bool) -> KeyKind
@@ -29,22 +36,25 @@ impl KeyKind {
     }
 }
 
-// A use of the map that the field declares: refused where a use before it was of the other kind.
-pub fn note(
-    marks: &mut Marks,
-    field: usize,
-    kind: KeyKind,
-    map: usize,
-    key: usize,
-) -> Result<(), Refusal>
-    requires { field < most_lines }
-    ensures { Noted marks.old marks.new field kind map key result }
-{
-    if let Some(seen) = marks[field] {
-        if seen != kind {
-            return Err(Refusal::KeyKinds { map, key });
+impl Seen<'_> {
+    // A use of the map that the field declares: refused where a use before it was of the other kind.
+    pub fn note(
+        &mut self,
+        field: usize,
+        kind: KeyKind,
+        map: usize,
+        key: usize,
+    ) -> Result<(), Refusal>
+        requires { field < most_lines }
+        ensures sheet { self.new.sheet ≡ self.old.sheet }
+        ensures noted { Noted self.old.marks self.new.marks field kind map key result }
+    {
+        if let Some(seen) = self.marks[field] {
+            if seen != kind {
+                return Err(Refusal::KeyKinds { map, key });
+            }
         }
+        self.marks[field] = Some(kind);
+        Ok(())
     }
-    marks[field] = Some(kind);
-    Ok(())
 }

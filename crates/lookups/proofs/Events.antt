@@ -6,21 +6,22 @@ use Prim.Native.Nat.{ℕ, ◌<◌, ◌≤◌}
 use native.Mathlib.Omega.{arith}
 use lib.Dec.{eqb}
 use borrow.Author.Tests.{eqb-true}
-use Rattle.std.specs.Prelude.{Some, None}
+use Rattle.std.specs.List.{find}
+use Rattle.std.specs.Prelude.{Option, Some, None, option_map}
+use Rattle.std.proofs.lemmas.Iterator.Adapters.{option_map_id}
 use Rattle.text.specs.Text.{same}
 use Rattle.grammar.specs.Grammar as grammar
 use Rattle.sheet.specs.Scratch.{kind_at, name_at, item_count}
-use Rattle.sheet.specs.Records.{Steps}
-use Rattle.sheet.specs.declared.records.Records.{Records}
+use Rattle.sheet.proofs.RecordLines.{record_lines}
 use Rattle.sheet.specs.Tree.{Node, node}
 use Rattle.rules.specs.Text.{Name, first_named}
 use Rattle.rules.specs.Ast.{Event, item_of, event_of}
 use Rattle.rules.specs.Model.{item_model, joined, build, event_named}
-use Rattle.rules.specs.Standing.{node_name, node_at, nodes_at, event_at, model_in, Loaded, Here}
+use Rattle.rules.specs.Standing.{node_name, node_at, event_at, Loaded, Here}
 use Rattle.rules.proofs.Parts.{stop, ◌also◌, pick}
-use Rattle.rules.proofs.Rows.{records, IterWalk, iter_here, iter_found, iter_onward, iter_over}
+use Rattle.rules.proofs.Rows.{records, by_row}
 use Rattle.rules.proofs.Standing.{stands}
-use Rattle.lookups.specs.Found.{node_kind, of_kind, found_node}
+use Rattle.lookups.specs.Found.{node_kind, of_kind, found_node, FoundKind}
 use Rattle.lookups.proofs.Fields.{items_at}
 use Rattle.lookups.specs.Event.{found_event, EventNamed}
 use Rattle.grammar.specs.Kinds as kinds
@@ -61,54 +62,52 @@ first_node x ts t = by_cases (eqb (node_kind t) kinds.event) (same x (node_name 
     by_cases true true e f = rw (of_kind, e, first_named, f) refl
     by_cases true false e f = rw (of_kind, e, first_named, f) refl
 
--- no event of the name before the items that r gives
-abbrev pub EventsGoing : (s S : List ℕ) → Name → Records → Type 0
-EventsGoing s S x r =
-    IterWalk grammar.Item nodes_at
-    (λ ts. (event_named (model_in s) x ≡ first_named event_name x (build (map item_of ts)).events)
-    × (first_named node_name x (of_kind kinds.event (nodes_at s (item_count S 0) 1)) ≡ first_named node_name x (of_kind kinds.event ts)))
-    s S r
+-- line i is an event of the name x
+abbrev pub event_here : (s S : List ℕ) → Name → ℕ → Bool
+event_here s S x i = eqb (kind_at S i) kinds.event && same x (name_at s S i)
 
-pub events_start : (s S : List ℕ) (x : Name) (r : Records) → Loaded s S → r.lines.now ≡ S → r.left ≡ item_count S 0 → r.at ≡ 1 → EventsGoing s S x r
-unfolding event_named
-events_start s S x r d l e a =
-    let q = items_at d in record { lines = l; walk = rw (e, a) (record { loaded = d; row = q.1; known = (rw q.0 refl, refl) }) }
+-- r is the first event of the name x among items
+record FirstEvent (s S : List ℕ) (x : Name) (ts : List Node) (r : Option ℕ) : Type 0 where
+  found : found_event s r ≡ first_named event_name x (build (map item_of ts)).events
+  node : found_node s r ≡ first_named node_name x (of_kind kinds.event ts)
+  kind : FoundKind S kinds.event r
 
-module _ (s S : List ℕ) (x : Name) (r : Records) (g : EventsGoing s S x r) where
-  pub events_over : r.left ≡ 0 → EventNamed s S x None
+module _ (s S : List ℕ) (x : Name) (d : Loaded s S) where
+  no_item : FirstEvent s S x [] None
   unfolding build of_kind first_named found_event found_node
-  events_over h =
-      let k = iter_over records g h in
-      record { found = sym k.0; node = sym k.1; kind = tt }
+  no_item = record { found = refl; node = refl; kind = tt }
 
-  module _ (t : Records) (at : ℕ) (h : Steps r at t) (b : Bool) (q : b ≡ (eqb (kind_at S at) kinds.event && same x (name_at s S at))) where
-    item : Here S grammar.Item at
-    item = iter_here h g
-
+  module _ (at : ℕ) (item : Here S grammar.Item at) (ts : List Node) where
     here : (node_kind (node_at s at) ≡ kind_at S at) × (node_name (node_at s at) ≡ name_at s S at)
     unfolding node_kind node_name
-    here = let z = stands g.walk.loaded at item.within in rw z.here (sym z.says.kind, sym z.spells.name)
+    here = let z = stands d at item.within in rw z.here (sym z.says.kind, sym z.spells.name)
 
-    told : (ts : List Node) → first_named event_name x (build (map item_of (node_at s at ∷ ts))).events ≡ cond b (Some (event_at s at)) (first_named event_name x (build (map item_of ts)).events)
+    told : first_named event_name x (build (map item_of (node_at s at ∷ ts))).events ≡ cond (event_here s S x at) (Some (event_at s at)) (first_named event_name x (build (map item_of ts)).events)
     unfolding build joined event_at
-    told ts =
+    told =
         let first : (item_model (item_of (node_at s at))).events ≡ cond (eqb (node_kind (node_at s at)) kinds.event) (event_of (node_at s at) ∷ []) [] =
         item_events (node_at s at) (omega (arith, here.0, item.kind.0)) (omega (arith, here.0, item.kind.1)) in
-        rw (first, first_event x (build (map item_of ts)).events (node_at s at) (eqb (node_kind (node_at s at)) kinds.event), here.0, here.1, q) refl
+        rw (first, first_event x (build (map item_of ts)).events (node_at s at) (eqb (node_kind (node_at s at)) kinds.event), here.0, here.1) refl
 
-    told_node : (ts : List Node) → first_named node_name x (of_kind kinds.event (node_at s at ∷ ts)) ≡ cond b (Some (node_at s at)) (first_named node_name x (of_kind kinds.event ts))
-    told_node ts = rw (first_node x ts (node_at s at), here.0, here.1, q) refl
+    told_node : first_named node_name x (of_kind kinds.event (node_at s at ∷ ts)) ≡ cond (event_here s S x at) (Some (node_at s at)) (first_named node_name x (of_kind kinds.event ts))
+    told_node = rw (first_node x ts (node_at s at), here.0, here.1) refl
 
-    pub events_hit : b ≡ true → EventNamed s S x (Some at)
+    next_item : (is : List ℕ) → FirstEvent s S x ts (find (event_here s S x) is) → FirstEvent s S x (node_at s at ∷ ts) (find (event_here s S x) (at ∷ is))
     unfolding found_event found_node
-    events_hit e =
-        iter_found h records g
-        (λ ts k.
-        record {
-          found = sym (k.0 ∙ told ts ∙ rw e refl);
-          node = sym (k.1 ∙ told_node ts ∙ rw e refl);
-          kind = (item.within, eqb-true (kind_at S at) kinds.event ((and-eq-true_iff (eqb (kind_at S at) kinds.event) (same x (name_at s S at))).0 (sym q ∙ e)).0);
-        })
+    next_item is z = by_cases (event_here s S x at) refl
+      where
+        by_cases : (b : Bool) → event_here s S x at ≡ b → FirstEvent s S x (node_at s at ∷ ts) (cond b (Some at) (find (event_here s S x) is))
+        by_cases true e =
+            record {
+              found = sym (told ∙ rw e refl);
+              node = sym (told_node ∙ rw e refl);
+              kind = (item.within, eqb-true (kind_at S at) kinds.event ((and-eq-true_iff (eqb (kind_at S at) kinds.event) (same x (name_at s S at))).0 e).0);
+            }
+        by_cases false e = record { found = z.found ∙ sym (told ∙ rw e refl); node = z.node ∙ sym (told_node ∙ rw e refl); kind = z.kind }
 
-    pub events_turn : b ≡ false → EventsGoing s S x t
-    events_turn e = iter_onward h records g (λ ts k. (k.0 ∙ told ts ∙ rw e refl, k.1 ∙ told_node ts ∙ rw e refl))
+  pub events_found : (r : Option ℕ) → option_map (λ i. i) r ≡ find (event_here s S x) (record_lines S (item_count S 0) 1) → EventNamed s S x r
+  unfolding event_named
+  events_found r e =
+      let q = items_at d in
+      let z = by_row records d (λ ts is. FirstEvent s S x ts (find (event_here s S x) is)) no_item next_item (item_count S 0) q.1 in
+      rw (sym (option_map_id r) ∙ e) (record { found = z.found ∙ rw q.0 refl; node = z.node; kind = z.kind })

@@ -2,24 +2,32 @@
 use mathlib.Core.Path.{◌≡◌, refl, sym, ◌∙◌}
 use mathlib.Core.List.{List, [], ◌∷◌, map}
 use mathlib.Core.Bool.{Bool, true, false, cond, ◌&&◌, and-eq-true_iff}
-use Prim.Native.Nat.{ℕ, ◌<◌}
+use Prim.Native.Nat.{ℕ, suc, ◌<◌}
 use native.Mathlib.Omega.{arith}
 use lib.Dec.{eqb}
 use borrow.Author.Tests.{eqb-true}
+use Rattle.std.specs.List.{list_any}
 use Rattle.std.specs.Option.{option_or}
 use Rattle.std.specs.Prelude.{Option, Some, None, is_some}
 use Rattle.text.specs.Text.{same}
 use Rattle.grammar.specs.Grammar as grammar
-use Rattle.sheet.specs.Scratch.{kind_at, name_at, line_count}
+use Rattle.grammar.specs.Kinds as kinds
+use Rattle.sheet.specs.Scratch.{kind_at, name_at, line_count, param_count}
+use Rattle.sheet.proofs.RecordLines.{record_lines}
 use Rattle.sheet.specs.Records.{Steps}
 use Rattle.sheet.specs.declared.records.Records.{Records}
 use Rattle.sheet.specs.Tree.{Node}
 use Rattle.rules.specs.Text.{Name, among, last_named}
-use Rattle.rules.specs.Standing.{node_name, node_at, nodes_at, Loaded}
+use Rattle.rules.specs.Arithmetic.{any}
+use Rattle.rules.specs.Ast.{type_name}
+use Rattle.rules.specs.Standing.{node_name, node_at, nodes_at, param_at, entry_at, Loaded, Here}
 use Rattle.rules.proofs.Lookups.{or_none, last_turn}
-use Rattle.rules.proofs.Rows.{records, IterWalk, iter_here, iter_onward, iter_over}
+use Rattle.rules.proofs.Records.{entry_at_lem, param_at_lem}
+use Rattle.rules.proofs.Rows.{records, params, any_row, IterWalk, iter_here, iter_onward, iter_over}
 use Rattle.rules.proofs.Standing.{stands}
 use Rattle.lookups.specs.Found.{node_kind, of_kind, found_node, Stretch, FoundKind, Last}
+use Rattle.lookups.specs.Lines.{KindAt}
+use Rattle.lookups.proofs.Types.{type_name_lem}
 
 -- ------------------------------------------------------------ the last of a name
 
@@ -121,3 +129,15 @@ module _ (s S : List ℕ) (k : ℕ) (x : Name) (m i : ℕ) (r : Records) (f : Op
   pub over : (o : Option ℕ) → o ≡ f → r.left ≡ 0 → Last s S k x m i o
   unfolding of_kind last_named
   over o q h = rw q (record { found = sym (iter_over records g.walk h); kind = g.kind })
+
+-- ------------------------------------------------------------ an entry's parameter
+
+-- a parameter of the name x and of a type of the name ty, by its lines
+pub any_param : {s S : List ℕ} {e : ℕ} → Loaded s S → KindAt kinds.entry S e → (x ty : Name)
+    → list_any (λ j. same (name_at s S (suc j)) ty && same x (name_at s S j)) (record_lines S (param_count S e) (suc e)) ≡ any (λ p. same (type_name p.ty) ty && same x p.name) (entry_at s e).params
+any_param {s} {S} {e} d h x ty =
+    let q = entry_at_lem d h.within h.kind in
+    any_row params d _ (λ p. same (type_name p.ty) ty && same x p.name) by_line (param_count S e) q.params ∙ rw q.is refl
+  where
+    by_line : (j : ℕ) → Here S grammar.Param j → (same (name_at s S (suc j)) ty && same x (name_at s S j)) ≡ (same (type_name (param_at s j).ty) ty && same x (param_at s j).name)
+    by_line j y = let p = param_at_lem d y.within (omega (arith, y.kind.0, y.kind.1)) in rw (p.0, ← type_name_lem s S (suc j) d) refl

@@ -1,11 +1,10 @@
 pub mod Behind
 pub mod Codes
-pub mod Entered
+pub mod Each
 pub mod Events
 pub mod Fields
 pub mod Finding
 pub mod Items
 pub mod Literals
-pub mod Rows
 pub mod Tables
 pub mod Types

@@ -9,10 +9,7 @@ use sheet::{LoadedSheet, item_count};
 pub fn event_named(sheet: &LoadedSheet<'_>, x: &[u8]) -> Option<usize>
     ensures { EventNamed sheet.now.bytes.now sheet.now.lines.now x.now result }
 {
-    for at in sheet.records(1, item_count(sheet.lines, 0)) {
-        if is_named(sheet, Kind::Event, x, at) {
-            return Some(at);
-        }
-    }
-    None
+    sheet
+        .records(1, item_count(sheet.lines, 0))
+        .find(|at| is_named(sheet, Kind::Event, x, *at))
 }

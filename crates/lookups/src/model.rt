@@ -1,16 +1,18 @@
 // Lookups by name. `HashMap` becomes a search by name, the last one winning.
-ghost use Rattle.std.specs.Prelude.{◌&&◌, ◌≡◌, eqb};
+ghost use Rattle.std.specs.Prelude.{◌&&◌, ◌≡◌, ◌<◌, eqb, suc};
 ghost use Rattle.text.specs.Text.{same};
 ghost use Rattle.grammar.specs.Grammar.{Item};
 ghost use Rattle.grammar.specs.Coded.{kind_number};
-ghost use Rattle.sheet.specs.Scratch.{kind_at, name_at};
+ghost use Rattle.sheet.specs.Scratch.{kind_at, line_count, name_at};
 ghost use Rattle.lookups.specs.Found.{FieldNamed, FieldsNamed, Last, Newest, Stretch};
 ghost use Rattle.lookups.specs.Lines.{KindAt};
-ghost use Rattle.rules.specs.Standing.{Row};
+ghost use Rattle.rules.specs.Arithmetic.{any};
+ghost use Rattle.rules.specs.Ast.{type_name};
+ghost use Rattle.rules.specs.Standing.{Row, entry_at};
 ghost use Rattle.grammar.specs.Kinds as kinds;
 
 use grammar::Kind;
-use sheet::{LoadedSheet, field_count, item_count};
+use sheet::{LoadedSheet, field_count, item_count, param_count};
 use text::is_word;
 
 // Whether line i is a record of kind k with the name x.
@@ -23,8 +25,8 @@ pub fn is_named(sheet: &LoadedSheet<'_>, k: Kind, x: &[u8], i: usize) -> bool
     is_word(x, sheet.name(i))
 }
 
-// The last record of kind k with the name x among count records, the first of which stands at line from. What is found so far is a bool and
-// a number, and no enum, which would be copied at every turn.
+// The last record of kind k with the name x among count records, the first of which stands at line from. A loop, as below: of `filter(..).last()` it
+// would be left to show which lines the filter passes.
 pub fn last_named(
     sheet: &LoadedSheet<'_>,
     k: Kind,
@@ -35,15 +37,13 @@ pub fn last_named(
     requires { Stretch sheet.now.lines.now count from }
     ensures { Last sheet.now.bytes.now sheet.now.lines.now (kind_number k) x.now count from result }
 {
-    let mut hit = false;
-    let mut line = 0;
+    let mut found = None;
     for at in sheet.records(from, count) {
         if is_named(sheet, k, x, at) {
-            hit = true;
-            line = at;
+            found = Some(at);
         }
     }
-    hit.then_some(line)
+    found
 }
 
 // The last field of the name x that the state at a line declares, else what was found before.
@@ -85,4 +85,22 @@ pub fn field_named(sheet: &LoadedSheet<'_>, x: &[u8]) -> Option<usize>
     ensures { FieldNamed sheet.now.bytes.now sheet.now.lines.now x.now result }
 {
     fields_named(sheet, x, 1, item_count(sheet.lines, 0))
+}
+
+// Whether the parameter at a line has the name x and a type of the name ty.
+fn is_typed(sheet: &LoadedSheet<'_>, x: &[u8], ty: &[u8], param: usize) -> bool
+    requires { param < line_count sheet.now.lines.now }
+    ensures { result ≡ (same (name_at sheet.now.bytes.now sheet.now.lines.now (suc param)) ty.now && same x.now (name_at sheet.now.bytes.now sheet.now.lines.now param)) }
+{
+    is_word(sheet.name(param + 1), ty) & is_word(x, sheet.name(param))
+}
+
+// Whether an entry has a parameter of the name x and of a type of the name ty.
+pub fn has_param(sheet: &LoadedSheet<'_>, entry: usize, x: &[u8], ty: &[u8]) -> bool
+    requires { KindAt kinds.entry sheet.now.lines.now entry }
+    ensures { result ≡ any (λ p. same (type_name p.ty) ty.now && same x.now p.name) (entry_at sheet.now.bytes.now entry).params }
+{
+    sheet
+        .records(entry + 1, param_count(sheet.lines, entry))
+        .any(|at| is_typed(sheet, x, ty, at))
 }

@@ -1,9 +1,10 @@
 // Declared types.
-ghost use Rattle.std.specs.Prelude.{◌≡◌, suc, ◌<◌, get_or, length};
+ghost use Rattle.std.specs.Prelude.{[], ◌∷◌, ◌≡◌, suc, ◌<◌, get_or, length};
 ghost use Rattle.rules.specs.declared.ty.Ty.TheVariants.{Unknown};
 ghost use Rattle.rules.specs.Types.{compatible, numeric, one_word};
 ghost use Rattle.rules.specs.Types.{declared_arg, is_zero_literal, ty_of_decl, ty_of_name, zero_digit};
 ghost use Rattle.text.specs.Text.{all};
+ghost use Rattle.rules.specs.Text.{is_one};
 ghost use Rattle.rules.specs.Standing.{expr_at, Here, type_at};
 ghost use Rattle.grammar.specs.Grammar as grammar;
 ghost use Rattle.sheet.specs.Scratch.{skip, line_count};
@@ -22,7 +23,7 @@ fn named(place: usize) -> Ty
     NAMED[place]
 }
 
-// In the order of the words: a map would need a heap.
+// In the order of the words. A map would need a heap, and a `match` on the words is a tree of comparisons with a goal for each.
 const NAMED: [Ty; 20] = [
     Ty::Int,
     Ty::Int,
@@ -110,6 +111,14 @@ pub fn ty_of_decl(sheet: &LoadedSheet<'_>, i: usize) -> Ty
     ensures { result ≡ ty_of_decl (type_at sheet.now.bytes.now i) }
 {
     ty_of_name(sheet.name(i))
+}
+
+// Whether a declared type of this name holds values by keys.
+#[tactic(auto, unfolding(rules::specs::Text::is_one, rules::specs::Text::is))]
+pub fn is_keyed(name: &[u8]) -> bool
+    ensures { result ≡ is_one name.now ("Map" ∷ "Registry" ∷ []) }
+{
+    is_word(name, b"Map") | is_word(name, b"Registry")
 }
 
 #[tactic(auto, unfolding(rules::specs::Types::numeric, rules::specs::Types::is_ty, rules::specs::Types::eq_ty, rules::specs::Asking::code))]

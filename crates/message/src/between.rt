@@ -34,7 +34,7 @@ pub fn say_method(sheet: &LoadedSheet<'_>, message: &mut Message<'_>, i: usize, 
     message.say(b"`", b"", after);
 }
 
-// What a type is called.
+// What a type is called. No `Display`: a formatter would want a `fmt::Write` of `Message`, which is `add`.
 fn describe(ty: Ty) -> &'static [u8]
     ensures { result.now ≡ bytes (describe ty) }
 {

@@ -21,7 +21,8 @@ use refusals::Refusal;
 use sheet::LoadedSheet;
 use writing::{Message, type_name_of};
 
-// Adds the message of a refusal.
+// Adds the message of a refusal. Here and below the sheet and the message stand side by side: a `Message` that held the sheet was tried, and then
+// who writes a number or a literal alone owes a loaded sheet, and each promise is longer, as it names the sheet of the message before.
 pub fn add_message(sheet: &LoadedSheet<'_>, message: &mut Message<'_>, r: Refusal)
     ensures { Adds (render (refusal_of sheet.now.bytes.now r).text) message.old message.new }
 {
@@ -39,7 +40,7 @@ pub fn add_message(sheet: &LoadedSheet<'_>, message: &mut Message<'_>, r: Refusa
     }
 }
 
-// The same from 21 on.
+// The same from 21 on. In parts, since a function has 40 lines at most; the last arm of all can't come (`From`).
 fn add_from_21(sheet: &LoadedSheet<'_>, message: &mut Message<'_>, r: Refusal)
     requires from { From 21 r }
     ensures { Adds (render (refusal_of sheet.now.bytes.now r).text) message.old message.new }

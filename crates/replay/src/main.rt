@@ -126,6 +126,7 @@ fn turn<R: Read, W: Write>(input: &mut R, out: &mut W) -> io::Result<bool>
 // How many sheets are answered at most.
 const MOST_SHEETS: u32 = 1000000;
 
+// `replay_reader` ends in the same lines. Shared, they would be a function over a closure whose `requires` each program shows again, and longer.
 fn main(rt: HostRuntime) -> io::Result<()> {
     let mut input = rt.stdin();
     let mut out = rt.stdout();

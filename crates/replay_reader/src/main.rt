@@ -13,7 +13,7 @@ use sheet::Refused;
 use std::io;
 use std::io::{Read, Write};
 
-// A line's number, counted from 1.
+// A line's number, counted from 1; 0 for one that no sheet has.
 fn from_one(i: usize) -> u64
     ensures { result ≡ from_one_of i }
 {
@@ -107,6 +107,7 @@ fn turn<R: Read, W: Write>(input: &mut R, out: &mut W) -> io::Result<bool>
 // How many sheets are answered at most.
 const MOST_SHEETS: u32 = 100000;
 
+// `replay` ends in the same lines. Shared, they would be a function over a closure whose `requires` each program shows again, and longer.
 fn main(rt: HostRuntime) -> io::Result<()> {
     let mut input = rt.stdin();
     let mut out = rt.stdout();

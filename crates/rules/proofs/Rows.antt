@@ -1,17 +1,22 @@
 -- Records one behind another: the first of those that are left, and what is known of all of them. Assumes nothing.
-use mathlib.Core.Path.{◌≡◌, refl, sym, ap, ◌∙◌}
+use mathlib.Core.Path.{◌≡◌, refl, ap, ◌∙◌}
 use mathlib.Core.List.{List, [], ◌∷◌}
 use mathlib.Core.Bool.{Bool, true, false, ◌&&◌, ◌||◌}
-use Prim.Native.Nat.{ℕ, suc, ◌-◌, ◌<◌, ◌≤◌}
+use Prim.Native.Nat.{ℕ, zero, suc, ◌-◌, ◌<◌, ◌≤◌}
 use native.Mathlib.Omega.{arith}
+use lib.ListN.{length, get_or}
+use Rattle.std.specs.List.{list_any}
+use Rattle.std.specs.Iterator.{CallableAtEachTurn}
+use Rattle.std.proofs.lemmas.Iterator.Adapters.{serves_from_places}
 use Rattle.text.specs.Text.{same}
 use Rattle.grammar.specs.Grammar as grammar
 use Rattle.sheet.specs.Scratch.{end_at, line_count}
-use Rattle.sheet.specs.Records.{Steps}
+use Rattle.sheet.specs.Records.{Steps, NextOf}
+use Rattle.sheet.proofs.RecordLines.{record_lines, gives_lines}
 use Rattle.sheet.specs.declared.records.Records.{Records}
 use Rattle.sheet.specs.Tree.{take_nodes}
 use Rattle.rules.specs.Text.{Name, among}
-use Rattle.rules.specs.Ast.{Expr, more, list, exprs_of}
+use Rattle.rules.specs.Ast.{Expr, list, exprs_of}
 use Rattle.rules.specs.Arithmetic.{any}
 use Rattle.rules.specs.Standing.{node_at, nodes_at, expr_at, exprs_at, param_at, params_at, stmt_at, stmts_at, clause_at, clauses_at, Loaded, Here, Row}
 use Rattle.rules.proofs.Lookups.{among_first}
@@ -22,10 +27,6 @@ use Rattle.rules.proofs.Standing.{nodes_next, exprs_next, row_first, row_rest}
 
 pub row_some : {S : List ℕ} {σ : grammar.Sort} {m i : ℕ} → 0 < m → Row S σ m i → Row S σ (suc (m - 1)) i
 row_some {m = m} h r = rw (let e : suc (m - 1) ≡ m = omega arith in e) r
-
-pub exprs_some : {s S : List ℕ} {m i : ℕ} → Loaded s S → 0 < m → Row S grammar.Expr m i → exprs_at s m i ≡ more (expr_at s i) (exprs_at s (m - 1) (end_at S i))
-exprs_some {s} {m = m} {i} d h r =
-    ap (λ k. exprs_at s k i) (let e : m ≡ suc (m - 1) = omega arith in e) ∙ exprs_next d (m - 1) i (row_first (row_some h r)).within
 
 -- what stands at lines one behind another is what stands at each of them
 pub record Listed {A : Type 0} (one : List ℕ → ℕ → A) (all : List ℕ → ℕ → ℕ → List A) : Type 0 where
@@ -113,25 +114,31 @@ module _ {A : Type 0} {σ : grammar.Sort} {all : List ℕ → ℕ → ℕ → Li
           walk = rw n at (row_onward l w.walk (omega (arith, h.left)) t.at (rw w.lines at h.behind) (rw h.here at f));
         }
 
--- ------------------------------------------------------------ a search in a row
+-- ------------------------------------------------------------ the library's methods over a row
 
--- whether p of one of the records that r gives
-abbrev pub Seeking : {A : Type 0} → grammar.Sort → (List ℕ → ℕ → ℕ → List A) → (A → Bool) → Bool → (s S : List ℕ) → Records → Type 0
-Seeking σ all p whole s S r = IterWalk σ all (λ as'. whole ≡ any p as') s S r
+-- P of the records of a row and their lines, from the last one on
+pub by_row : {A : Type 0} {σ : grammar.Sort} {one : List ℕ → ℕ → A} {all : List ℕ → ℕ → ℕ → List A} (l : Listed one all) {s S : List ℕ} (d : Loaded s S) (P : List A → List ℕ → Type 0) → P [] []
+    → ((i : ℕ) → Here S σ i → (as' : List A) (is : List ℕ) → P as' is → P (one s i ∷ as') (i ∷ is)) → (n : ℕ) {i : ℕ} → Row S σ n i → P (all s n i) (record_lines S n i)
+unfolding record_lines
+by_row l {s} d P z f zero {i} r = rw (l.empty s i) z
+by_row l d P z f (suc n) {i} r = let h = row_first r in rw (l.first d n h.within) (f i h _ _ (by_row l d P z f n (row_rest r)))
 
-module _ {A : Type 0} (σ : grammar.Sort) (all : List ℕ → ℕ → ℕ → List A) (s S : List ℕ) (p : A → Bool) (whole : Bool) (r : Records) (w : Seeking σ all p whole s S r) (one : List ℕ → ℕ → A) (l : Listed one all) where
-  pub seek_over : r.left ≡ 0 → false ≡ whole
-  unfolding any
-  seek_over h = sym (iter_over l w h)
+-- `any`, where t tells of a line whether p of the record there
+pub any_row : {A : Type 0} {σ : grammar.Sort} {one : List ℕ → ℕ → A} {all : List ℕ → ℕ → ℕ → List A} (l : Listed one all) {s S : List ℕ} (d : Loaded s S) (t : ℕ → Bool) (p : A → Bool)
+    → ((i : ℕ) → Here S σ i → t i ≡ p (one s i)) → (n : ℕ) {i : ℕ} → Row S σ n i → list_any t (record_lines S n i) ≡ any p (all s n i)
+unfolding any
+any_row l d t p e n r = by_row l d (λ as' is. list_any t is ≡ any p as') refl (λ i h as' is z. rw (e i h, z) refl) n r
 
-  module _ (i : ℕ) (t : Records) (h : Steps r i t) (b : Bool) (e : b ≡ p (one s i)) where
-    pub seek_found : b ≡ true → true ≡ whole
-    unfolding any
-    seek_found q = iter_found h l w (λ as' z. sym (z ∙ rw (← e, q) refl))
+line_here : {S : List ℕ} {σ : grammar.Sort} (n : ℕ) {i : ℕ} → Row S σ n i → (k x : ℕ) → k < length (record_lines S n i) → x ≡ get_or (record_lines S n i) k x → Here S σ x
+unfolding record_lines
+line_here zero r k x h e = absurd (omega arith)
+line_here (suc n) r zero x h e = rw e (row_first r)
+line_here (suc n) r (suc k) x h e = line_here n (row_rest r) k x (omega arith) e
 
-    pub seek_next : b ≡ false → Seeking σ all p whole s S t
-    unfolding any
-    seek_next q = iter_onward h l w (λ as' z. z ∙ rw (← e, q) refl)
+-- a closure that each call leaves as it was may be called at each record of a row, where it may at any record of the sort
+pub serves_row : {S : List ℕ} {σ : grammar.Sort} {n i : ℕ} {r : Records} → Row S σ n i → r.lines.now ≡ S → r.left ≡ n → r.at ≡ i → {F : Type 0} {R : F → ℕ → F → Type 0} {Q : F → ℕ → Type 0} {f : F}
+    → ((x : ℕ) (q : F) → R f x q → q ≡ f) → ((x : ℕ) → Here S σ x → Q f x) → CallableAtEachTurn NextOf R Q r f
+serves_row {n = n} w e p q stays h = serves_from_places (gives_lines e p q) stays (λ x k l z. h x (line_here n w k x l z))
 
 -- the names that g takes of a list, where t is true
 pub among_any : {A : Type 0} (t : A → Bool) (name : A → Name) (g : List A → List Name) → g [] ≡ []

@@ -17,6 +17,7 @@ pub enum Ty {
     Unknown,
 }
 
+// Methods and not `From` and `TryFrom`: the number is the mark of a table, which has others beside these, and most marks tell no type.
 impl Ty {
     // The type that a line's mark tells, if it tells one.
     #[tactic(auto, unfolding(crate::specs::Kept::ty_of_mark))]

@@ -21,3 +21,4 @@ pub mod FromOne
 pub mod Joining
 pub mod Bytes
 pub mod Tested
+pub mod RecordLines

@@ -6,7 +6,7 @@ use borrow.Author.Tests.{ltb-true, ltb-false}
 use lib.Dec.{ltb}
 use Prim.Native.Nat.{ℕ, ◌+◌, ◌-◌, ◌≤◌, ◌<◌}
 use native.Mathlib.Omega.{arith}
-use lib.ListN.{length, take, drop, length-take, length-drop}
+use lib.ListN.{length, take, drop}
 use mir.Val.{Fits}
 use mir.Syntax.{w64}
 use Rattle.std.specs.Prelude.{Result, Ok, Err}
@@ -64,17 +64,11 @@ module _ {s S T : List ℕ} {d : Depths} {at i : ℕ} (g : Going s S T d.due d.c
     returns-sortless {f} q = scans_refused s S T f (turn_sortless s S T d.due d.count at i w g h o f p q) g.size
 
     module _ {f : ℕ} (e : Found s at f) where
-      pub after_start : at ≤ f + 1
-      after_start = omega arith
-
       pub before_end : f + 1 ≤ length s
       before_end = omega (arith, line_ends s at w.terminated h)
 
       pub end_fits : Fits w64 (f + 1)
       end_fits = let b = before_end in omega (arith, w.small)
-
-      pub line-within : at + length (take (f + 1 - at) (drop at s)) ≤ 65535
-      line-within = let b = before_end in simp (length-take, length-drop) (omega (arith, w.small))
 
       module _ {σ : code.Sort} (q : o ≡ Ok σ) {r : Result Line Refused} (u : Got s at i σ f r) where
         sort : (d.count ≡ 0 → ⊥) × (d.count ≤ 65) × (σ ≡ sort_from (sort_due T d.due d.count))

@@ -21,4 +21,4 @@ pub use loaded_sheet::LoadedSheet;
 pub use loader::load;
 pub use records::Records;
 pub use refusal::Refused;
-pub use scratch::{CELLS_PER_LINE, line_count};
+pub use scratch::{CELLS_PER_LINE, line_count, skip};

@@ -14,7 +14,7 @@ use grammar::{Kind, Rule, Sort, always, fields, kind_for, place_of_bin, rule};
 use text::{count, find, is_name, is_text, number_of, place_in};
 
 // A line without its spans, as its cells hold it: the numbers of its kind and of its operator, where it and its name start in the sheet, and
-// how many parts of each of its record's sorts it has.
+// how many parts of each of its record's sorts it has: three fields, as the definitions name them.
 #[derive(Clone, Copy)]
 pub struct Line {
     pub kind: usize,

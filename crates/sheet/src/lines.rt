@@ -39,7 +39,8 @@ pub fn end(lines: &[u16], i: usize) -> usize
     cell(lines, i, scratch::END)
 }
 
-// A count has the name of what it counts, though several stand in one cell, so that code and contracts say which is meant.
+// A count has the name of what it counts, though several stand in one cell, so that code and contracts say which is meant. What is there once at
+// most is counted too: the line has a number for it.
 
 // How many items the contract has.
 pub fn item_count(lines: &[u16], i: usize) -> usize

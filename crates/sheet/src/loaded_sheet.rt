@@ -9,7 +9,9 @@ use crate::lines;
 use crate::records::Records;
 use grammar::{AssignOp, BinOp, Kind, UnaryOp};
 
-// What `load` read, and the cells that it laid.
+// What `load` read, and the cells that it laid. What stands at a line (`Here`, `KindAt`) is a fact of a number and a sheet together, as is that
+// a table has room for it. It stands in the `requires` of those that ask it: many functions name several lines of one sheet, and most go on from theirs to
+// others, so a type for a line would hold the sheet again each time, be made anew at each step, and owe that the sheets are one.
 #[derive(Clone, Copy)]
 pub struct LoadedSheet<'a> {
     pub bytes: &'a [u8],
@@ -18,7 +20,7 @@ pub struct LoadedSheet<'a> {
 }
 
 impl<'a> LoadedSheet<'a> {
-    // The kind of the record at line i.
+    // The kind of the record at line i, for who wants to know it; the rules ask by `is`.
     pub fn kind(&self, i: usize) -> Option<Kind>
         ensures { result ≡ kind_of (kind_at self.now.lines.now i) }
     {
@@ -26,7 +28,7 @@ impl<'a> LoadedSheet<'a> {
     }
 
     // Whether the record at line i is of a kind. The rules ask by this and have no `match` on `kind`: they name a few of 34 kinds, and its
-    // arm for the others would have a fact for each.
+    // last arm would stand for all the others.
     pub fn is(&self, i: usize, kind: Kind) -> bool
         ensures { result ≡ eqb (kind_at self.now.lines.now i) (kind_number kind) }
     {
@@ -66,7 +68,8 @@ impl<'a> LoadedSheet<'a> {
         lines::name(self.bytes, self.lines, i)
     }
 
-    // `count` records, the first at line from.
+    // `count` records, the first at line from. One method for all rows: a caller says which parts of a record it means by the count's name, and a method
+    // for each would be eight with a promise each.
     pub fn records(&self, from: usize, count: usize) -> Records<'a>
         ensures lines { result.lines.now ≡ self.now.lines.now }
         ensures left { result.left ≡ count }

@@ -31,10 +31,7 @@ fn load_lines(sheet: &[u8], lines: &mut [u16]) -> Result<usize, Refused>
 fn unended(sheet: &[u8]) -> bool
     ensures { result ≡ unended_of sheet.now }
 {
-    if sheet.len() == 0 {
-        return true;
-    }
-    sheet[sheet.len() - 1] != b'\n'
+    sheet.last() != Some(&b'\n')
 }
 
 // The first of refusals 1 and 2 that holds.

@@ -16,14 +16,14 @@ pub struct Due {
     owner: u16,
 }
 
-// The depths at which records are due, the deepest last. Of a 66th nothing is kept: a record there is too deep.
+// The depths at which records are due, the deepest last, in an array with its count, since there is no heap. Of a 66th nothing is kept: a record there is too deep.
 #[derive(Clone, Copy)]
 pub struct Depths {
     due: [Due; 65],
     pub count: usize,
 }
 
-// The sort of the parts in group g of a record whose kind has a number; that of a contract where no kind has it.
+// The sort of the parts in group g of a record whose kind has a number; that of a contract where no kind has it, as in the definition.
 fn sort_of_group(kind: usize, g: usize) -> Sort
     requires { g < most_groups }
     ensures { result ≡ sort_from (get_or sort_table (most_groups * kind + g) 0) }

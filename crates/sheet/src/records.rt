@@ -2,7 +2,8 @@
 
 use crate::lines::end;
 
-// `left` records, the first at line `at`.
+// `left` records, the first at line `at`. Most functions take the line and the count, and no `Records`: it has lines of its own beside those
+// of the sheet. The bounds of guardian sets take it, since they ask what is left of it.
 #[derive(Clone, Copy)]
 pub struct Records<'a> {
     pub lines: &'a [u16],

@@ -9,7 +9,7 @@ use crate::line::Line;
 // How many cells a line has.
 pub const CELLS_PER_LINE: usize = 8;
 
-// The cells of a line: kind and operator, where it starts, the line after its parts, where its name starts, the name's length, and how
+// The cells of a line, by number and not in a struct, since C lends the scratch as u16 cells: kind and operator, where it starts, the line after its parts, where its name starts, the name's length, and how
 // many parts of each of its record's sorts it has.
 pub const KIND: usize = 0;
 
@@ -37,14 +37,14 @@ pub fn line_count(lines: &[u16]) -> usize
     lines.len() / CELLS_PER_LINE
 }
 
-// Cell k of line i; 0 where there is no such line.
+// Cell k of line i; 0 where there is no such line, and no Option: a kind of 0 and an end of 0 are what the definitions have there.
 pub fn cell(lines: &[u16], i: usize, k: usize) -> usize
     requires { k < cells_per_line }
     ensures value { result ≡ cell_of lines.now i k }
     ensures upper_bound { result < 65536 }
 {
     if i < lines.len() / CELLS_PER_LINE {
-        lines[CELLS_PER_LINE * i + k] as usize
+        usize::from(lines[CELLS_PER_LINE * i + k])
     } else {
         0
     }
@@ -71,14 +71,13 @@ pub fn put_line(lines: &mut [u16], i: usize, l: Line)
     put(lines, i, THIRD, l.third);
 }
 
-// The line after k trees, the first of which stands at line j.
-fn skip(lines: &[u16], k: usize, j: usize) -> usize
-    requires { j < 65536 }
-    ensures value { result ≡ skip_of lines.now k j }
-    ensures upper_bound { result < 65536 }
+// The line after `count` records, the first of which stands at line from.
+pub fn skip(lines: &[u16], count: usize, from: usize) -> usize
+    ensures value { result ≡ skip_of lines.now count from }
+    ensures upper_bound { from < 65536 → result < 65536 }
 {
-    let mut at = j;
-    for _ in 0..k {
+    let mut at = from;
+    for _ in 0..count {
         at = cell(lines, at, END);
     }
     at

@@ -31,7 +31,8 @@ use Rattle.rules.proofs.Standing.{row_first, row_rest}
 use Rattle.refusals.specs.Refusal.{refusal_of, done_of}
 use Rattle.refusals.specs.declared.refusal.Refusal.{Refusal}
 use Rattle.refusals.specs.declared.refusal.Refusal.TheVariants.{Predicate, Default}
-use Rattle.refusals.proofs.Answers.{fits, misfits, refuses}
+use Rattle.refusals.specs.Answers.{expected}
+use Rattle.refusals.proofs.Answers.{expects, fits, refuses}
 use Rattle.lookups.proofs.Types.{type_name_lem}
 use Rattle.env.specs.Calls.{KeyedOf}
 use Rattle.env.specs.Force.{env_of, InForce}
@@ -46,8 +47,8 @@ use Rattle.rules.proofs.Operators.{assign_told}
 use Rattle.grammar.specs.Coded.{assign_of}
 use Rattle.grammar.specs.declared.ops.AssignOp as code
 use Rattle.grammar.specs.declared.ops.AssignOp.TheVariants as assign_op
-use Rattle.typing.specs.Asks.{callee_at, args_at, Asks, AsksAt, AsksCall, Types, Does}
-use Rattle.typing.proofs.Calls.{parts, call_callee, call-args}
+use Rattle.typing.specs.Asks.{callee_at, args_at, Asks, AsksAt, Types, Does}
+use Rattle.typing.proofs.Calls.{parts, call_callee}
 use Rattle.typing.proofs.Doing.{typed_then, not_typed}
 use Rattle.typing.proofs.Onward.{Onward, onward, no_value_below, off_type}
 use Rattle.typing.proofs.Operators.{gave}
@@ -69,13 +70,9 @@ module _ (s : List ℕ) (env : Env) (T : Table) (i : ℕ) (a : Result Ty Refusal
     unfolding is_ty
     boolean = rw (← told_ty c Boolean x g, ← told_ty c Unknown y h, or-false) refl
 
-    pub condition : (x || y) ≡ true → Does s (expect_predicate (env_of s T env) (expr_at s i)) T (Ok tt) U
-    unfolding expect_predicate done_of
-    condition q = typed_then s _ _ T a U k c (Ok tt) e (fits _ 21 _ _ (boolean ∙ q))
-
-    pub not_condition : (x || y) ≡ false → Does s (expect_predicate (env_of s T env) (expr_at s i)) T (Err (Predicate i)) U
-    unfolding expect_predicate done_of refusal_of
-    not_condition q = typed_then s _ _ T a U k c (Err (Predicate i)) e (misfits _ 21 _ _ (boolean ∙ q))
+    pub condition : (r : Result Unit Refusal) → r ≡ expected (x || y) (Predicate i) → Does s (expect_predicate (env_of s T env) (expr_at s i)) T r U
+    unfolding expect_predicate refusal_of
+    condition r q = typed_then s _ _ T a U k c r e (expects s _ (Predicate i) r (q ∙ ap (λ b. expected b (Predicate i)) (sym boolean)))
 
 -- ------------------------------------------------------------ check_value
 
@@ -84,7 +81,7 @@ module _ (s S : List ℕ) (env : Env) (T : Table) (op : code.AssignOp) (target v
   unfolding given_to
   value_no r e = record { does = λ x p. not_typed s _ _ T a U k r e }
 
-  pub value_ok : (d : Ty) (r : Result Unit Refusal) → a ≡ Ok d → JudgesAssign s S env op target value c d r → DoesAssign s S env op target value c T r U
+  pub value_ok : (d : Ty) (r : Result Unit Refusal) → a ≡ Ok d → JudgesAssign s S env (record { op = op; target = target; value = value; slot = c; given = d }) r → DoesAssign s S env op target value c T r U
   unfolding given_to
   value_ok d r e j = record { does = λ x p. typed_then s _ _ T a U k d r e (j.judged T x p) }
 
@@ -138,9 +135,6 @@ module _ (s S : List ℕ) (env : Env) (T : Table) (i : ℕ) (loaded : Loaded s S
     use_callee = call_callee s S env T i loaded force use_call
 
     module _ (keyed : Option ℕ) (f : KeyedOf s S env (i + 1) keyed) where
-      pub use_args : AsksCall s S env T i keyed
-      use_args = call-args s S env T i loaded force use_call keyed f
-
       pub use_ok : (r : Result Unit Refusal) (U : Table) → Does s (check_keyed_call (env_of s T env) (callee_at s i) (typings (env_of s T env) (args_at s S i))) T r U
           → Does s (check_keyed_use (env_of s T env) (expr_at s i)) T r U
       unfolding check_keyed_use call_of if_some callee_at args_at

@@ -1,6 +1,6 @@
 -- `judge_assign`: what each return needs. Assumes nothing.
 use mathlib.Core.Logic.{◌⊎◌, inl, inr}
-use mathlib.Core.Path.{◌≡◌, refl, sym, ◌∙◌}
+use mathlib.Core.Path.{◌≡◌, refl, sym, ap, ◌∙◌}
 use mathlib.Core.List.{List}
 use mathlib.Core.Bool.{Bool, true, false, true≢false, cond, not, ◌&&◌, and-eq-true_iff, or-false}
 use Prim.Native.Nat.{ℕ}
@@ -14,7 +14,6 @@ use Rattle.rules.specs.Text.{Name}
 use Rattle.sheet.specs.Tree.{node}
 use Rattle.rules.specs.Ast.{Expr, span, span_of, expr_of}
 use Rattle.rules.specs.Asking.{Res, ok, refused, Rule, ◌>>◌, expect, if_some}
-use Rattle.rules.specs.declared.ty.Ty.{Ty}
 use Rattle.rules.specs.declared.ty.Ty.TheVariants.{Address, Asset, Name as TName}
 use Rattle.rules.specs.Kept.{Table}
 use Rattle.rules.specs.Types.{parse_u128, int_of, eq_ty}
@@ -30,16 +29,16 @@ use Rattle.refusals.specs.Answers.{Answers, expected}
 use Rattle.refusals.specs.Refusal.{number_in, refusal_of, done_of}
 use Rattle.refusals.specs.declared.refusal.Refusal.{Refusal}
 use Rattle.refusals.specs.declared.refusal.Refusal.TheVariants.{AssetSlot, NameIntoAddress, WrappingIntoNarrow, LiteralIntoNarrow, SlotMismatch}
-use Rattle.refusals.proofs.Answers.{gives, then_fine, then_refused, fits, misfits, passes, refuses}
+use Rattle.refusals.proofs.Answers.{expects, gives, then_fine, then_refused, fits, misfits, passes, refuses}
 use denote.Enum.Bare.{sameb}
 use Rattle.rules.specs.contracts.ty.Ty.{the_type}
 use Rattle.rules.proofs.Same.{told_ty}
 use Rattle.rules.specs.Operators.{assign_meant}
-use Rattle.grammar.specs.declared.ops.AssignOp as code
 use Rattle.lookups.proofs.Literals.{literal_at_lem}
 use Rattle.env.specs.Force.{env_of}
 use Rattle.env.specs.declared.env.Env.{Env}
 use Rattle.narrow.specs.Narrow.{exceeds_of}
+use Rattle.statements.specs.declared.assign.Assignment.{Assignment}
 use Rattle.statements.specs.Assigned.{bare_at, TargetAt, AssignAt, becomes_address, narrow_at, is_above, judge_narrow, FitsSlot, JudgesAssign}
 use Rattle.grammar.specs.Kinds as kinds
 
@@ -179,106 +178,106 @@ module _ (target value : ℕ) (above : ℕ → Bool) where
 
 -- ------------------------------------------------------------ rule by rule
 
--- The target e is that of its line, t and u are its type and the value's.
-module _ (s S : List ℕ) (env : Env) (op : code.AssignOp) (target value : ℕ) (t u : Ty) (loaded : Loaded s S) (h : AssignAt S target value) (T : Table) (e : Expr) (p : TargetAt s S target e) where
+-- The target e is that of its line.
+module _ (s S : List ℕ) (env : Env) (a : Assignment) (loaded : Loaded s S) (h : AssignAt S a.target a.value) (T : Table) (e : Expr) (p : TargetAt s S a.target e) where
   abbrev Γ : typing.Env
   Γ = env_of s T env
 
   abbrev given : Expr
-  given = expr_at s value
+  given = expr_at s a.value
 
-  name-is : named_at s target ≡ name_at s S target
+  name-is : named_at s a.target ≡ name_at s S a.target
   name-is = named loaded h.within
 
   -- 24
-  past_asset : (q : Rule Unit) (r : Res Unit) → eq_ty t Asset ≡ false → Answers q r → Answers (expect (not (eq_ty t Asset)) 24 (span e) asset_slot_text >> q) r
-  past_asset q r n a = passes (not (eq_ty t Asset)) 24 (span e) asset_slot_text q r (rw n refl) a
+  past_asset : (q : Rule Unit) (r : Res Unit) → eq_ty a.slot Asset ≡ false → Answers q r → Answers (expect (not (eq_ty a.slot Asset)) 24 (span e) asset_slot_text >> q) r
+  past_asset q r n j = passes (not (eq_ty a.slot Asset)) 24 (span e) asset_slot_text q r (rw n refl) j
 
   -- 25
   abbrev name_rule : Rule Unit
-  name_rule = if_some (ident_of e) λ x. name_into_address Γ (assign_meant op) x given t u
+  name_rule = if_some (ident_of e) λ x. name_into_address Γ (assign_meant a.op) x given a.slot a.given
 
-  address_test : bare_at S target ≡ true
-      → (is_set (assign_meant op) && eq_ty u TName && eq_ty t Address && is_address_field (model_in s) (named_at s target)) ≡ becomes_address s S op target t u
+  address_test : bare_at S a.target ≡ true
+      → (is_set (assign_meant a.op) && eq_ty a.given TName && eq_ty a.slot Address && is_address_field (model_in s) (named_at s a.target)) ≡ becomes_address s S a
   unfolding becomes_address
   address_test b = rw (b, name-is) refl
 
-  name_fine : becomes_address s S op target t u ≡ false → Answers name_rule (ok tt)
+  name_fine : becomes_address s S a ≡ false → Answers name_rule (ok tt)
   unfolding name_into_address env_of
-  name_fine f = if_fine (ident_of e) (bare_at S target) (named_at s target) _ p.ident (λ b. fits _ 25 _ _ (rw (address_test b, f) refl))
+  name_fine f = if_fine (ident_of e) (bare_at S a.target) (named_at s a.target) _ p.ident (λ b. fits _ 25 _ _ (rw (address_test b, f) refl))
 
-  name_no : becomes_address s S op target t u ≡ true → Answers name_rule (refused (refusal_of s (NameIntoAddress target value)))
+  name_no : becomes_address s S a ≡ true → Answers name_rule (refused (refusal_of s (NameIntoAddress a.target a.value)))
   unfolding name_into_address env_of refusal_of becomes_address
   name_no f =
-      let b = ((and-eq-true_iff (bare_at S target) _).0 f).0 in
-      if_named (ident_of e) (bare_at S target) (named_at s target) _ p.ident _ b (misfits _ 25 _ _ (rw (address_test b, b, ((and-eq-true_iff (bare_at S target) _).0 f).1) refl))
+      let b = ((and-eq-true_iff (bare_at S a.target) _).0 f).0 in
+      if_named (ident_of e) (bare_at S a.target) (named_at s a.target) _ p.ident _ b (misfits _ 25 _ _ (rw (address_test b, b, ((and-eq-true_iff (bare_at S a.target) _).0 f).1) refl))
 
-  past_name : (q : Rule Unit) (r : Res Unit) → eq_ty t Asset ≡ false → becomes_address s S op target t u ≡ false → Answers q r
-      → Answers (expect (not (eq_ty t Asset)) 24 (span e) asset_slot_text >> (name_rule >> q)) r
-  past_name q r n f a = past_asset _ r n (then_fine name_rule q tt r (name_fine f) a)
+  past_name : (q : Rule Unit) (r : Res Unit) → eq_ty a.slot Asset ≡ false → becomes_address s S a ≡ false → Answers q r
+      → Answers (expect (not (eq_ty a.slot Asset)) 24 (span e) asset_slot_text >> (name_rule >> q)) r
+  past_name q r n f j = past_asset _ r n (then_fine name_rule q tt r (name_fine f) j)
 
   -- 26 and 27
   abbrev field : Option ℕ
-  field = narrow_field (model_in s) (named_at s target)
+  field = narrow_field (model_in s) (named_at s a.target)
 
   abbrev is-wrapped : Bool
-  is-wrapped = eqb (kind_at S value) kinds.wrapping
+  is-wrapped = eqb (kind_at S a.value) kinds.wrapping
 
-  narrow_told : judge_narrow s S target value ≡ answer target value (is_above s S value) (bare_at S target) field is-wrapped
+  narrow_told : judge_narrow s S a.target a.value ≡ answer a.target a.value (is_above s S a.value) (bare_at S a.target) field is-wrapped
   unfolding judge_narrow narrow_at
   narrow_told = rw (judge_narrow, name-is) refl
 
   abbrev wrap_rule : Rule Unit
   wrap_rule = if_some (ident_of e) λ x. wrapping_into_narrow Γ x given
 
-  wrap_fine : (bare_at S target ≡ true → (is_some field && is-wrapped) ≡ false) → Answers wrap_rule (ok tt)
+  wrap_fine : (bare_at S a.target ≡ true → (is_some field && is-wrapped) ≡ false) → Answers wrap_rule (ok tt)
   unfolding wrapping_into_narrow env_of
   wrap_fine f =
-      if_fine (ident_of e) (bare_at S target) (named_at s target) _ p.ident (λ b. fits _ 26 _ _ (rw ((told loaded h.here).0, f b) refl))
+      if_fine (ident_of e) (bare_at S a.target) (named_at s a.target) _ p.ident (λ b. fits _ 26 _ _ (rw ((told loaded h.here).0, f b) refl))
 
-  wrap_no : bare_at S target ≡ true → (is_some field && is-wrapped) ≡ true → Answers wrap_rule (refused (refusal_of s (WrappingIntoNarrow target value)))
+  wrap_no : bare_at S a.target ≡ true → (is_some field && is-wrapped) ≡ true → Answers wrap_rule (refused (refusal_of s (WrappingIntoNarrow a.target a.value)))
   unfolding wrapping_into_narrow env_of refusal_of
   wrap_no b f =
-      if_named (ident_of e) (bare_at S target) (named_at s target) _ p.ident _ b (misfits _ 26 _ _ (rw ((told loaded h.here).0, f) refl))
+      if_named (ident_of e) (bare_at S a.target) (named_at s a.target) _ p.ident _ b (misfits _ 26 _ _ (rw ((told loaded h.here).0, f) refl))
 
   abbrev literal_rule : Rule Unit
   literal_rule = if_some (ident_of e) λ x. literal_into_narrow Γ x given
 
   -- the literal, if any
-  text_is : int_of given ≡ cond (eqb (kind_at S value) kinds.int) (Some (name_at s S value)) None
+  text_is : int_of given ≡ cond (eqb (kind_at S a.value) kinds.int) (Some (name_at s S a.value)) None
   text_is = int_at loaded h.here
 
-  literal_fine : (bare_at S target ≡ true → (m : ℕ) → field ≡ Some m → is_above s S value m ≡ false) → Answers literal_rule (ok tt)
+  literal_fine : (bare_at S a.target ≡ true → (m : ℕ) → field ≡ Some m → is_above s S a.value m ≡ false) → Answers literal_rule (ok tt)
   unfolding literal_into_narrow env_of is_above
   literal_fine f =
-      if_fine (ident_of e) (bare_at S target) (named_at s target) _ p.ident
-      (λ b. if_fine (int_of given) (eqb (kind_at S value) kinds.int) (name_at s S value) _ text_is
-      (λ y. slot_below field (name_at s S value) _ _ (λ m z. rw y at (f b m z))))
+      if_fine (ident_of e) (bare_at S a.target) (named_at s a.target) _ p.ident
+      (λ b. if_fine (int_of given) (eqb (kind_at S a.value) kinds.int) (name_at s S a.value) _ text_is
+      (λ y. slot_below field (name_at s S a.value) _ _ (λ m z. rw y at (f b m z))))
 
-  literal_no : (m : ℕ) → bare_at S target ≡ true → field ≡ Some m → is_above s S value m ≡ true → Answers literal_rule (refused (refusal_of s (LiteralIntoNarrow target value m)))
+  literal_no : (m : ℕ) → bare_at S a.target ≡ true → field ≡ Some m → is_above s S a.value m ≡ true → Answers literal_rule (refused (refusal_of s (LiteralIntoNarrow a.target a.value m)))
   unfolding literal_into_narrow env_of is_above refusal_of number_in
   literal_no m b z f =
-      let y = ((and-eq-true_iff (eqb (kind_at S value) kinds.int) _).0 f).0 in
-      if_named (ident_of e) (bare_at S target) (named_at s target) _ p.ident _ b
-      (if_named (int_of given) (eqb (kind_at S value) kinds.int) (name_at s S value) _ text_is _ y
-      (rw (literal_at_lem loaded value, y) (slot_above field (name_at s S value) _ _ m z (rw y at f))))
+      let y = ((and-eq-true_iff (eqb (kind_at S a.value) kinds.int) _).0 f).0 in
+      if_named (ident_of e) (bare_at S a.target) (named_at s a.target) _ p.ident _ b
+      (if_named (int_of given) (eqb (kind_at S a.value) kinds.int) (name_at s S a.value) _ text_is _ y
+      (rw (literal_at_lem loaded a.value, y) (slot_above field (name_at s S a.value) _ _ m z (rw y at f))))
 
-  narrow_fine : (q : Rule Unit) (r : Res Unit) → judge_narrow s S target value ≡ Ok tt → Answers q r → Answers (wrap_rule >> (literal_rule >> q)) r
-  narrow_fine q r f a =
+  narrow_fine : (q : Rule Unit) (r : Res Unit) → judge_narrow s S a.target a.value ≡ Ok tt → Answers q r → Answers (wrap_rule >> (literal_rule >> q)) r
+  narrow_fine q r f j =
       let g = sym narrow_told ∙ f in
-      then_fine wrap_rule _ tt r (wrap_fine (no_wrapping _ _ _ (bare_at S target) field is-wrapped g))
-      (then_fine literal_rule q tt r (literal_fine (none_above _ _ _ (bare_at S target) field is-wrapped g)) a)
+      then_fine wrap_rule _ tt r (wrap_fine (no_wrapping _ _ _ (bare_at S a.target) field is-wrapped g))
+      (then_fine literal_rule q tt r (literal_fine (none_above _ _ _ (bare_at S a.target) field is-wrapped g)) j)
 
   some_field : (m : ℕ) → field ≡ Some m → is_some field ≡ true
   some_field m z = rw z refl
 
-  narrow_no : (q : Rule Unit) (why : Refusal) → judge_narrow s S target value ≡ Err why → Answers (wrap_rule >> (literal_rule >> q)) (refused (refusal_of s why))
+  narrow_no : (q : Rule Unit) (why : Refusal) → judge_narrow s S a.target a.value ≡ Err why → Answers (wrap_rule >> (literal_rule >> q)) (refused (refusal_of s why))
   narrow_no q why f = by_cases n.by
     where
-      n : Refuses target value (is_above s S value) (bare_at S target) field is-wrapped why
-      n = why_refused target value (is_above s S value) (bare_at S target) field is-wrapped why (sym narrow_told ∙ f)
+      n : Refuses a.target a.value (is_above s S a.value) (bare_at S a.target) field is-wrapped why
+      n = why_refused a.target a.value (is_above s S a.value) (bare_at S a.target) field is-wrapped why (sym narrow_told ∙ f)
 
-      by_cases : ((is-wrapped ≡ true) × (why ≡ WrappingIntoNarrow target value)) ⊎ ((is-wrapped ≡ false) × (is_above s S value n.max ≡ true) × (why ≡ LiteralIntoNarrow target value n.max))
+      by_cases : ((is-wrapped ≡ true) × (why ≡ WrappingIntoNarrow a.target a.value)) ⊎ ((is-wrapped ≡ false) × (is_above s S a.value n.max ≡ true) × (why ≡ LiteralIntoNarrow a.target a.value n.max))
           → Answers (wrap_rule >> (literal_rule >> q)) (refused (refusal_of s why))
       by_cases (inl z) = rw z.1 (then_refused wrap_rule _ _ (wrap_no n.is-bare (rw (some_field n.max n.is-max, z.0) refl)))
       by_cases (inr z) =
@@ -287,52 +286,47 @@ module _ (s S : List ℕ) (env : Env) (op : code.AssignOp) (target value : ℕ) 
 
 -- ------------------------------------------------------------ return by return
 
-module _ (s S : List ℕ) (env : Env) (op : code.AssignOp) (target value : ℕ) (t u : Ty) (loaded : Loaded s S) (h : AssignAt S target value) (x : Bool) (k : x ≡ sameb the_type t Asset) where
-  pub asset_wrong : x ≡ true → JudgesAssign s S env op target value t u (Err (AssetSlot target))
+module _ (s S : List ℕ) (env : Env) (a : Assignment) (loaded : Loaded s S) (h : AssignAt S a.target a.value) (x : Bool) (k : x ≡ sameb the_type a.slot Asset) where
+  pub asset_wrong : x ≡ true → JudgesAssign s S env a (Err (AssetSlot a.target))
   unfolding judge_assign done_of refusal_of
   asset_wrong q =
-      record { judged = λ T e p. rw (← p.place) (refuses (not (eq_ty t Asset)) 24 (span e) asset_slot_text _ (rw (← told_ty t Asset x k, q) refl)) }
+      record { judged = λ T e p. rw (← p.place) (refuses (not (eq_ty a.slot Asset)) 24 (span e) asset_slot_text _ (rw (← told_ty a.slot Asset x k, q) refl)) }
 
-  module _ (n : x ≡ false) (a : Bool) (y : a ≡ becomes_address s S op target t u) where
-    no_asset : eq_ty t Asset ≡ false
-    no_asset = sym (told_ty t Asset x k) ∙ n
+  module _ (n : x ≡ false) (b : Bool) (y : b ≡ becomes_address s S a) where
+    no_asset : eq_ty a.slot Asset ≡ false
+    no_asset = sym (told_ty a.slot Asset x k) ∙ n
 
-    pub address_wrong : a ≡ true → JudgesAssign s S env op target value t u (Err (NameIntoAddress target value))
+    pub address_wrong : b ≡ true → JudgesAssign s S env a (Err (NameIntoAddress a.target a.value))
     unfolding judge_assign done_of
     address_wrong f =
         record {
           judged = λ T e p.
-              past_asset s S env op target value t u loaded h T e p _ _ no_asset (then_refused _ _ _ (name_no s S env op target value t u loaded h T e p (sym y ∙ f)));
+              past_asset s S env a loaded h T e p _ _ no_asset (then_refused _ _ _ (name_no s S env a loaded h T e p (sym y ∙ f)));
         }
 
-    module _ (r : Result Unit Refusal) (na : a ≡ false) (q : r ≡ judge_narrow s S target value) where
-      pub narrow_wrong : (why : Refusal) → r ≡ Err why → JudgesAssign s S env op target value t u (Err why)
+    module _ (r : Result Unit Refusal) (nb : b ≡ false) (q : r ≡ judge_narrow s S a.target a.value) where
+      pub narrow_wrong : (why : Refusal) → r ≡ Err why → JudgesAssign s S env a (Err why)
       unfolding judge_assign done_of
       narrow_wrong why f =
           record {
             judged = λ T e p.
-                past_name s S env op target value t u loaded h T e p _ _ no_asset (sym y ∙ na) (narrow_no s S env op target value t u loaded h T e p _ why (sym q ∙ f));
+                past_name s S env a loaded h T e p _ _ no_asset (sym y ∙ nb) (narrow_no s S env a loaded h T e p _ why (sym q ∙ f));
           }
 
-      module _ (g : Bool) (nr : r ≡ Ok tt) (w : FitsSlot s env op value t u g) where
+      module _ (g : Bool) (nr : r ≡ Ok tt) (w : FitsSlot s env a g) where
         -- only the last test is left
-        all_past : (T : Table) (e : Expr) (p : TargetAt s S target e) (v : Res Unit)
-            → Answers (expect (slot_fits (env_of s T env) (assign_meant op) (expr_at s value) t u) 28 (span (expr_at s value)) (slot_text t u)) v
-            → Answers (judge_assign (env_of s T env) (assign_meant op) e (expr_at s value) t u) v
+        all_past : (T : Table) (e : Expr) (p : TargetAt s S a.target e) (v : Res Unit)
+            → Answers (expect (slot_fits (env_of s T env) (assign_meant a.op) (expr_at s a.value) a.slot a.given) 28 (span (expr_at s a.value)) (slot_text a.slot a.given)) v
+            → Answers (judge_assign (env_of s T env) (assign_meant a.op) e (expr_at s a.value) a.slot a.given) v
         unfolding judge_assign
         all_past T e p v j =
-            past_name s S env op target value t u loaded h T e p _ _ no_asset (sym y ∙ na) (narrow_fine s S env op target value t u loaded h T e p _ v (sym q ∙ nr) j)
+            past_name s S env a loaded h T e p _ _ no_asset (sym y ∙ nb) (narrow_fine s S env a loaded h T e p _ v (sym q ∙ nr) j)
 
-        pub slot_fine : g ≡ true → JudgesAssign s S env op target value t u (Ok tt)
-        unfolding done_of
-        slot_fine f = record { judged = λ T e p. all_past T e p _ (fits _ 28 _ _ (sym (w.fits T) ∙ f)) }
-
-        pub slot_wrong : g ≡ false → JudgesAssign s S env op target value t u (Err (SlotMismatch value t u))
-        unfolding done_of refusal_of
-        slot_wrong f =
+        pub slot_judged : (v : Result Unit Refusal) → v ≡ expected g (SlotMismatch a.value a.slot a.given) → JudgesAssign s S env a v
+        unfolding refusal_of
+        slot_judged v f =
             record {
-              judged = λ T e p.
-                  all_past T e p _ ((misfits _ 28 _ _ (sym (w.fits T) ∙ f)));
+              judged = λ T e p. all_past T e p _ (expects s _ (SlotMismatch a.value a.slot a.given) v (f ∙ ap (λ k. expected k (SlotMismatch a.value a.slot a.given)) (w.fits T)));
             }
 
-pub ruleset laws_judged = (loaded_sheet, asset_wrong, address_wrong, narrow_wrong, slot_fine, slot_wrong)
+pub ruleset laws_judged = (loaded_sheet, asset_wrong, address_wrong, narrow_wrong, slot_judged)

@@ -8,7 +8,7 @@ use native.Mathlib.Numerals.{add-one}
 use native.Mathlib.Omega.{arith}
 use lib.Dec.{eqb}
 use borrow.Author.Tests.{eq-eqb, ne_eqb, not-true, not-false}
-use Rattle.std.specs.Prelude.{Option, Some, None, Ok, Err}
+use Rattle.std.specs.Prelude.{Result, Option, Some, None, Ok, Err}
 use Rattle.text.specs.Text.{bytes, same}
 use Rattle.sheet.specs.Scratch.{kind_at, name_at}
 use Rattle.grammar.specs.Grammar as grammar
@@ -27,15 +27,16 @@ use denote.Enum.Bare.{sameb}
 use Rattle.rules.specs.contracts.ty.Ty.{the_type}
 use Rattle.rules.proofs.Same.{told_ty}
 use Rattle.rules.specs.Operators.{assign_meant}
-use Rattle.grammar.specs.declared.ops.AssignOp as code
 use Rattle.lookups.specs.Found.{found_field, FieldNamed}
 use Rattle.lookups.proofs.Behind.{behind}
 use Rattle.lookups.proofs.Types.{type_name_lem}
 use Rattle.env.specs.Force.{env_of}
 use Rattle.env.specs.declared.env.Env.{Env}
 use Rattle.refusals.specs.Answers.{expected}
+use Rattle.refusals.specs.declared.refusal.Refusal.{Refusal}
 use Rattle.refusals.specs.declared.refusal.Refusal.TheVariants.{WrappingIntoNarrow, LiteralIntoNarrow}
 use Rattle.narrow.specs.Narrow.{exceeds_of}
+use Rattle.statements.specs.declared.assign.Assignment.{Assignment}
 use Rattle.statements.specs.Assigned.{bare_at, becomes_address, narrow_at, is_above, judge_narrow, FitsSlot}
 use Rattle.grammar.specs.Kinds as kinds
 
@@ -59,20 +60,20 @@ module _ (s S : List ℕ) (x : Name) (d : Loaded s S) (r : Option ℕ) (n : Fiel
       let q : type_name (field_at s i).ty ≡ y = rw (t.field, z, add-one i) (sym (type_name_lem s S (suc i) d)) in
       rw (is_address_field, ← n.found, e, q) w
 
-module _ (s S : List ℕ) (op : code.AssignOp) (target : ℕ) (slot given : Ty) (b : Bool) (n : b ≡ bare_at S target) where
-  pub address_no_name : not b ≡ true → false ≡ becomes_address s S op target slot given
+module _ (s S : List ℕ) (a : Assignment) (b : Bool) (n : b ≡ bare_at S a.target) where
+  pub address_no_name : not b ≡ true → false ≡ becomes_address s S a
   unfolding becomes_address
   address_no_name e = rw (← n, not-true b e) refl
 
-  module _ (o x y : Bool) (m : not b ≡ false) (q : o ≡ is_set (assign_meant op)) (g : x ≡ sameb the_type given TName) (h : y ≡ sameb the_type slot Address) where
-    pub address_other : (o && x && y) ≡ false → false ≡ becomes_address s S op target slot given
+  module _ (o x y : Bool) (m : not b ≡ false) (q : o ≡ is_set (assign_meant a.op)) (g : x ≡ sameb the_type a.given TName) (h : y ≡ sameb the_type a.slot Address) where
+    pub address_other : (o && x && y) ≡ false → false ≡ becomes_address s S a
     unfolding becomes_address
-    address_other e = rw (← n, not-false b m, ← q, ← told_ty given TName x g, ← told_ty slot Address y h, e) refl
+    address_other e = rw (← n, not-false b m, ← q, ← told_ty a.given TName x g, ← told_ty a.slot Address y h, e) refl
 
-    pub address_named : (z : Name) (r : Bool) → (o && x && y) ≡ true → z ≡ name_at s S target → r ≡ is_address_field (model_in s) z
-        → r ≡ becomes_address s S op target slot given
+    pub address_named : (z : Name) (r : Bool) → (o && x && y) ≡ true → z ≡ name_at s S a.target → r ≡ is_address_field (model_in s) z
+        → r ≡ becomes_address s S a
     unfolding becomes_address
-    address_named z r e f w = rw (← n, not-false b m, ← q, ← told_ty given TName x g, ← told_ty slot Address y h, e, ← f) w
+    address_named z r e f w = rw (← n, not-false b m, ← q, ← told_ty a.given TName x g, ← told_ty a.slot Address y h, e, ← f) w
 
 -- ------------------------------------------------------------ narrow fields
 
@@ -108,14 +109,9 @@ module _ (s S : List ℕ) (target value : ℕ) (r : Option ℕ) (q : r ≡ narro
     unfolding judge_narrow
     narrow_wraps f = rw (judge_narrow, is-max, ← z, f) refl
 
-    module _ (b : Bool) (n : t ≡ false) (w : b ≡ is_above s S value max) where
-      pub narrow_above : b ≡ true → Err (LiteralIntoNarrow target value max) ≡ judge_narrow s S target value
-      unfolding judge_narrow expected
-      narrow_above f = rw (judge_narrow, is-max, ← z, n, ← w, f) refl
-
-      pub narrow_fits : b ≡ false → Ok tt ≡ judge_narrow s S target value
-      unfolding judge_narrow expected
-      narrow_fits f = rw (judge_narrow, is-max, ← z, n, ← w, f) refl
+    pub narrow_literal : (b : Bool) (v : Result Unit Refusal) → t ≡ false → b ≡ is_above s S value max → v ≡ expected (not b) (LiteralIntoNarrow target value max) → v ≡ judge_narrow s S target value
+    unfolding judge_narrow
+    narrow_literal b v n w f = f ∙ rw (judge_narrow, is-max, ← z, n, ← w) refl
 
 -- ------------------------------------------------------------ deploy_params
 
@@ -160,24 +156,24 @@ module _ (Γ : typing.Env) (v : Expr) (t u : Ty) where
   add_fits AddTo e = refl
   add_fits SubFrom e = refl
 
-module _ (s : List ℕ) (env : Env) (op : code.AssignOp) (i : ℕ) (t u : Ty) (o : Bool) (q : o ≡ is_set (assign_meant op)) where
-  pub fits_numbers : (x y : Bool) → not o ≡ true → x ≡ numeric t → y ≡ numeric u → FitsSlot s env op i t u (x && y)
-  fits_numbers x y e f g = record { fits = λ T. rw (add_fits (env_of s T env) (expr_at s i) t u (assign_meant op) (sym q ∙ not-true o e), f, g) refl }
+module _ (s : List ℕ) (env : Env) (a : Assignment) (o : Bool) (q : o ≡ is_set (assign_meant a.op)) where
+  pub fits_numbers : (x y : Bool) → not o ≡ true → x ≡ numeric a.slot → y ≡ numeric a.given → FitsSlot s env a (x && y)
+  fits_numbers x y e f g = record { fits = λ T. rw (add_fits (env_of s T env) (expr_at s a.value) a.slot a.given (assign_meant a.op) (sym q ∙ not-true o e), f, g) refl }
 
-  module _ (b : Bool) (n : not o ≡ false) (h : b ≡ compatible t u) where
+  module _ (b : Bool) (n : not o ≡ false) (h : b ≡ compatible a.slot a.given) where
     -- what fits where the operator is `=`
-    fits_set : (r : Bool) → r ≡ (b || (eq_ty t Collection && eq_ty u Unknown && from_deploy_params (env_of s [] env) (expr_at s i))) → FitsSlot s env op i t u r
+    fits_set : (r : Bool) → r ≡ (b || (eq_ty a.slot Collection && eq_ty a.given Unknown && from_deploy_params (env_of s [] env) (expr_at s a.value))) → FitsSlot s env a r
     unfolding from_deploy_params env_of
-    fits_set r e = record { fits = λ T. e ∙ sym (set_fits (env_of s T env) (expr_at s i) t u (assign_meant op) (sym q ∙ not-false o n) ∙ rw h refl) }
+    fits_set r e = record { fits = λ T. e ∙ sym (set_fits (env_of s T env) (expr_at s a.value) a.slot a.given (assign_meant a.op) (sym q ∙ not-false o n) ∙ rw h refl) }
 
-    pub fits_compatible : b ≡ true → FitsSlot s env op i t u true
+    pub fits_compatible : b ≡ true → FitsSlot s env a true
     fits_compatible e = fits_set true (rw e refl)
 
-    module _ (x y : Bool) (f : x ≡ sameb the_type t Collection) (g : y ≡ sameb the_type u Unknown) where
-      pub fits_params : (r : Bool) → b ≡ false → (x && y) ≡ true → r ≡ from_deploy_params (env_of s [] env) (expr_at s i) → FitsSlot s env op i t u r
-      fits_params r e w z = fits_set r (rw (e, ← told_ty t Collection x f, ← told_ty u Unknown y g, w) z)
+    module _ (x y : Bool) (f : x ≡ sameb the_type a.slot Collection) (g : y ≡ sameb the_type a.given Unknown) where
+      pub fits_params : (r : Bool) → b ≡ false → (x && y) ≡ true → r ≡ from_deploy_params (env_of s [] env) (expr_at s a.value) → FitsSlot s env a r
+      fits_params r e w z = fits_set r (rw (e, ← told_ty a.slot Collection x f, ← told_ty a.given Unknown y g, w) z)
 
-      pub fits_not : b ≡ false → (x && y) ≡ false → FitsSlot s env op i t u false
-      fits_not e w = fits_set false (rw (e, ← told_ty t Collection x f, ← told_ty u Unknown y g, w) refl)
+      pub fits_not : b ≡ false → (x && y) ≡ false → FitsSlot s env a false
+      fits_not e w = fits_set false (rw (e, ← told_ty a.slot Collection x f, ← told_ty a.given Unknown y g, w) refl)
 
-pub ruleset laws_tests = (loaded_sheet, address_no_name, address_named, address_other, not_genesis, not_dot, not_named, by_base, no_literal, above_literal, address, no_address, narrow_wide, narrow_wraps, narrow_above, narrow_fits, narrow_no_name, narrow_named, fits_numbers, fits_compatible, fits_params, fits_not)
+pub ruleset laws_tests = (loaded_sheet, address_no_name, address_named, address_other, not_genesis, not_dot, not_named, by_base, no_literal, above_literal, address, no_address, narrow_wide, narrow_wraps, narrow_literal, narrow_no_name, narrow_named, fits_numbers, fits_compatible, fits_params, fits_not)

@@ -3,7 +3,6 @@ use Rattle.std.specs.Prelude.{ℕ, ◌<◌, Bool, not, cond, ◌&&◌, ◌||◌,
 use Rattle.grammar.specs.Grammar as grammar
 use Rattle.sheet.specs.Scratch.{kind_at, name_at, line_count}
 use Rattle.rules.specs.Ast.{Expr, span}
-use Rattle.rules.specs.declared.ty.Ty.{Ty}
 use Rattle.rules.specs.Kept.{Table}
 use Rattle.rules.specs.Typing.{ident_of}
 use Rattle.rules.specs.Statements.{narrow_field, is_set, is_address_field, slot_fits, judge_assign}
@@ -17,8 +16,8 @@ use Rattle.grammar.specs.Kinds as kinds
 use Rattle.rules.specs.declared.ty.Ty.TheVariants.{Address, Name as TName}
 use Rattle.rules.specs.Types.{eq_ty}
 use Rattle.rules.specs.Operators.{assign_meant}
-use Rattle.grammar.specs.declared.ops.AssignOp as code
 use Rattle.refusals.specs.declared.refusal.Refusal.{Refusal}
+use Rattle.statements.specs.declared.assign.Assignment.{Assignment}
 use Rattle.refusals.specs.declared.refusal.Refusal.TheVariants.{WrappingIntoNarrow, LiteralIntoNarrow}
 
 -- a bare name stands at line i: an `id`, or a field, to which its default is assigned
@@ -37,9 +36,9 @@ pub record AssignAt (S : List ℕ) (target value : ℕ) : Type 0 where
 -- ------------------------------------------------------------ tests
 
 -- refusal 25: a name becomes the address that a field of this name holds
-unfoldable pub becomes_address : List ℕ → List ℕ → code.AssignOp → (target : ℕ) → (slot given : Ty) → Bool
-becomes_address s S op target slot given =
-    bare_at S target && (is_set (assign_meant op) && eq_ty given TName && eq_ty slot Address && is_address_field (model_in s) (name_at s S target))
+unfoldable pub becomes_address : List ℕ → List ℕ → Assignment → Bool
+becomes_address s S a =
+    bare_at S a.target && (is_set (assign_meant a.op) && eq_ty a.given TName && eq_ty a.slot Address && is_address_field (model_in s) (name_at s S a.target))
 
 -- the largest number of the narrow field that line i is the bare name of
 unfoldable pub narrow_at : List ℕ → List ℕ → ℕ → Option ℕ
@@ -60,10 +59,10 @@ judge_narrow s S target value =
           cond (eqb (kind_at S value) kinds.wrapping) (Err (WrappingIntoNarrow target value)) (expected (not (is_above s S value max)) (LiteralIntoNarrow target value max))
     ]
 
--- r tells whether a value of the type given fits a slot
-pub record FitsSlot (s : List ℕ) (env : Env) (op : code.AssignOp) (value : ℕ) (slot given : Ty) (r : Bool) : Type 0 where
-  pub fits : (T : Table) → r ≡ slot_fits (env_of s T env) (assign_meant op) (expr_at s value) slot given
+-- r tells whether the value fits the slot
+pub record FitsSlot (s : List ℕ) (env : Env) (a : Assignment) (r : Bool) : Type 0 where
+  pub fits : (T : Table) → r ≡ slot_fits (env_of s T env) (assign_meant a.op) (expr_at s a.value) a.slot a.given
 
 -- r is the rule's answer, whatever the target at its line is
-pub record JudgesAssign (s S : List ℕ) (env : Env) (op : code.AssignOp) (target value : ℕ) (slot given : Ty) (r : Result Unit Refusal) : Type 0 where
-  pub judged : (T : Table) (e : Expr) → TargetAt s S target e → Answers (judge_assign (env_of s T env) (assign_meant op) e (expr_at s value) slot given) (done_of s r)
+pub record JudgesAssign (s S : List ℕ) (env : Env) (a : Assignment) (r : Result Unit Refusal) : Type 0 where
+  pub judged : (T : Table) (e : Expr) → TargetAt s S a.target e → Answers (judge_assign (env_of s T env) (assign_meant a.op) e (expr_at s a.value) a.slot a.given) (done_of s r)

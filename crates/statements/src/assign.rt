@@ -12,10 +12,20 @@ use env::Scope;
 use grammar::{AssignOp, Kind};
 use lookups::{compatible, field_named, numeric};
 use narrow::{exceeds, narrow_field};
-use refusals::Refusal;
+use refusals::{Refusal, expect};
 use rules::Ty;
 use sheet::{LoadedSheet, is_kind};
 use text::is_word;
+
+// An assignment: its operator, the lines of its target and of its value, and their types.
+#[derive(Clone, Copy)]
+pub struct Assignment {
+    pub op: AssignOp,
+    pub target: usize,
+    pub value: usize,
+    pub slot: Ty,
+    pub given: Ty,
+}
 
 #[tactic(auto, unfolding(rules::specs::Statements::is_set))]
 fn is_set(op: AssignOp) -> bool
@@ -44,20 +54,14 @@ fn is_address_field(sheet: &LoadedSheet<'_>, x: &[u8]) -> bool
 
 // Whether a name becomes an address.
 #[tactic(auto, using(crate::proofs::Tests::laws_tests))]
-fn becomes_address(
-    sheet: &LoadedSheet<'_>,
-    op: AssignOp,
-    target: usize,
-    slot: Ty,
-    given: Ty,
-) -> bool
-    ensures { result ≡ becomes_address sheet.now.bytes.now sheet.now.lines.now op target slot given }
+fn becomes_address(sheet: &LoadedSheet<'_>, a: Assignment) -> bool
+    ensures { result ≡ becomes_address sheet.now.bytes.now sheet.now.lines.now a }
 {
-    if !bare(sheet.lines, target) {
+    if !bare(sheet.lines, a.target) {
         return false;
     }
-    if is_set(op) & (given == Ty::Name) & (slot == Ty::Address) {
-        return is_address_field(sheet, sheet.name(target));
+    if is_set(a.op) & (a.given == Ty::Name) & (a.slot == Ty::Address) {
+        return is_address_field(sheet, sheet.name(a.target));
     }
     false
 }
@@ -95,10 +99,10 @@ fn judge_narrow(sheet: &LoadedSheet<'_>, target: usize, value: usize) -> Result<
     if sheet.is(value, Kind::Wrapping) {
         return Err(Refusal::WrappingIntoNarrow { target, value });
     }
-    if is_above(sheet, value, max) {
-        return Err(Refusal::LiteralIntoNarrow { target, value, max });
-    }
-    Ok(())
+    expect(
+        !is_above(sheet, value, max),
+        Refusal::LiteralIntoNarrow { target, value, max },
+    )
 }
 
 // Whether the value is a dot of `deploy_params`, in genesis.
@@ -119,47 +123,45 @@ fn from_deploy_params(scope: &Scope<'_>, value: usize) -> bool
     is_word(scope.sheet.name(value + 1), b"deploy_params")
 }
 
-// Whether a value of one type may be stored in a slot of the other.
+// Whether the value may be stored in the slot.
 #[tactic(auto, using(crate::proofs::Tests::laws_tests))]
-fn slot_fits(scope: &Scope<'_>, op: AssignOp, value: usize, slot: Ty, given: Ty) -> bool
-    requires { Here scope.now.sheet.lines.now grammar.Expr value }
-    ensures { FitsSlot scope.now.sheet.bytes.now scope.now.env op value slot given result }
+fn slot_fits(scope: &Scope<'_>, a: Assignment) -> bool
+    requires { Here scope.now.sheet.lines.now grammar.Expr a.value }
+    ensures { FitsSlot scope.now.sheet.bytes.now scope.now.env a result }
 {
-    if !is_set(op) {
-        return numeric(slot) & numeric(given);
+    if !is_set(a.op) {
+        return numeric(a.slot) & numeric(a.given);
     }
-    if compatible(slot, given) {
+    if compatible(a.slot, a.given) {
         return true;
     }
-    if (slot == Ty::Collection) & (given == Ty::Unknown) {
-        return from_deploy_params(scope, value);
+    if (a.slot == Ty::Collection) & (a.given == Ty::Unknown) {
+        return from_deploy_params(scope, a.value);
     }
     false
 }
 
-// Judges the assignment of the value to the target.
 #[tactic(auto, using(crate::proofs::Judged::laws_judged))]
-pub fn judge_assign(
-    scope: &Scope<'_>,
-    op: AssignOp,
-    target: usize,
-    value: usize,
-    slot: Ty,
-    given: Ty,
-) -> Result<(), Refusal>
-    requires { AssignAt scope.now.sheet.lines.now target value }
-    ensures { JudgesAssign scope.now.sheet.bytes.now scope.now.sheet.lines.now scope.now.env op target value slot given result }
+pub fn judge_assign(scope: &Scope<'_>, a: Assignment) -> Result<(), Refusal>
+    requires { AssignAt scope.now.sheet.lines.now a.target a.value }
+    ensures { JudgesAssign scope.now.sheet.bytes.now scope.now.sheet.lines.now scope.now.env a result }
 {
+    let Assignment {
+        target,
+        value,
+        slot,
+        given,
+        ..
+    } = a;
     if slot == Ty::Asset {
         return Err(Refusal::AssetSlot(target));
     }
-    if becomes_address(&scope.sheet, op, target, slot, given) {
+    if becomes_address(&scope.sheet, a) {
         return Err(Refusal::NameIntoAddress { target, value });
     }
     judge_narrow(&scope.sheet, target, value)?;
-    if slot_fits(scope, op, value, slot, given) {
-        Ok(())
-    } else {
-        Err(Refusal::SlotMismatch { value, slot, given })
-    }
+    expect(
+        slot_fits(scope, a),
+        Refusal::SlotMismatch { value, slot, given },
+    )
 }

@@ -10,10 +10,10 @@ ghost use Rattle.typing.specs.Asks.{Asks, Does};
 ghost use Rattle.statements.specs.Checked.{DefaultIn, DoesAssign, no_defaults, StmtIn, StmtOf, ValueIn};
 ghost use Rattle.grammar.specs.Kinds as kinds;
 
-use crate::assign::judge_assign;
+use crate::assign::{Assignment, judge_assign};
 use env::Scope;
 use grammar::{AssignOp, Kind};
-use refusals::Refusal;
+use refusals::{Refusal, expect};
 use rules::Ty;
 use text::place_in;
 use typing::{check_keyed_call, ty_of};
@@ -24,11 +24,10 @@ pub fn expect_predicate(scope: &Scope<'_>, table: &mut [u8], i: usize) -> Result
     ensures { let s = scope.now.sheet.bytes.now in Does s (expect_predicate (env_of s table.old scope.now.env) (expr_at s i)) table.old result table.new }
 {
     let ty = ty_of(scope, table, i)?;
-    if (ty == Ty::Bool) | (ty == Ty::Unknown) {
-        Ok(())
-    } else {
-        Err(Refusal::Predicate(i))
-    }
+    expect(
+        (ty == Ty::Bool) | (ty == Ty::Unknown),
+        Refusal::Predicate(i),
+    )
 }
 
 // Types the value, and judges its assignment to the target, whose type is slot.
@@ -44,7 +43,14 @@ fn check_value(
     ensures { DoesAssign scope.now.sheet.bytes.now scope.now.sheet.lines.now scope.now.env op target value slot table.old result table.new }
 {
     let given = ty_of(scope, table, value)?;
-    judge_assign(scope, op, target, value, slot, given)
+    let a = Assignment {
+        op,
+        target,
+        value,
+        slot,
+        given,
+    };
+    judge_assign(scope, a)
 }
 
 // The target is typed before the value.

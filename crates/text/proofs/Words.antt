@@ -33,6 +33,15 @@ same-is (x ∷ xs) (y ∷ ys) e = by_cases (eqb x y) refl e (same-is xs ys)
     by_cases true q f h = rw (eqb-true x y q) (ap (λ zs. y ∷ zs) (h f))
     by_cases false q f h = absurd (true≢false (sym f))
 
+pub same_swap : (a b : List ℕ) → same a b ≡ same b a
+same_swap a b = by_cases (same a b) (same b a) refl refl
+  where
+    by_cases : (t u : Bool) → same a b ≡ t → same b a ≡ u → t ≡ u
+    by_cases true true p q = refl
+    by_cases true false p q = sym (ap (same b) (same-is a b p) ∙ same_self b) ∙ q
+    by_cases false true p q = sym p ∙ ap (same a) (same-is b a q) ∙ same_self a
+    by_cases false false p q = refl
+
 pointwise-same : (a b : List ℕ) → pointwise eqb a b ≡ same a b
 unfolding same
 pointwise-same [] [] = refl

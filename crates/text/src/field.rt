@@ -33,7 +33,7 @@ pub fn is_text(part: &[u8]) -> bool
     is_plain(false, part)
 }
 
-// The decimal number that part is, from 0 to most.
+// The decimal number that part is, from 0 to most. By hand: `parse` also takes a sign and zeros in front, and wants a text of chars.
 pub fn number_of(part: &[u8], most: u32) -> Option<u32>
     ensures { result ≡ number_of most part.now }
 {

@@ -1,5 +1,4 @@
 -- `type_call`, `type_args`, `type_keyed` and `ask_each`: what each return and each call needs. Assumes nothing.
-use mathlib.Core.Logic.{◌≢◌}
 use mathlib.Core.Path.{◌≡◌, refl, sym, ap, ◌∙◌}
 use mathlib.Core.List.{List, []}
 use Prim.Native.Nat.{ℕ, suc, ◌+◌, ◌*◌, ◌-◌, ◌<◌}
@@ -11,16 +10,14 @@ use Rattle.std.specs.Prelude.{Option, Result, Ok, Err}
 use Rattle.grammar.specs.Grammar as grammar
 use Rattle.sheet.specs.Scratch.{end_at, line_count, call_arg_count}
 use Rattle.sheet.specs.Say.{span_at}
-use Rattle.sheet.specs.Tree.{take_nodes}
-use Rattle.rules.specs.Ast.{call, more, exprs_of}
+use Rattle.rules.specs.Ast.{call}
 use Rattle.rules.specs.Asking.{ok, refused, Rule, ret, ◌>>◌}
 use Rattle.rules.specs.declared.ty.Ty.{Ty}
 use Rattle.rules.specs.Kept.{Table, kept}
-use Rattle.rules.specs.Typing.{asked, ask_of, ty_of, typing, typings, type_call, ask_each, check_keyed_call, expect_asset_receiver, expect_keyed_op, is_pool, state_field_of, keyed_field, ty_of_call}
+use Rattle.rules.specs.Typing.{typing, typings, type_call, ask_each, check_keyed_call, expect_asset_receiver, expect_keyed_op, is_pool, state_field_of, keyed_field, ty_of_call}
 use Rattle.rules.specs.Standing.{expr_at, exprs_at, Row, Loaded, Here}
 use Rattle.rules.proofs.Binding.{kept-length, then_ok, then_refused}
 use Rattle.rules.proofs.Exprs.{call_at_lem}
-use Rattle.rules.proofs.Rows.{row_some, exprs_some}
 use Rattle.rules.proofs.Standing.{loaded_sheet, row_first, row_rest}
 use Rattle.lookups.specs.Found.{found_field}
 use Rattle.refusals.specs.Refusal.{refusal_of, done_of}
@@ -31,10 +28,9 @@ use Rattle.env.specs.Calls.{keyed_of, KeyedOf, Callee, op_rule, call_ty}
 use Rattle.env.proofs.Methods.{uses_op, uses-type}
 use Rattle.env.specs.Force.{env_of, InForce}
 use Rattle.env.specs.declared.env.Env.{Env}
-use Rattle.typing.specs.Asks.{callee_at, args_at, type_keyed, type_args, Asks, AsksAt, AsksAll, AsksCall, Types, Does}
+use Rattle.typing.specs.Asks.{callee_at, args_at, type_keyed, type_args, AsksAt, AsksAll, AsksCall, Types, Does}
 use Rattle.typing.proofs.Asking.{types-length}
-use Rattle.typing.proofs.Onward.{Onward, onward, no_value_next, off_type, off_each}
-use Rattle.typing.proofs.Operators.{gave}
+use Rattle.typing.proofs.Onward.{Onward, onward, no_value_next, off_each}
 use Rattle.grammar.specs.Kinds as kinds
 
 pub does_length : (s : List ℕ) (p : Rule Unit) (T : Table) (d : Result Unit Refusal) (U : Table) → Does s p T d U → length U ≡ length T
@@ -179,52 +175,8 @@ module _ (s S : List ℕ) (env : Env) (T : Table) (i : ℕ) (keyed : Option ℕ)
               (gives_type _ U ∙ rw (call-type c t) refl);
         }
 
--- ------------------------------------------------------------ ask_each
-
-module _ (s S : List ℕ) (env : Env) (T : Table) (left at : ℕ) (loaded : Loaded s S) (force : InForce S env) (h : AsksAll S T left at) where
-  pub each_none : left ≡ 0 → Does s (ask_each (typings (env_of s T env) (exprs_at s left at))) T (Ok tt) T
-  unfolding exprs_at take_nodes exprs_of typings ask_each done_of kept
-  each_none e = record { gives = rw e refl }
-
-  module _ (n : left ≢ 0) where
-    row : Row S grammar.Expr (suc (left - 1)) at
-    row = row_some (omega arith) h.row
-
-    list : exprs_at s left at ≡ more (expr_at s at) (exprs_at s (left - 1) (end_at S at))
-    list = exprs_some loaded (omega arith) h.row
-
-    pub each_first : Asks S T at
-    each_first = record { room = h.room; here = row_first row }
-
-    module _ (a : Result Ty Refusal) (U : Table) (k : Types s (ty_of (env_of s T env) (expr_at s at)) T a U) where
-      pub each_no : (r : Refusal) → a ≡ Err r → Does s (ask_each (typings (env_of s T env) (exprs_at s left at))) T (Err r) U
-      unfolding typings ask_each asked ask_of ty_of typed_of done_of
-      each_no r e = record { gives = rw list (then_refused (ty_of (env_of s T env) (expr_at s at)) _ T U (refusal_of s r) (k.gives ∙ rw e refl)) }
-
-      module _ (c : Ty) (e : a ≡ Ok c) (m : ℕ) (q : m ≡ end_at S at) where
-        on_first : Onward s S env T U
-        on_first = onward s S env T U _ _ loaded force h.room (off_type loaded (env_of s T env) (row_first row) h.no_value) (gave s _ T a U k c e)
-
-        pub each_rest : AsksAll S U (left - 1) m
-        each_rest = record { room = on_first.room; row = rw q (row_rest row); no_value = rw q (no_value_next loaded (row_first row)) }
-
-        pub each_falls : (τ : ℕ) → 10 * (line_count S - at) + 8 ≡ τ → 10 * (line_count S - m) + 8 < τ
-        each_falls τ f = omega (arith, q, (row_first row).after, (row_first row).within, f)
-
-        pub each_ok : (d : Result Unit Refusal) (W : Table) → Does s (ask_each (typings (env_of s U env) (exprs_at s (left - 1) m))) U d W
-            → Does s (ask_each (typings (env_of s T env) (exprs_at s left at))) T d W
-        unfolding typings ask_each asked ask_of ty_of
-        each_ok d W g =
-            record {
-              gives =
-                  rw list
-                  (then_ok (ty_of (env_of s T env) (expr_at s at)) _ T U c _ (gave s _ T a U k c e) (rw (← q, ← on_first.same) g.gives));
-            }
-
 pub ruleset laws_call = (rules, loaded_sheet, types-length, does_length, call_callee, call_op, call-args, call_no_receiver, call_no_op, call_ok)
 
 pub ruleset laws_args = (rules, loaded_sheet, types-length, does_length, args_falls, args_all, args_no, args_keyed, args_ok)
 
 pub ruleset laws_keyed = (rules, loaded_sheet, types-length, does_length, keyed_callee, keyed_no, keyed_ok)
-
-pub ruleset laws_each = (rules, loaded_sheet, types-length, does_length, each_none, each_first, each_no, each_rest, each_falls, each_ok)

@@ -1,20 +1,22 @@
 -- `check_keyed_call`, `check_amount` and `check_keys`: what each return and each call needs. Assumes nothing.
-use mathlib.Core.Logic.{◌≢◌}
+use mathlib.Core.Logic.{◌⊎◌, inl, inr}
 use mathlib.Core.Path.{◌≡◌, refl, sym, ap, ◌∙◌}
 use mathlib.Core.List.{List, [], ◌∷◌}
-use mathlib.Core.Bool.{Bool, true, false, cond, not, ◌||◌}
+use mathlib.Core.Bool.{Bool, true, false, cond, not}
 use Prim.Native.Nat.{ℕ, zero, suc, ◌+◌, ◌*◌, ◌-◌, ◌<◌, ◌≤◌}
 use native.Mathlib.Numerals.{add-one}
 use native.Mathlib.Omega.{arith}
 use borrow.Author.Rules.{rules}
-use mir.Syntax.{w64}
-use mir.Val.{Fits}
-use borrow.Author.Tests.{eq-eqb, ne_eqb, eqb-true, eqb-false, leb-true, leb-false, not-true, not-false}
-use lib.Dec.{eqb, leb}
+use borrow.Author.Tests.{eq-eqb, ne_eqb, eqb-true, not-true, not-false}
+use lib.Dec.{eqb}
 use lib.ListN.{take, drop}
 use Rattle.std.specs.Prelude.{Option, Some, None, Result, Ok, Err}
+use Rattle.std.specs.declared.ops.Range.{Range}
+use Rattle.std.proofs.iter.Yields.{nat_range_steps}
 use Rattle.grammar.specs.Grammar as grammar
 use Rattle.sheet.specs.Scratch.{kind_at, end_at, name_at, line_count, call_arg_count}
+use Rattle.sheet.specs.Records.{Steps, NextOf}
+use Rattle.sheet.specs.declared.records.Records.{Records}
 use Rattle.sheet.specs.Say.{nspan_at}
 use Rattle.sheet.specs.Tree.{take_nodes}
 use Rattle.rules.specs.Text.{Name, is, is_one}
@@ -27,12 +29,10 @@ use Rattle.rules.specs.Typing.{Env as Environment, Asked, Dot, asked, ask_of, ty
 use Rattle.rules.specs.Standing.{expr_at, exprs_at, field_at, type_at, Loaded, Row, Here}
 use Rattle.rules.proofs.Binding.{then_ok, then_refused}
 use Rattle.rules.proofs.Exprs.{is_dot_at}
-use Rattle.rules.proofs.Rows.{row_some, exprs_some}
 use Rattle.rules.proofs.Standing.{loaded_sheet, exprs_next, row_first, row_rest}
 use Rattle.lookups.specs.Found.{found_field}
 use Rattle.refusals.specs.Refusal.{dot_at, refusal_of, done_of}
 use Rattle.refusals.specs.declared.refusal.Refusal.{Refusal}
-use Rattle.text.proofs.Tests.{or_parts}
 use Rattle.env.proofs.Lookups.{TypeBehind, behind as type_behind}
 use Rattle.env.specs.Answers.{typed_of, JudgesAmount, JudgesKey}
 use Rattle.env.specs.Calls.{wants_of, keyed_of}
@@ -265,101 +265,146 @@ unfolding check_keys kept
 none_wanted Γ f key [] T = refl
 none_wanted Γ f key (a ∷ as') T = refl
 
-module _ (s S : List ℕ) (env : Env) (T : Table) (field index wants left at : ℕ) (loaded : Loaded s S) (force : InForce S env) (h : AsksKeys S T field wants left at) where
+-- the first argument is typed and judged, then the others
+module _ {s S : List ℕ} {env : Env} {T : Table} {field index wants left at : ℕ} (loaded : Loaded s S) (force : InForce S env) (h : AsksKeys S T field wants (suc left) at) (l : index < wants) where
   abbrev Γ : Environment
   Γ = env_of s T env
 
-  no_more : (b : Bool) → leb wants index ≡ b → (b || eqb left 0) ≡ true → kept (keys_rule Γ (field_at s field) index wants (exprs_at s left at)) T ≡ record { res = ok tt; table = T }
-  unfolding keys_rule exprs_at take_nodes exprs_of typings check_keys kept
-  no_more true q e = rw (wanted_none (field_at s field).ty index wants (leb-true wants index q) h.few) (none_wanted Γ (field_at s field).name (eqb index 0) (typings Γ (exprs_at s left at)) T)
-  no_more false q e = rw (eqb-true left 0 e) refl
+  type_at_lem : TypeBehind s S field
+  type_at_lem = type_behind kinds.field s S loaded (Some field) field refl (h.within, h.kind) (omega arith) (omega arith)
 
-  pub keys_stop : (leb wants index || eqb left 0) ≡ true → Does s (keys_rule Γ (field_at s field) index wants (exprs_at s left at)) T (Ok tt) T
-  unfolding done_of
-  keys_stop e = record { gives = no_more (leb wants index) refl e }
+  list : exprs_at s (suc left) at ≡ more (expr_at s at) (exprs_at s left (end_at S at))
+  list = exprs_next loaded left at (row_first h.row).within
 
-  module _ (g : (leb wants index || eqb left 0) ≡ false) where
-    more_to_go : (index < wants) × (left ≢ 0)
-    more_to_go = let q = or_parts (leb wants index) (eqb left 0) g in (leb-false wants index q.0, eqb-false left 0 q.1)
+  module _ {a : Result Ty Refusal} {U : Table} (k : Types s (ty_of Γ (expr_at s at)) T a U) where
+    first_no : {x : Refusal} → a ≡ Err x → Does s (keys_rule Γ (field_at s field) index wants (exprs_at s (suc left) at)) T (Err x) U
+    unfolding keys_rule typings check_keys asked ask_of ty_of typed_of done_of
+    first_no {x} e =
+        record {
+          gives =
+              rw (list, wanted_next (field_at s field).ty index wants l h.few)
+              (then_refused (ty_of Γ (expr_at s at)) _ T U (refusal_of s x) (k.gives ∙ rw e refl));
+        }
 
-    row_on : Row S grammar.Expr (suc (left - 1)) at
-    row_on = row_some (omega (arith, more_to_go.1)) h.row
+    module _ (c want : Ty) (d : Result Unit Refusal) (e : a ≡ Ok c) (w : want ≡ declared_arg (type_at s (field + 1)) index) (j : JudgesKey s env field (eqb index 0) at want c d) where
+      abbrev judge : Rule Unit
+      judge = judge_key Γ (field_at s field).name (eqb index 0) (expr_at s at) (declared_arg (field_at s field).ty index) c
 
-    list : exprs_at s left at ≡ more (expr_at s at) (exprs_at s (left - 1) (end_at S at))
-    list = exprs_some loaded (omega (arith, more_to_go.1)) h.row
+      abbrev others : Rule Unit
+      others = check_keys Γ (field_at s field).name false (typings Γ (exprs_at s left (end_at S at))) (wanted (field_at s field).ty (index + 1) wants)
 
-    pub keys_first : Asks S T at
-    keys_first = record { room = h.room; here = row_first row_on }
+      judged : kept judge U ≡ record { res = done_of s d; table = U }
+      unfolding judge_key is_name_param env_of
+      judged = rw (type_at_lem.field, ← add-one field, ← w) (j.answers U)
+
+      went : (o : Kept Unit) → kept (judge >>= λ _. others) U ≡ o → kept (keys_rule Γ (field_at s field) index wants (exprs_at s (suc left) at)) T ≡ o
+      unfolding keys_rule typings check_keys asked ask_of ty_of ◌>>◌
+      went o q =
+          rw (list, wanted_next (field_at s field).ty index wants l h.few)
+          (then_ok (ty_of Γ (expr_at s at)) _ T U c o (gave s _ T a U k c e) q)
+
+      first_wrong : {x : Refusal} → d ≡ Err x → Does s (keys_rule Γ (field_at s field) index wants (exprs_at s (suc left) at)) T (Err x) U
+      unfolding done_of
+      first_wrong {x} f = record { gives = went _ (then_refused judge (λ _. others) U U (refusal_of s x) (stopped s _ U d U judged x f)) }
+
+      module _ (f : d ≡ Ok tt) where
+        on_keys : Onward s S env T U
+        on_keys = onward s S env T U _ _ loaded force h.room (off_type loaded (env_of s T env) (row_first h.row) h.no_value) (gave s _ T a U k c e)
+
+        others_ask : AsksKeys S U field wants left (end_at S at)
+        others_ask = record { room = on_keys.room; row = row_rest h.row; no_value = no_value_next loaded (row_first h.row); within = h.within; kind = h.kind; few = h.few }
+
+        others_do : {r : Result Unit Refusal} {W : Table} → Does s (keys_rule (env_of s U env) (field_at s field) (index + 1) wants (exprs_at s left (end_at S at))) U r W
+            → Does s (keys_rule Γ (field_at s field) index wants (exprs_at s (suc left) at)) T r W
+        unfolding keys_rule
+        others_do {r} {W} q =
+            let g : kept others U ≡ record { res = done_of s r; table = W } = rw (ne_eqb (index + 1) 0 (omega arith), on_keys.same) at q.gives in
+            record { gives = went _ (then_ok judge (λ _. others) U U tt _ (did s _ U d U judged f) g) }
+
+-- No argument before these was refused: q goes over the places up to wants, r over the arguments. The table was T₀ before and is T now.
+pub record KeysLeft (s S : List ℕ) (env : Env) (T₀ : Table) (field wants left at : ℕ) (q : Range ℕ) (r : Records) (T : Table) : Type 0 where
+  pub asks : AsksKeys S T field wants r.left r.at
+  pub lines : r.lines.now ≡ S
+  pub until : q.end ≡ wants
+  pub from : at ≤ r.at
+  pub rest : (d : Result Unit Refusal) (W : Table) → Does s (keys_rule (env_of s T env) (field_at s field) q.start wants (exprs_at s r.left r.at)) T d W
+      → Does s (keys_rule (env_of s T₀ env) (field_at s field) 0 wants (exprs_at s left at)) T₀ d W
+
+pub keys_start : (s S : List ℕ) (env : Env) (T : Table) (field wants left at : ℕ) (q : Range ℕ) (r : Records) → AsksKeys S T field wants left at → q ≡ record { start = 0; end = wants } → r.lines.now ≡ S → r.left ≡ left → r.at ≡ at
+    → KeysLeft s S env T field wants left at q r T
+keys_start s S env T field wants left at q r h e u v w =
+    record {
+      asks = rw (v, w) h;
+      lines = u;
+      until = ap (λ x. x.end) e;
+      from = omega (arith, w);
+      rest = λ d W g. rw (e, v, w) at g;
+    }
+
+module _ {s S : List ℕ} {env : Env} {T₀ : Table} {field wants left at : ℕ} (loaded : Loaded s S) (force : InForce S env) {q : Range ℕ} {r : Records} {T : Table} (w : KeysLeft s S env T₀ field wants left at q r T) where
+  abbrev Whole : Result Unit Refusal → Table → Type 0
+  Whole d W = Does s (keys_rule (env_of s T₀ env) (field_at s field) 0 wants (exprs_at s left at)) T₀ d W
+
+  no_type : wants ≤ q.start → Whole (Ok tt) T
+  unfolding keys_rule done_of
+  no_type h = w.rest _ _ (record { gives = rw (wanted_none (field_at s field).ty q.start wants h w.asks.few) (none_wanted (env_of s T env) (field_at s field).name (eqb q.start 0) (typings (env_of s T env) (exprs_at s r.left r.at)) T) })
+
+  no_arg : r.left ≡ 0 → Whole (Ok tt) T
+  unfolding keys_rule exprs_at take_nodes exprs_of typings check_keys kept done_of
+  no_arg h = w.rest _ _ (record { gives = rw h refl })
+
+  pub keys_over : ((u : Range ℕ) × nat_range_steps q None u) ⊎ ((u : Records) × NextOf r None u) → Whole (Ok tt) T
+  keys_over (inl h) = no_type (omega (arith, h.1, w.until))
+  keys_over (inr h) = no_arg h.1.0
+
+  module _ {index arg : ℕ} (p : Range ℕ) {t : Records} (y : ((p.end ≡ q.end) × ((0 < q.end - q.start) × (index ≡ q.start) × (p.start ≡ q.start + 1))) × Steps r arg t) where
+    abbrev n : Steps r arg t
+    n = y.1
+
+    pub keys_wanted : index < wants
+    keys_wanted = omega (arith, y.0.1.0, y.0.1.1, w.until)
 
     pub keys_index : index < 2
-    keys_index = omega (arith, more_to_go.0, h.few)
+    keys_index = omega (arith, keys_wanted, w.asks.few)
 
-    pub keys_next : Fits w64 (index + 1)
-    keys_next = record { fits = omega (arith, keys_index) }
+    asks : AsksKeys S T field wants (suc t.left) arg
+    asks = rw (← n.left, n.here) w.asks
 
-    pub keys_some : 1 ≤ left
-    keys_some = omega (arith, more_to_go.1)
+    pub keys_arg : Here S grammar.Expr arg
+    keys_arg = row_first asks.row
 
-    pub keys_arg : Here S grammar.Expr at
-    keys_arg = row_first row_on
+    pub keys_first : Asks S T arg
+    keys_first = record { room = w.asks.room; here = keys_arg }
 
-    type_at_lem : TypeBehind s S field
-    type_at_lem = type_behind kinds.field s S loaded (Some field) field refl (h.within, h.kind) (omega arith) (omega arith)
+    pub keys_falls : (τ : ℕ) → 10 * (line_count S - at) + 8 ≡ τ → 10 * (line_count S - arg) + 7 < τ
+    keys_falls τ e = omega (arith, w.from, n.here, e)
 
     pub keys_type : Here S grammar.Ty (field + 1)
-    keys_type = rw (add-one field) type_at_lem.typed
+    keys_type = rw (add-one field) (type_at_lem loaded force asks keys_wanted).typed
 
-    module _ (a : Result Ty Refusal) (U : Table) (k : Types s (ty_of Γ (expr_at s at)) T a U) where
-      pub keys_no : (r : Refusal) → a ≡ Err r → Does s (keys_rule Γ (field_at s field) index wants (exprs_at s left at)) T (Err r) U
-      unfolding keys_rule typings check_keys asked ask_of ty_of typed_of done_of
-      keys_no r e =
-          record {
-            gives =
-                rw (list, wanted_next (field_at s field).ty index wants more_to_go.0 h.few)
-                (then_refused (ty_of Γ (expr_at s at)) _ T U (refusal_of s r) (k.gives ∙ rw e refl));
-          }
+    whole : {d : Result Unit Refusal} {W : Table} → Does s (keys_rule (env_of s T env) (field_at s field) index wants (exprs_at s (suc t.left) arg)) T d W → Whole d W
+    whole {d} {W} g = w.rest d W (rw (n.left, ← n.here, ← y.0.1.1) g)
 
-      module _ (c want : Ty) (d : Result Unit Refusal) (e : a ≡ Ok c) (w : want ≡ declared_arg (type_at s (field + 1)) index) (j : JudgesKey s env field (eqb index 0) at want c d) where
-        abbrev judge : Rule Unit
-        judge = judge_key Γ (field_at s field).name (eqb index 0) (expr_at s at) (declared_arg (field_at s field).ty index) c
+    module _ {a : Result Ty Refusal} {U : Table} (k : Types s (ty_of (env_of s T env) (expr_at s arg)) T a U) where
+      pub keys_no : {x : Refusal} → a ≡ Err x → Whole (Err x) U
+      keys_no e = whole (first_no loaded force asks keys_wanted k e)
 
-        abbrev others : Rule Unit
-        others = check_keys Γ (field_at s field).name false (typings Γ (exprs_at s (left - 1) (end_at S at))) (wanted (field_at s field).ty (index + 1) wants)
+      module _ {c want : Ty} {d : Result Unit Refusal} (e : a ≡ Ok c) (v : want ≡ declared_arg (type_at s (field + 1)) index) (j : JudgesKey s env field (eqb index 0) arg want c d) where
+        pub keys_wrong : {x : Refusal} → d ≡ Err x → Whole (Err x) U
+        keys_wrong f = whole (first_wrong loaded force asks keys_wanted k _ _ _ e v j f)
 
-        judged : kept judge U ≡ record { res = done_of s d; table = U }
-        unfolding judge_key is_name_param env_of
-        judged = rw (type_at_lem.field, ← add-one field, ← w) (j.answers U)
-
-        -- the first argument was typed: it is judged, then the others
-        went : (o : Kept Unit) → kept (judge >>= λ _. others) U ≡ o → kept (keys_rule Γ (field_at s field) index wants (exprs_at s left at)) T ≡ o
-        unfolding keys_rule typings check_keys asked ask_of ty_of ◌>>◌
-        went o q =
-            rw (list, wanted_next (field_at s field).ty index wants more_to_go.0 h.few)
-            (then_ok (ty_of Γ (expr_at s at)) _ T U c o (gave s _ T a U k c e) q)
-
-        pub keys_wrong : (r : Refusal) → d ≡ Err r → Does s (keys_rule Γ (field_at s field) index wants (exprs_at s left at)) T (Err r) U
-        unfolding done_of
-        keys_wrong r f = record { gives = went _ (then_refused judge (λ _. others) U U (refusal_of s r) (stopped s _ U d U judged r f)) }
-
-        module _ (f : d ≡ Ok tt) (m : ℕ) (em : m ≡ end_at S at) where
-          on_keys : Onward s S env T U
-          on_keys = onward s S env T U _ _ loaded force h.room (off_type loaded (env_of s T env) (row_first row_on) h.no_value) (gave s _ T a U k c e)
-
-          pub keys_rest : AsksKeys S U field wants (left - 1) m
-          keys_rest = record { room = on_keys.room; row = rw em (row_rest row_on); no_value = rw em (no_value_next loaded (row_first row_on)); within = h.within; kind = h.kind; few = h.few }
-
-          pub keys_falls : (τ : ℕ) → 10 * (line_count S - at) + 8 ≡ τ → 10 * (line_count S - m) + 8 < τ
-          keys_falls τ q = omega (arith, em, (row_first row_on).after, (row_first row_on).within, q)
-
-          pub keys_ok : (r : Result Unit Refusal) (W : Table) → Does s (keys_rule (env_of s U env) (field_at s field) (index + 1) wants (exprs_at s (left - 1) m)) U r W
-              → Does s (keys_rule Γ (field_at s field) index wants (exprs_at s left at)) T r W
-          unfolding keys_rule
-          keys_ok r W q =
-              let g' : kept others U ≡ record { res = done_of s r; table = W } = rw (ne_eqb (index + 1) 0 (omega arith), em, on_keys.same) at q.gives in
-              record { gives = went _ (then_ok judge (λ _. others) U U tt _ (did s _ U d U judged f) g') }
+        pub keys_next : d ≡ Ok tt → KeysLeft s S env T₀ field wants left at p t U
+        keys_next f =
+            let b : t.at ≡ end_at S arg = n.behind ∙ rw (w.lines, n.here) refl in
+            let i : p.start ≡ index + 1 = y.0.1.2 ∙ rw y.0.1.1 refl in
+            record {
+              asks = rw b (others_ask loaded force asks keys_wanted k _ _ _ e v j f);
+              lines = n.lines ∙ w.lines;
+              until = y.0.0 ∙ w.until;
+              from = omega (arith, w.from, n.here, b, keys_arg.after);
+              rest = λ o W g. whole (others_do loaded force asks keys_wanted k _ _ _ e v j f (rw (i, b) at g));
+            }
 
 pub ruleset laws_keyed_call = (rules, loaded_sheet, types-length, does_length, no_keyed, by_method, amount_ends, keys_asked, keys_below, keys_done)
 
 pub ruleset laws_amount = (rules, loaded_sheet, types-length, does_length, no_amount, no_move, amount_asks, amount_falls, amount_no, amount_ok)
-
-pub ruleset laws_keys = (rules, loaded_sheet, types-length, does_length, keys_stop, keys_first, keys_index, keys_next, keys_arg, keys_type, keys_no, keys_wrong, keys_rest, keys_falls, keys_ok)

@@ -1,8 +1,10 @@
 pub mod AnyTable
+pub mod Arguments
 pub mod Asking
 pub mod Calls
 pub mod Cases
 pub mod Doing
+pub mod Each
 pub mod Keys
 pub mod Onward
 pub mod Operators

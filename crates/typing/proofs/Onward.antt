@@ -14,7 +14,7 @@ use Rattle.grammar.specs.Grammar as grammar
 use Rattle.sheet.specs.Scratch.{kind_at, end_at, line_count}
 use Rattle.sheet.specs.Tree.{Node, node, take_nodes}
 use Rattle.rules.specs.Ast.{exprs_of}
-use Rattle.rules.specs.Asking.{code_r, ok, Rule, ◌>>=◌, expect}
+use Rattle.rules.specs.Asking.{code_r, ok, Rule, ret, ◌>>=◌, ◌>>◌, expect}
 use Rattle.rules.specs.declared.ty.Ty.{Ty}
 use Rattle.rules.specs.Kept.{Table, kept}
 use Rattle.rules.specs.Text.{Name, Piece}
@@ -23,7 +23,7 @@ use Rattle.rules.specs.Typing.{ask_each, ty_of, typings}
 use Rattle.rules.specs.Standing.{expr_at, exprs_at, Loaded, Here, Row, stop, next}
 use Rattle.rules.proofs.All.{All}
 use Rattle.rules.proofs.Binding.{kept-length, Off, kept_off}
-use Rattle.rules.proofs.Coherence.{Fits, FitsAll, c_bind, c_expect, c_ty_of, c_typings, c_each, c_provided, c_amount}
+use Rattle.rules.proofs.Coherence.{Fits, FitsAll, c_ret, c_bind, c_then, c_expect, c_ty_of, c_typings, c_each, c_provided, c_amount}
 use Rattle.rules.proofs.Forest.{here_inside, placed_at}
 use Rattle.rules.proofs.Keeps.{Throughout, OfLine, Any, throughout_map}
 use Rattle.rules.proofs.Lines.{fits_lines}
@@ -83,6 +83,9 @@ module _ {s S : List ℕ} (d : Loaded s S) (Γ : rules.Env) where
   pub off_type : {i : ℕ} → Here S grammar.Expr i → NoValue S i → OffValues S (ty_of Γ (expr_at s i))
   off_type h a = c_ty_of (OfLine (NoValue S)) Any Γ _ (fits_at h a)
 
+  pub off_said : {i : ℕ} → Here S grammar.Expr i → NoValue S i → OffValues S {A = Unit} (ty_of Γ (expr_at s i) >> ret tt)
+  off_said h a = c_then (OfLine (NoValue S)) Any _ _ (off_type h a) (c_ret (OfLine (NoValue S)) Any {A = Unit} tt)
+
   -- ... and a judgement of it that asks nothing
   pub off_judged : {i : ℕ} → Here S grammar.Expr i → NoValue S i → (b : Ty → Bool) (n at : ℕ) (ps : Ty → List Piece) → OffValues S (ty_of Γ (expr_at s i) >>= λ t. expect (b t) n at (ps t))
   off_judged h a b n at ps = c_bind (OfLine (NoValue S)) Any _ _ (off_type h a) (λ t. c_expect (OfLine (NoValue S)) Any (b t) n at (ps t))
@@ -124,3 +127,9 @@ pub onward : {A : Type 0} (s S : List ℕ) (env : Env) (T U : Table) (p : Rule A
 onward s S env T U p a d f r c e =
     onward_with s S env T U p a r e
     (lets_all d (SameValue T U) (λ j w k. rw (stands d j w).here (sym (ap (λ o. get_or o.table (suc j) 0) e) ∙ kept_off p T (suc j) (off_let S j p k c))) f.locals)
+
+pub onward_here : (s S : List ℕ) (env : Env) (T : Table) → line_count S ≤ length T → Onward s S env T T
+onward_here s S env T r = record { room = r; same = refl }
+
+pub onward_then : {s S : List ℕ} {env : Env} {T U W : Table} → Onward s S env T U → Onward s S env U W → Onward s S env T W
+onward_then a b = record { room = b.room; same = b.same ∙ a.same }

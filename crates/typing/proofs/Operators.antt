@@ -100,7 +100,7 @@ module _ (s S : List ℕ) (env : Env) (T : Table) (i : ℕ) (loaded : Loaded s S
         second : Types s (ty_of (env_of s T env) (expr_at s m)) U b W
         second = rw (← on.same) g
 
-        pub bin_ok : (d : Ty) (o : BinOp) (r : Result Ty Refusal) → b ≡ Ok d → o ≡ bin_of (op_at S i) → JudgedIn s (judge_binary (bin_meant o) (expr_at s (i + 1)) (expr_at s m)) c d r
+        pub bin_ok : (d : Ty) (o : BinOp) (r : Result Ty Refusal) → b ≡ Ok d → o ≡ bin_of (op_at S i) → JudgedIn s (judge_binary (bin_meant o)) (record { left = i + 1; right = m; l = c; r = d }) r
             → Types s (typing (env_of s T env) (expr_at s i)) T r W
         unfolding typing ty_of_binary ty_of ask_of asked
         bin_ok d o r f q j =

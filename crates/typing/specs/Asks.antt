@@ -71,6 +71,12 @@ pub record AsksLeaf (S : List ℕ) (T : Table) (i : ℕ) : Type 0 where
   pub asks : Asks S T i
   pub kind : kind_at S i < kinds.un
 
+-- a record of kind k stands at line i, and the table has a byte a line
+pub record KindIn (k : ℕ) (S : List ℕ) (T : Table) (i : ℕ) : Type 0 where
+  pub room : line_count S ≤ length T
+  pub within : i < line_count S
+  pub kind : kind_at S i ≡ k
+
 -- line i is no `let`'s value
 pub record NoValue (S : List ℕ) (i : ℕ) : Type 0 where
   pub before : (j : ℕ) → suc j ≡ i → kind_at S j ≢ kinds.let'

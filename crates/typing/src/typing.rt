@@ -9,8 +9,8 @@ ghost use Rattle.typing.specs.Asks.{amount_rule, args_at, callee_at, Does, keys_
 ghost use Rattle.grammar.specs.Kinds as kinds;
 
 use env::{
-    Scope, expect_keyed_op, judge_amount, judge_binary, judge_unary, moves_amount, ty_of_call,
-    ty_of_dot, wants,
+    Scope, Sides, expect_keyed_op, judge_amount, judge_binary, judge_unary, moves_amount,
+    ty_of_call, ty_of_dot, wants,
 };
 use grammar::Kind;
 use lookups::declared_arg;
@@ -52,7 +52,7 @@ fn mark(a: Result<Ty, Refusal>) -> u8
     }
 }
 
-// The type of line i. Every rule asks a type through this function, and none but this and `ty_again`, its part for the exception, marks a line.
+// The type of line i. Every rule asks an expression's type through this function, and none but this and `ty_again`, its part for the exception, marks a line.
 #[cycle(expression_types)]
 #[tactic(auto, using(crate::proofs::Asking::laws_of))]
 pub fn ty_of(scope: &Scope<'_>, table: &mut [u8], i: usize) -> Result<Ty, Refusal>
@@ -129,7 +129,13 @@ fn ty_of_binary(scope: &Scope<'_>, table: &mut [u8], i: usize) -> Result<Ty, Ref
     let l = ty_of(scope, table, i + 1)?;
     let right = scope.sheet.end(i + 1);
     let r = ty_of(scope, table, right)?;
-    judge_binary(&scope.sheet, scope.sheet.bin_op(i), i + 1, right, l, r)
+    let sides = Sides {
+        left: i + 1,
+        right,
+        l,
+        r,
+    };
+    judge_binary(&scope.sheet, scope.sheet.bin_op(i), sides)
 }
 
 // The type of a call: its receiver and its operation are judged first.
@@ -145,7 +151,8 @@ fn type_call(scope: &Scope<'_>, table: &mut [u8], i: usize) -> Result<Ty, Refusa
     type_args(scope, table, i, keyed)
 }
 
-// ... then its arguments are typed
+// ... then its arguments are typed. `keyed` is what `keyed_of` gave of the callee, handed on so that it is looked up once; a struct of it and the
+// call's line would save no clause, since `AsksCall` ties the two.
 #[cycle(expression_types)]
 fn type_args(
     scope: &Scope<'_>,
@@ -178,16 +185,14 @@ fn type_keyed(
 
 // Types `left` expressions, the first of which stands at line at.
 #[cycle(expression_types)]
-#[tactic(auto, using(crate::proofs::Calls::laws_each))]
 pub fn ask_each(scope: &Scope<'_>, table: &mut [u8], at: usize, left: usize) -> Result<(), Refusal>
     requires { AsksAll scope.now.sheet.lines.now table.old left at }
     ensures { let s = scope.now.sheet.bytes.now in Does s (ask_each (typings (env_of s table.old scope.now.env) (exprs_at s left at))) table.old result table.new }
 {
-    if left == 0 {
-        return Ok(());
+    for arg in scope.sheet.records(at, left) {
+        ty_of(scope, table, arg)?;
     }
-    ty_of(scope, table, at)?;
-    ask_each(scope, table, scope.sheet.end(at), left - 1)
+    Ok(())
 }
 
 // `check_keyed_call` of the call at line i, whose callee uses `keyed`.
@@ -212,7 +217,6 @@ pub fn check_keyed_call(
         scope,
         table,
         field,
-        0,
         wants(method),
         at,
         call_arg_count(scope.sheet.lines, i),
@@ -237,35 +241,24 @@ fn check_amount(scope: &Scope<'_>, table: &mut [u8], i: usize) -> Result<(), Ref
     judge_amount(i + 1, arg, got)
 }
 
-// The arguments from line at on, as far as the Map or Registry at line field declares what they must be: those from
-// place index on, up to place wants.
+// `left` arguments, the first at line at, as far as the Map or Registry at line field declares what they must be: `wants` of them.
 #[cycle(expression_types)]
-#[tactic(auto, using(crate::proofs::Keys::laws_keys))]
 fn check_keys(
     scope: &Scope<'_>,
     table: &mut [u8],
     field: usize,
-    index: usize,
     wants: usize,
     at: usize,
     left: usize,
 ) -> Result<(), Refusal>
     requires { AsksKeys scope.now.sheet.lines.now table.old field wants left at }
-    ensures { let s = scope.now.sheet.bytes.now in Does s (keys_rule (env_of s table.old scope.now.env) (field_at s field) index wants (exprs_at s left at)) table.old result table.new }
+    ensures { let s = scope.now.sheet.bytes.now in Does s (keys_rule (env_of s table.old scope.now.env) (field_at s field) 0 wants (exprs_at s left at)) table.old result table.new }
 {
-    if (wants <= index) | (left == 0) {
-        return Ok(());
+    let args = scope.sheet.records(at, left);
+    for (index, arg) in (0..wants).zip(args) {
+        let got = ty_of(scope, table, arg)?;
+        let want = declared_arg(&scope.sheet, field + 1, index);
+        scope.judge_key(field, index == 0, arg, want, got)?;
     }
-    let got = ty_of(scope, table, at)?;
-    let want = declared_arg(&scope.sheet, field + 1, index);
-    scope.judge_key(field, index == 0, at, want, got)?;
-    check_keys(
-        scope,
-        table,
-        field,
-        index + 1,
-        wants,
-        scope.sheet.end(at),
-        left - 1,
-    )
+    Ok(())
 }

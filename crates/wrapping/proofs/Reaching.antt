@@ -8,7 +8,7 @@ use native.Mathlib.Numerals.{add-one}
 use native.Mathlib.Omega.{arith}
 use lib.Dec.{eqb, ltb}
 use borrow.Author.Tests.{eq-eqb, ne_eqb, eqb-true, lt-ltb, ltb-true, not-true, not-false}
-use Rattle.std.specs.Prelude.{Option, is_some, is_none, Ok, Err, Some, None, slice_get}
+use Rattle.std.specs.Prelude.{Result, Option, is_some, is_none, Ok, Some, None, slice_get}
 use Rattle.text.specs.Text.{bytes, same}
 use Rattle.grammar.specs.Grammar as grammar
 use Rattle.sheet.specs.Scratch.{kind_at, end_at, name_at, call_arg_count}
@@ -25,7 +25,8 @@ use Rattle.rules.specs.Standing.{expr_at, exprs_at, stmt_at, named_at, model_in,
 use Rattle.rules.proofs.Standing.{exprs_next, row_first, row_rest}
 use Rattle.rules.proofs.Exprs.{ident_at, is_dot_at, dot_at_lem, call_at_lem, is-call_at}
 use Rattle.rules.proofs.Records.{named, assign_at}
-use Rattle.refusals.specs.Answers.{Answers}
+use Rattle.refusals.specs.Answers.{Answers, expected}
+use Rattle.refusals.specs.declared.refusal.Refusal.{Refusal}
 use Rattle.refusals.specs.Refusal.{refusal_of, done_of}
 use Rattle.refusals.specs.declared.refusal.Refusal.TheVariants.{ReachesField, ReachesValues}
 use Rattle.refusals.proofs.Answers.{gives, fits, misfits}
@@ -53,6 +54,16 @@ module _ (xs : List Name) (o : Option ℕ) (value : Expr) (slot : List Piece) (w
   unfolding reaches
   reached q = misfits _ 22 (span value) (reaches_text slot) (rw (← f, ← e, q) refl)
 
+  -- ... where `why` refuses so
+  reach_judged : (s : List ℕ) (why : Refusal) → refusal_of s why ≡ record { number = 22; place = span value; text = reaches_text slot } → (r : Result Unit Refusal) → r ≡ expected (not b) why
+      → Answers (reaches xs o value slot) (done_of s r)
+  unfolding expected done_of
+  reach_judged s why told r q = rw q (by_cases b refl)
+    where
+      by_cases : (t : Bool) → b ≡ t → Answers (reaches xs o value slot) (done_of s (expected (not t) why))
+      by_cases true k = rw told (reached k)
+      by_cases false k = unreached k
+
 -- ------------------------------------------------------------ assignments
 
 -- The target is the line behind the assignment.
@@ -79,15 +90,11 @@ module _ (s S : List ℕ) (M : List Bool) (k body i : ℕ) (d : Loaded s S) (a :
     assign-judged r j =
         rw ((assign_at d a e).0, ident_at d (row_first parts), ← add-one i, eq-eqb (kind_at S (i + 1)) kinds.id h, ← y, ← z) j
 
-    pub assign_fine : b ≡ false → Judged (done_of s (Ok tt))
-    unfolding done_of
-    assign_fine p = assign-judged _ (unreached xs _ _ (field_slot x) w b f g p)
-
-    pub assign-refused : b ≡ true → Judged (done_of s (Err (ReachesField (i + 1) v)))
-    unfolding done_of refusal_of
-    assign-refused p =
+    pub assign_reach : (r : Result Unit Refusal) → r ≡ expected (not b) (ReachesField (i + 1) v) → Judged (done_of s r)
+    unfolding refusal_of
+    assign_reach r p =
         let t : named_at s (i + 1) ≡ x = rw (add-one i) (named d (row_first parts).within) ∙ sym y in
-        assign-judged _ (rw t (reached xs _ _ (field_slot x) w b f g p))
+        assign-judged _ (reach_judged xs _ _ (field_slot x) w b f g s (ReachesField (i + 1) v) (rw t refl) r p)
 
 -- ------------------------------------------------------------ calls of `set`
 
@@ -202,10 +209,6 @@ module _ (s S : List ℕ) (M : List Bool) (k body i : ℕ) (ld : Loaded s S) (a 
         unfolding provided
         set-judged r z = set_rule x name-is r (rw (tests, ← second_at) z)
 
-        pub set_fine : b ≡ false → Set' (done_of s (Ok tt))
-        unfolding done_of
-        set_fine p = set-judged _ (unreached ys _ _ (values_slot x) w b o j p)
-
-        pub set-refused : b ≡ true → Set' (done_of s (Err (ReachesValues (i + 2) v)))
-        unfolding done_of refusal_of
-        set-refused p = set-judged _ (rw (map_named ∙ sym name-is) (reached ys _ _ (values_slot x) w b o j p))
+        pub set_reach : (r : Result Unit Refusal) → r ≡ expected (not b) (ReachesValues (i + 2) v) → Set' (done_of s r)
+        unfolding refusal_of
+        set_reach r p = set-judged _ (reach_judged ys _ _ (values_slot x) w b o j s (ReachesValues (i + 2) v) (rw (map_named ∙ sym name-is) refl) r p)

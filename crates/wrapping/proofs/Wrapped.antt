@@ -1,5 +1,5 @@
 -- Marked names, and the lines of a value that wraps. Assumes nothing.
-use mathlib.Core.Path.{◌≡◌, refl, sym, ◌∙◌}
+use mathlib.Core.Path.{◌≡◌, refl, sym, ap, ◌∙◌}
 use mathlib.Core.Logic.{◌≢◌}
 use mathlib.Core.List.{List, []}
 use mathlib.Core.Bool.{Bool, true, false, not, ◌&&◌, ◌||◌, or_assoc, or-false}
@@ -11,11 +11,11 @@ use mir.Val.{Fits}
 use lib.Dec.{eqb, ltb}
 use lib.ListN.{get_or}
 use borrow.Author.Tests.{ne_eqb, ltb-true, ltb-false, not-true, not-false}
+use Rattle.std.specs.List.{list_any}
 use Rattle.text.specs.Text.{same}
 use Rattle.grammar.specs.Grammar as grammar
 use Rattle.sheet.specs.Scratch.{kind_at, end_at, name_at, skip, line_count}
-use Rattle.sheet.specs.Records.{Steps}
-use Rattle.sheet.specs.declared.records.Records.{Records}
+use Rattle.sheet.proofs.RecordLines.{record_lines}
 use Rattle.rules.specs.Text.{Name, among}
 use Rattle.rules.specs.Ast.{Exprs, expr_of}
 use Rattle.rules.specs.Assets.{wraps, wraps_any}
@@ -23,7 +23,7 @@ use Rattle.rules.specs.Typing.{ident_leaf, leaf_has}
 use Rattle.rules.specs.Standing.{expr_at, Loaded, Here, Row}
 use Rattle.rules.proofs.Lookups.{among_first}
 use Rattle.rules.proofs.Parts.{stop as end', ◌also◌, pick}
-use Rattle.rules.proofs.Standing.{stands, row_first, row_rest, row_nth, row_take}
+use Rattle.rules.proofs.Standing.{stands, row_first, row_nth, row_take}
 use Rattle.rules.proofs.Exprs.{by_kind, leaf_at, dot_at_lem, call_at_lem}
 use Rattle.rules.proofs.Forest.{joined, parts_of, skip_least}
 use Rattle.rules.proofs.Walks as walks
@@ -63,46 +63,10 @@ among_wrapped s S M x (suc k) body =
     ∙ rw (among_wrapped s S M x k body, among_first x (name_at s S l) (wrapped_names s S M k (end_at S body)) (get_or M l false))
     (or_swap (hit s S M x l) (hit s S M x body) (among x (wrapped_names s S M k (end_at S body))))
 
--- no statement before those that r goes over has the name
-pub record Seeking (s S : List ℕ) (M : List Bool) (x : Name) (bound body : ℕ) (r : Records) : Type 0 where
-  pub lines : r.lines.now ≡ S
-  pub few : line_count S ≤ most_lines
-  pub row : Row S grammar.Stmt r.left r.at
-  pub rest : among x (wrapped_names s S M bound body) ≡ among x (wrapped_names s S M r.left r.at)
-
-pub seek_start : (s S : List ℕ) (M : List Bool) (x : Name) (bound body : ℕ) (r : Records) → line_count S ≤ most_lines → Row S grammar.Stmt bound body → r.lines.now ≡ S → r.left ≡ bound → r.at ≡ body → Seeking s S M x bound body r
-seek_start s S M x bound body r f b e p q = record { lines = e; few = f; row = rw (p, q) b; rest = rw (p, q) refl }
-
-module _ (s S : List ℕ) (M : List Bool) (x : Name) (bound body : ℕ) (r : Records) (g : Seeking s S M x bound body r) where
-  pub seek_over : r.left ≡ 0 → false ≡ among x (wrapped_names s S M bound body)
-  unfolding wrapped_names among
-  seek_over h = sym (g.rest ∙ rw h refl)
-
-  module _ (i : ℕ) (t : Records) (h : Steps r i t) where
-    stmts : Row S grammar.Stmt (suc t.left) i
-    stmts = rw (← h.left, h.here) g.row
-
-    behind : t.at ≡ end_at S i
-    behind = h.behind ∙ rw (g.lines, h.here) refl
-
-    pub seek_line : i < most_lines
-    seek_line = omega (arith, (row_first stmts).within, g.few)
-
-    module _ (b : Bool) (e : b ≡ hit s S M x i) where
-      turn : among x (wrapped_names s S M bound body) ≡ (b || among x (wrapped_names s S M t.left (end_at S i)))
-      turn = g.rest ∙ rw (h.left, ← h.here, e) (among_wrapped s S M x t.left i)
-
-      pub seek_found : b ≡ true → true ≡ among x (wrapped_names s S M bound body)
-      seek_found q = sym (turn ∙ rw q refl)
-
-      pub seek_next : b ≡ false → Seeking s S M x bound body t
-      seek_next q =
-          record {
-            lines = h.lines ∙ g.lines;
-            few = g.few;
-            row = rw behind (row_rest stmts);
-            rest = turn ∙ rw (q, behind) refl;
-          }
+pub any_marked : (s S : List ℕ) (M : List Bool) (x : Name) (k body : ℕ) → list_any (hit s S M x) (record_lines S k body) ≡ among x (wrapped_names s S M k body)
+unfolding record_lines wrapped_names among
+any_marked s S M x zero body = refl
+any_marked s S M x (suc k) body = ap (λ b. hit s S M x body || b) (any_marked s S M x k (end_at S body)) ∙ sym (among_wrapped s S M x k body)
 
 -- ------------------------------------------------------------ one line of a value
 

@@ -15,7 +15,7 @@ use sheet::{LoadedSheet, end, is_kind, limits};
 use text::is_word;
 
 // The statements of an entry that are bound, `bound` of them from line body on, and marks at the lines of those that are
-// a `let` of a wrapping value. `HashSet` becomes an array with a mark for each line.
+// a `let` of a wrapping value. `HashSet` becomes an array with a mark for each line: there is no heap.
 #[derive(Drop)]
 pub struct Wrapped<'a> {
     pub sheet: LoadedSheet<'a>,
@@ -58,12 +58,9 @@ impl Wrapped<'_> {
     fn contains(&self, x: &[u8]) -> bool
         ensures { result ≡ among x.now (names_in self.now) }
     {
-        for at in self.sheet.records(self.body, self.bound) {
-            if self.is_marked(x, at) {
-                return true;
-            }
-        }
-        false
+        self.sheet
+            .records(self.body, self.bound)
+            .any(|at| self.is_marked(x, at))
     }
 
     // Whether line i by itself makes its value wrap.
@@ -86,7 +83,7 @@ impl Wrapped<'_> {
     {
         let stop = self.sheet.end(i);
         let mut at = i;
-        // No `for`: a step may go past several lines.
+        // A `while`: an iterator would have this loop in its `next`, and beside it a count of what is left and the fact that it stands there.
         while at < stop {
             if self.wraps_here(at) {
                 return true;

@@ -16,7 +16,7 @@ use crate::marks::Wrapped;
 use grammar::Kind;
 use lookups::event_named;
 use narrow::{narrow_field, narrow_max, narrow_values};
-use refusals::Refusal;
+use refusals::{Refusal, expect};
 use sheet::{LoadedSheet, call_arg_count, emit_arg_count, param_count};
 use text::is_word;
 
@@ -44,13 +44,14 @@ fn narrow_assign(wrapped: &Wrapped<'_>, i: usize) -> Result<(), Refusal>
     }
     let value = sheet.end(target);
     let narrow = narrow_field(sheet, sheet.name(target));
-    if reaches(wrapped, narrow, value) {
-        return Err(Refusal::ReachesField { target, value });
-    }
-    Ok(())
+    expect(
+        !reaches(wrapped, narrow, value),
+        Refusal::ReachesField { target, value },
+    )
 }
 
-// Whether line i is a call NAME.set(..) that has a second argument.
+// Whether line i is a call NAME.set(..) that has a second argument. `is_keyed_call` of `key_kinds` asks for the same shape with other words: what both
+// share are three tests of a kind.
 fn sets(sheet: &LoadedSheet<'_>, i: usize) -> bool
     requires { i < line_count sheet.now.lines.now }
     ensures { result ≡ sets_at sheet.now.bytes.now sheet.now.lines.now i }
@@ -80,10 +81,10 @@ fn narrow_set(wrapped: &Wrapped<'_>, i: usize) -> Result<(), Refusal>
     let key = sheet.end(callee);
     let value = sheet.end(key);
     let narrow = narrow_values(sheet, sheet.name(map));
-    if reaches(wrapped, narrow, value) {
-        return Err(Refusal::ReachesValues { map, value });
-    }
-    Ok(())
+    expect(
+        !reaches(wrapped, narrow, value),
+        Refusal::ReachesValues { map, value },
+    )
 }
 
 // The arguments of the `emit` at line i, side by side with the parameters of the event at line event.

@@ -6,8 +6,6 @@ use mathlib.Core.Bool.{Bool, true, false}
 use Prim.Native.Nat.{ℕ, suc, ◌+◌, ◌-◌, ◌*◌, ◌<◌, ◌≤◌}
 use native.Mathlib.Omega.{arith}
 use native.Mathlib.Numerals.{add-one}
-use mir.Syntax.{w64}
-use mir.Val.{Fits}
 use borrow.Author.Tests.{lt-ltb, le-ltb}
 use lib.ListN.{length}
 use Rattle.text.specs.Text.{bytes, same}
@@ -83,9 +81,6 @@ module _ (s S : List ℕ) (i : ℕ) (d : Loaded s S) where
     w : i < line_count S
     w = omega (arith, counted)
 
-    pub type_next : length S < 18446744073709551616 → Fits w64 (i + 1)
-    type_next l = record { fits = omega (arith, w) }
-
     pub type_falls : (t : ℕ) → rank (line_count S) i 0 ≡ t → rank (line_count S) (i + 1) 2 < t
     type_falls t e = omega (arith, w)
 
@@ -101,9 +96,6 @@ module _ (s S : List ℕ) (i : ℕ) (d : Loaded s S) where
 -- ------------------------------------------------------------ `add_arg`
 
 module _ (s S : List ℕ) (i : ℕ) (d : Loaded s S) where
-  pub arg_falls : (t : ℕ) → rank (line_count S) i 1 ≡ t → rank (line_count S) i 0 < t
-  arg_falls t q = omega arith
-
   -- k is the kind, and n that of a type
   module _ (k n : ℕ) (e : k ≡ kind_at S i) (m : n ≡ kinds.type) (M N : Message) where
     pub arg_type : k ≤ n → Adds (render (type_text (type_at s i))) M N → Adds (render (arg_text (arg_at s i))) M N
@@ -138,9 +130,6 @@ module _ (s S : List ℕ) (i j : ℕ) (o : Bool) (d : Loaded s S) (h : j ≤ lin
   args_none M N e x = rw (upto_none d i j e, none_said o) x
 
   module _ (e : i < j) where
-    pub args_arg_falls : (t : ℕ) → rank (line_count S) i 2 ≡ t → rank (line_count S) i 1 < t
-    args_arg_falls t q = omega arith
-
     module _ (n : ℕ) (f : n ≡ end_at S i) where
       pub args_falls : (t : ℕ) → rank (line_count S) i 2 ≡ t → rank (line_count S) n 2 < t
       args_falls t q = omega (arith, all_le (stands d i (omega arith)).held)

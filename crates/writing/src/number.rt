@@ -5,7 +5,7 @@ ghost use Rattle.writing.specs.Writing.{Adds};
 
 use crate::write::Message;
 
-// Twenty bytes, of which those from start on are the digits.
+// Twenty bytes, of which those from start on are the digits. No `Display`: a formatter would want a `fmt::Write` of `Message`, which is `add`.
 #[derive(Clone, Copy)]
 struct Digits {
     text: [u8; 20],

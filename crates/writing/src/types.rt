@@ -62,7 +62,8 @@ impl Message<'_> {
         self.add(b"_");
     }
 
-    // Adds the arguments from line i on, up to line stop, and what ends them.
+    // Adds the arguments from line i on, up to line stop, and what ends them. By itself and not over `records`: it goes up to a line, not by a count,
+    // so that it asks nothing of the kinds that stand there.
     #[cycle(type_text)]
     fn add_args(&mut self, sheet: &LoadedSheet<'_>, i: usize, stop: usize, first: bool)
         requires { stop ≤ line_count sheet.now.lines.now }
@@ -84,7 +85,8 @@ impl Message<'_> {
     }
 }
 
-// The line of the type that the field or parameter at line i declares; one that isn't there where it declares none.
+// The line of the type that the field or parameter at line i declares; one that isn't there where it declares none, and no Option, since what is
+// read of such a line is empty.
 fn type_line(lines: &[u16], i: usize) -> usize
     ensures { result ≡ type_line lines.now i }
 {

@@ -17,7 +17,7 @@ fn put(rest: &mut [u8], piece: &[u8])
     rest[..n].copy_from_slice(&piece[..n]);
 }
 
-// Writes the piece into the rest of the buffer from `at` on.
+// Writes the piece into the rest of the buffer from `at` on. No method: it tells of the buffer alone.
 fn write(buffer: &mut [u8], at: usize, piece: &[u8])
     ensures { buffer.new ≡ overlay buffer.old at piece.now }
 {

@@ -1,19 +1,19 @@
-use Rattle.refusals.proofs.Answers.{handed_on}
-use Rattle.lookups.proofs.Rows.{turns}
-use Rattle.arithmetic.proofs.Judging.{sums_start}
+use borrow.Author.Rules.{rules}
+use Rattle.rules.proofs.Rows.{stmts}
+use Rattle.rules.proofs.Standing.{loaded_sheet}
+use Rattle.lookups.proofs.Each.{each_asked, each_judged}
+use Rattle.arithmetic.proofs.Judging.{body-row, sums_judged}
 use Rattle.arithmetic.proofs.check.check_arithmetic.Goals as goal
 
-pub loop-at-init : goal.loop-at-init
-loop-at-init c = sums_start _ _ _ _ (search turns) c.requires (cc) (cc) (cc)
-
-pub check_sum-requires : goal.check_sum-requires
-check_sum-requires c = record { entry_at = search turns; stmt_at = search (turns, c.in-Some.ensures.steps) }
-
-pub returns-in_err-check_sum : goal.returns-in_err-check_sum
-returns-in_err-check_sum c = rw (handed_on _ _ c.from_residual.ensures) (search (turns, c.in-Some.ensures.steps, c.in_err-check_sum.was))
-
-pub loop-at-preserved : goal.loop-at-preserved
-loop-at-preserved c = search (turns, c.in-Some.ensures.steps, c.in_ok-check_sum.was)
+pub try_for_each-requires-clause-callable : goal.try_for_each-requires-clause-callable
+try_for_each-requires-clause-callable c = search (loaded_sheet, rules, body-row (loaded_sheet c.args.sheet.now.loaded) c.requires c.body_line.ensures c.body_count.ensures, each_asked)
 
 pub returns : goal.returns
-returns c = search (turns, c.in-None.ensures.steps)
+returns c =
+    search (
+      loaded_sheet,
+      rules,
+      body-row (loaded_sheet c.args.sheet.now.loaded) c.requires c.body_line.ensures c.body_count.ensures,
+      sums_judged (loaded_sheet c.args.sheet.now.loaded) c.requires c.body_line.ensures c.body_count.ensures,
+      each_judged c.try_for_each.ensures.ran stmts,
+    )

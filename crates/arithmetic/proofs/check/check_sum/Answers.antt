@@ -1,7 +1,7 @@
 use Rattle.sheet.proofs.Tested.{tested}
 use Rattle.rules.proofs.Standing.{loaded_sheet}
 use Rattle.arithmetic.proofs.Ops.{fits_next}
-use Rattle.arithmetic.proofs.Judging.{other_stmt, no_bare, target_expr, value_expr, adds_fine, param_fine, limits_fine, overflow}
+use Rattle.arithmetic.proofs.Judging.{other_stmt, no_bare, target_expr, value_expr, adds_fine, param_fine, limits_judged}
 use Rattle.arithmetic.proofs.check.check_sum.Goals as goal
 
 pub returns-then-not-is : goal.returns-then-not-is
@@ -22,8 +22,5 @@ returns-then-not-adds_unbounded c = search (loaded_sheet, tested, adds_fine)
 pub returns-then-is_param : goal.returns-then-is_param
 returns-then-is_param c = search (loaded_sheet, tested, param_fine)
 
-pub returns-then-limits_bound : goal.returns-then-limits_bound
-returns-then-limits_bound c = search (loaded_sheet, tested, limits_fine)
-
 pub returns : goal.returns
-returns c = search (loaded_sheet, tested, overflow)
+returns c = search (loaded_sheet, tested, limits_judged)

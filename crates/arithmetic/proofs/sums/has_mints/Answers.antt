@@ -1,17 +1,11 @@
+use mathlib.Core.Path.{◌∙◌}
 use borrow.Author.Rules.{rules}
-use Rattle.lookups.proofs.Rows.{seeks}
+use borrow.Author.Tests.{tests}
+use Rattle.std.proofs.lemmas.Iterator.Search.{any_from_yields_List}
+use Rattle.sheet.proofs.RecordLines.{gives_lines}
 use Rattle.rules.proofs.Standing.{loaded_sheet}
-use Rattle.arithmetic.proofs.Rows.{mints_start, mints_found, mints_next}
+use Rattle.arithmetic.proofs.Rows.{any_mints}
 use Rattle.arithmetic.proofs.sums.has_mints.Goals as goal
 
-pub loop-at-init : goal.loop-at-init
-loop-at-init c = mints_start _ _ _ _ (search (loaded_sheet, rules)) c.requires (cc) (cc) (cc)
-
-pub returns-then-is : goal.returns-then-is
-returns-then-is c = search (seeks, mints_found, c.in-Some.ensures.steps)
-
-pub loop-at-preserved : goal.loop-at-preserved
-loop-at-preserved c = search (seeks, mints_next, c.in-Some.ensures.steps)
-
 pub returns : goal.returns
-returns c = search (seeks, c.in-None.ensures.steps)
+returns c = any_from_yields_List _ _ _ c.any.result c.any.ensures.ran (gives_lines (cc) (cc) (cc)) (λ x b q k. search (rules, tests)) ∙ any_mints _ _ _ (search (loaded_sheet, rules)) c.requires

@@ -1,18 +1,11 @@
-use Rattle.refusals.proofs.Answers.{handed_on}
-use Rattle.lookups.proofs.Rows.{turns}
+use borrow.Author.Rules.{rules}
+use Rattle.rules.proofs.Rows.{clauses}
+use Rattle.rules.proofs.Standing.{loaded_sheet}
+use Rattle.lookups.proofs.Each.{each_asked, each_judged}
 use Rattle.assets.proofs.consumed.clauses_assets.Goals as goal
 
-pub loop-at-init : goal.loop-at-init
-loop-at-init c = search turns
-
-pub clause_assets-requires : goal.clause_assets-requires
-clause_assets-requires c = search (turns, c.in-Some.ensures.steps)
-
-pub returns-in_err-clause_assets : goal.returns-in_err-clause_assets
-returns-in_err-clause_assets c = rw (handed_on _ _ c.from_residual.ensures) (search (turns, c.in-Some.ensures.steps, c.in_err-clause_assets.was))
-
-pub loop-at-preserved : goal.loop-at-preserved
-loop-at-preserved c = search (turns, c.in-Some.ensures.steps, c.in_ok-clause_assets.was)
+pub try_for_each-requires-clause-callable : goal.try_for_each-requires-clause-callable
+try_for_each-requires-clause-callable c = search (loaded_sheet, rules, each_asked)
 
 pub returns : goal.returns
-returns c = search (turns, c.in-None.ensures.steps)
+returns c = search (loaded_sheet, rules, each_judged c.try_for_each.ensures.ran clauses)

@@ -7,4 +7,4 @@ pub check_records-requires : goal.check_records-requires
 check_records-requires c = search (loaded_sheet, rules, clause_in)
 
 pub returns : goal.returns
-returns c = clauses_do _ _ _ _ (loaded_sheet c.args.scope.now.sheet.loaded) c.requires.entry _ c.requires.is _ _ c.clauses_line.ensures c.clause_count.ensures _ _ c.check_records.ensures (search (loaded_sheet, rules))
+returns c = search (loaded_sheet, rules, clauses_do)

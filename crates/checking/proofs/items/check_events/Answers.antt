@@ -4,4 +4,4 @@ use Rattle.rules.proofs.Standing.{loaded_sheet}
 use Rattle.checking.proofs.items.check_events.Goals as goal
 
 pub returns : goal.returns
-returns c = model_does the_events _ (search (loaded_sheet, rules)) (search (loaded_sheet, rules)) c.check_items.ensures
+returns c = search (loaded_sheet, rules, model_does the_events)

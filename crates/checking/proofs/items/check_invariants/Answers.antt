@@ -4,4 +4,4 @@ use Rattle.rules.proofs.Standing.{loaded_sheet}
 use Rattle.checking.proofs.items.check_invariants.Goals as goal
 
 pub returns : goal.returns
-returns c = rw (← c.new-scope.ensures.sheet) (model_does the_invariants _ (loaded_sheet c.new-scope.result.sheet.loaded) (search (loaded_sheet, rules)) c.check_items.ensures)
+returns c = rw (← c.new-scope.ensures.sheet) (search (loaded_sheet, rules, model_does the_invariants))

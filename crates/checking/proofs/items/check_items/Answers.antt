@@ -1,7 +1,7 @@
 use borrow.Author.Rules.{rules}
 use Rattle.sheet.proofs.Tested.{tested}
 use Rattle.refusals.proofs.Answers.{handed_on}
-use Rattle.checking.proofs.Each.{each_start, each_over}
+use Rattle.typing.proofs.Each.{each_start, each_over}
 use Rattle.checking.proofs.Passing.{items_here, items_other, items_onward, items_refused}
 use Rattle.rules.proofs.Standing.{loaded_sheet}
 use Rattle.checking.proofs.items.check_items.Goals as goal

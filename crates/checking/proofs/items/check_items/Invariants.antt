@@ -1,7 +1,8 @@
 use Rattle.grammar.specs.Coded.{kind_number}
 use Rattle.sheet.specs.Scratch.{item_count}
-use Rattle.checking.specs.Each.{Gives, GivesOf}
-use Rattle.checking.proofs.Each.{EachLeft}
+use Rattle.typing.specs.Each.{Gives}
+use Rattle.checking.specs.Each.{GivesOf}
+use Rattle.typing.proofs.Each.{EachLeft}
 use Rattle.checking.proofs.items.check_items.Given as goal
 
 abbrev pub invariant-loop-at : goal.invariant-loop-at

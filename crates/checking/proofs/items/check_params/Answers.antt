@@ -4,4 +4,4 @@ use Rattle.rules.proofs.Standing.{loaded_sheet}
 use Rattle.checking.proofs.items.check_params.Goals as goal
 
 pub returns : goal.returns
-returns c = model_does the_entries _ (search (loaded_sheet, rules)) (search (loaded_sheet, rules)) c.check_items.ensures
+returns c = search (loaded_sheet, rules, model_does the_entries)

@@ -7,4 +7,4 @@ pub check_records-requires : goal.check_records-requires
 check_records-requires c = search (loaded_sheet, rules, stmt_in)
 
 pub returns : goal.returns
-returns c = stmts_do _ _ _ _ (loaded_sheet c.args.scope.now.sheet.loaded) c.requires.item _ c.genesis_count.ensures _ c.requires.is _ _ c.check_records.ensures (search (loaded_sheet, rules))
+returns c = search (loaded_sheet, rules, stmts_do)

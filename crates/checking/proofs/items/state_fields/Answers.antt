@@ -7,4 +7,4 @@ pub check_records-requires : goal.check_records-requires
 check_records-requires c = search (loaded_sheet, rules, field_in)
 
 pub returns : goal.returns
-returns c = fields_do _ _ _ _ (loaded_sheet c.args.scope.now.sheet.loaded) c.requires.item _ c.field_count.ensures _ c.requires.is _ _ c.check_records.ensures (search (loaded_sheet, rules))
+returns c = search (loaded_sheet, rules, fields_do)

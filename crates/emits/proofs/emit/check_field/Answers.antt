@@ -13,8 +13,8 @@ overflow_add-param c = search (loaded_sheet, rules, field_fits)
 pub ty_of_decl-want-requires : goal.ty_of_decl-want-requires
 ty_of_decl-want-requires c = search (loaded_sheet, rules, field_type)
 
-pub judge_field-requires : goal.judge_field-requires
-judge_field-requires c = search (loaded_sheet, rules, field_arg)
+pub is_name_param-requires : goal.is_name_param-requires
+is_name_param-requires c = search (loaded_sheet, rules, field_arg)
 
 pub returns : goal.returns
 returns c = search (loaded_sheet, rules, field_ok, c.in_ok-got.was)

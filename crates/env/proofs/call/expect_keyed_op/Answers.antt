@@ -1,6 +1,6 @@
 use Rattle.sheet.proofs.Tested.{tested}
 use Rattle.env.proofs.Lookups.{found_typed}
-use Rattle.env.proofs.Methods.{op_nowhere, good_op, bad_op, no_op}
+use Rattle.env.proofs.Methods.{op_nowhere, op_judged, no_op}
 use Rattle.env.proofs.call.expect_keyed_op.Goals as goal
 use Rattle.rules.proofs.Standing.{loaded_sheet}
 use Rattle.grammar.specs.Kinds as kinds
@@ -14,8 +14,5 @@ returns-in_default c = search (loaded_sheet, tested, no_op)
 pub keyed_op_fits-requires : goal.keyed_op_fits-requires
 keyed_op_fits-requires c = search (loaded_sheet, tested, found_typed kinds.field)
 
-pub returns-then-keyed_op_fits : goal.returns-then-keyed_op_fits
-returns-then-keyed_op_fits c = search (loaded_sheet, tested, good_op)
-
-pub returns-else-keyed_op_fits : goal.returns-else-keyed_op_fits
-returns-else-keyed_op_fits c = search (loaded_sheet, tested, bad_op)
+pub returns : goal.returns
+returns c = search (loaded_sheet, tested, op_judged)

@@ -1,19 +1,11 @@
 use Rattle.rules.specs.Operators.{unary_meant}
-use Rattle.env.proofs.Judging.{not_is, neg_is, unary_fine, unary_wrong}
+use Rattle.env.proofs.Judging.{not_is, neg_is, unary_judged}
 use Rattle.env.proofs.judge.judge_unary.Goals as goal
 
-pub returns-then-or_unknown : goal.returns-then-or_unknown
+pub returns-in-Not : goal.returns-in-Not
 unfolding unary_meant
-returns-then-or_unknown c = unary_fine not_is c.args.op c.args.inner _ _ (rw c.in-Not.is) c.or_unknown.ensures c.if-or_unknown.true
+returns-in-Not c = unary_judged not_is c.args.op c.args.inner _ _ (rw c.in-Not.is) c.or_unknown.ensures _ _ c.expect.ensures c.and.ensures
 
-pub returns-else-or_unknown : goal.returns-else-or_unknown
+pub returns-in-Neg : goal.returns-in-Neg
 unfolding unary_meant
-returns-else-or_unknown c = unary_wrong not_is c.args.op c.args.inner _ _ (rw c.in-Not.is) c.or_unknown.ensures c.if-or_unknown.false
-
-pub returns-then-or_unknown-2 : goal.returns-then-or_unknown-2
-unfolding unary_meant
-returns-then-or_unknown-2 c = unary_fine neg_is c.args.op c.args.inner _ _ (rw c.in-Neg.is) c.or_unknown-in-Neg.ensures c.if-or_unknown-2.true
-
-pub returns-else-or_unknown-2 : goal.returns-else-or_unknown-2
-unfolding unary_meant
-returns-else-or_unknown-2 c = unary_wrong neg_is c.args.op c.args.inner _ _ (rw c.in-Neg.is) c.or_unknown-in-Neg.ensures c.if-or_unknown-2.false
+returns-in-Neg c = unary_judged neg_is c.args.op c.args.inner _ _ (rw c.in-Neg.is) c.or_unknown-in-Neg.ensures _ _ c.expect-in-Neg.ensures c.and-in-Neg.ensures

@@ -6,4 +6,4 @@ use Rattle.sheet.specs.Scratch.{skip}
 use Rattle.sheet.proofs.scratch.skip.Given as goal
 
 abbrev pub invariant-loop : goal.invariant-loop
-invariant-loop l = (l.at < 65536) × (skip l.lines l.k l.j ≡ skip l.lines (l.k - l.counter) l.at)
+invariant-loop l = (l.from < 65536 → l.at < 65536) × (skip l.lines l.count l.from ≡ skip l.lines (l.count - l.counter) l.at)

@@ -1,6 +1,12 @@
+use mathlib.Core.Path.{ap, ◌∙◌}
+use native.Mathlib.Omega.{arith}
+use borrow.Author.Rules.{rules}
+use Rattle.std.specs.Iterator.Adapters.{zip_first}
 use Rattle.refusals.proofs.Answers.{handed_on}
-use Rattle.typing.proofs.Calls.{laws_each, laws_args, laws_call, laws_keyed}
-use Rattle.typing.proofs.Keys.{amount_falls, amount_asks, laws_amount, keys_below, keys_asked, laws_keyed_call, keys_falls, keys_rest, laws_keys}
+use Rattle.typing.proofs.Each.{each_start}
+use Rattle.typing.proofs.Arguments.{each_asks, each_falls, each_no, each_next, each_end}
+use Rattle.typing.proofs.Calls.{laws_args, laws_call, laws_keyed}
+use Rattle.typing.proofs.Keys.{amount_falls, amount_asks, laws_amount, keys_below, keys_asked, laws_keyed_call, keys_start, keys_over, keys_first, keys_falls, keys_type, keys_index, keys_arg, keys_no, keys_wrong, keys_next}
 use Rattle.typing.proofs.Asking.{laws_again, laws_kind}
 use Rattle.typing.proofs.Operators.{laws_bin, laws_un}
 use Rattle.rules.proofs.Standing.{loaded_sheet}
@@ -12,11 +18,28 @@ check_amount-ty_of-requires t c = (amount_falls _ _ _ _ _ (loaded_sheet c.args.s
 pub check_keyed_call-check_keys-requires : goal.check_keyed_call-check_keys-requires
 check_keyed_call-check_keys-requires t c = (keys_below _ _ _ _ _ _ (loaded_sheet c.args.scope.now.sheet.loaded) c.args.scope.now.in_force c.requires _ c.in-Some.is _ _ c.check_amount.ensures c.in_ok-check_amount.was _ _ _ _ c.name-method.ensures c.wants.ensures c.end-at.ensures c.call_arg_count.ensures _ c.decreases, keys_asked _ _ _ _ _ _ (loaded_sheet c.args.scope.now.sheet.loaded) c.args.scope.now.in_force c.requires _ c.in-Some.is _ _ c.check_amount.ensures c.in_ok-check_amount.was _ _ _ _ c.name-method.ensures c.wants.ensures c.end-at.ensures c.call_arg_count.ensures)
 
-pub check_keys-declared_arg-want-requires : goal.check_keys-declared_arg-want-requires
-check_keys-declared_arg-want-requires t c = search laws_keys
+pub check_keys-loop-index-init : goal.check_keys-loop-index-init
+check_keys-loop-index-init t c = keys_start _ _ _ _ _ _ _ _ _ _ c.requires (ap zip_first c.into_iter-index-iterator.ensures.into_iter_gives ∙ c.zip-index-items.ensures.first) (cc) (cc) cc
 
-pub check_keys-check_keys-requires : goal.check_keys-check_keys-requires
-check_keys-check_keys-requires t c = (keys_falls _ _ _ _ _ _ _ _ _ (loaded_sheet c.args.scope.now.sheet.loaded) c.args.scope.now.in_force c.requires c.if-wants-index.false _ _ c.ty_of.ensures _ _ _ c.in_ok-got.was c.declared_arg-want.ensures c.judge_key.ensures c.in_ok-judge_key.was _ c.end.ensures _ c.decreases, keys_rest _ _ _ _ _ _ _ _ _ (loaded_sheet c.args.scope.now.sheet.loaded) c.args.scope.now.in_force c.requires c.if-wants-index.false _ _ c.ty_of.ensures _ _ _ c.in_ok-got.was c.declared_arg-want.ensures c.judge_key.ensures c.in_ok-judge_key.was _ c.end.ensures)
+pub check_keys-ty_of-requires : goal.check_keys-ty_of-requires
+check_keys-ty_of-requires t c =
+    let s = loaded_sheet c.args.scope.now.sheet.loaded in
+    (keys_falls s c.args.scope.now.in_force c.loop-index.invariant (zip_first c.next.new.self) c.in-Some.ensures.steps _ c.decreases, keys_first s c.args.scope.now.in_force c.loop-index.invariant (zip_first c.next.new.self) c.in-Some.ensures.steps)
+
+pub check_keys-declared_arg-want-requires : goal.check_keys-declared_arg-want-requires
+check_keys-declared_arg-want-requires t c =
+    let s = loaded_sheet c.args.scope.now.sheet.loaded in
+    record { ty_at = keys_type s c.args.scope.now.in_force c.loop-index.invariant (zip_first c.next.new.self) c.in-Some.ensures.steps; index_bound = omega (arith, keys_index s c.args.scope.now.in_force c.loop-index.invariant (zip_first c.next.new.self) c.in-Some.ensures.steps) }
+
+pub check_keys-judge_key-requires : goal.check_keys-judge_key-requires
+check_keys-judge_key-requires t c =
+    let s = loaded_sheet c.args.scope.now.sheet.loaded in
+    keys_arg s c.args.scope.now.in_force c.loop-index.invariant (zip_first c.next.new.self) c.in-Some.ensures.steps
+
+pub check_keys-loop-index-preserved : goal.check_keys-loop-index-preserved
+check_keys-loop-index-preserved t c =
+    let s = loaded_sheet c.args.scope.now.sheet.loaded in
+    keys_next s c.args.scope.now.in_force c.loop-index.invariant (zip_first c.next.new.self) c.in-Some.ensures.steps c.ty_of.ensures c.in_ok-got.was c.declared_arg-want.ensures c.judge_key.ensures c.in_ok-judge_key.was
 
 pub ty_again-returns-in-Ok : goal.ty_again-returns-in-Ok
 ty_again-returns-in-Ok t c = search laws_again
@@ -48,11 +71,22 @@ type_keyed-ty_of_call-requires t c = search laws_keyed
 pub typing-ty_of-requires : goal.typing-ty_of-requires
 typing-ty_of-requires t c = search laws_kind
 
+pub ask_each-loop-arg-init : goal.ask_each-loop-arg-init
+ask_each-loop-arg-init t c = each_start _ _ _ _ _ _ (cc) (cc) cc
+
+pub ask_each-ty_of-requires : goal.ask_each-ty_of-requires
+ask_each-ty_of-requires t c =
+    let s = loaded_sheet c.args.scope.now.sheet.loaded in
+    (each_falls _ _ _ _ _ _ s c.args.scope.now.in_force c.requires _ _ c.loop-arg.invariant _ _ c.in-Some.ensures.steps _ c.decreases, each_asks _ _ _ _ _ _ s c.args.scope.now.in_force c.requires _ _ c.loop-arg.invariant _ _ c.in-Some.ensures.steps (cc))
+
+pub ask_each-loop-arg-preserved : goal.ask_each-loop-arg-preserved
+ask_each-loop-arg-preserved t c = search (loaded_sheet, rules, each_next, c.in-Some.ensures.steps, c.in_ok-ty_of.was)
+
 pub ask_each-returns-in_err-ty_of : goal.ask_each-returns-in_err-ty_of
-ask_each-returns-in_err-ty_of t c = rw (handed_on _ _ c.from_residual.ensures) (search (laws_each, c.in_err-ty_of.was))
+ask_each-returns-in_err-ty_of t c = rw (handed_on _ _ c.from_residual.ensures) (search (loaded_sheet, rules, each_no, c.in-Some.ensures.steps, c.in_err-ty_of.was))
 
 pub ask_each-returns : goal.ask_each-returns
-ask_each-returns t c = search (laws_each, c.in_ok-ty_of.was)
+ask_each-returns t c = search (loaded_sheet, rules, each_end, c.in-None.ensures.steps)
 
 pub check_amount-returns-in_err-got : goal.check_amount-returns-in_err-got
 check_amount-returns-in_err-got t c = rw (handed_on _ _ c.from_residual.ensures) (search (laws_amount, c.in_err-got.was))
@@ -67,13 +101,19 @@ pub check_keyed_call-returns : goal.check_keyed_call-returns
 check_keyed_call-returns t c = search (laws_keyed_call, c.in_ok-check_amount.was)
 
 pub check_keys-returns-in_err-got : goal.check_keys-returns-in_err-got
-check_keys-returns-in_err-got t c = rw (handed_on _ _ c.from_residual.ensures) (search (laws_keys, c.in_err-got.was))
+check_keys-returns-in_err-got t c =
+    let s = loaded_sheet c.args.scope.now.sheet.loaded in
+    rw (handed_on _ _ c.from_residual.ensures) (keys_no s c.args.scope.now.in_force c.loop-index.invariant (zip_first c.next.new.self) c.in-Some.ensures.steps c.ty_of.ensures c.in_err-got.was)
 
 pub check_keys-returns-in_err-judge_key : goal.check_keys-returns-in_err-judge_key
-check_keys-returns-in_err-judge_key t c = rw (handed_on _ _ c.from_residual-in_err-judge_key.ensures) (search (laws_keys, c.in_ok-got.was, c.in_err-judge_key.was))
+check_keys-returns-in_err-judge_key t c =
+    let s = loaded_sheet c.args.scope.now.sheet.loaded in
+    rw (handed_on _ _ c.from_residual-in_err-judge_key.ensures) (keys_wrong s c.args.scope.now.in_force c.loop-index.invariant (zip_first c.next.new.self) c.in-Some.ensures.steps c.ty_of.ensures c.in_ok-got.was c.declared_arg-want.ensures c.judge_key.ensures c.in_err-judge_key.was)
 
 pub check_keys-returns : goal.check_keys-returns
-check_keys-returns t c = search (laws_keys, c.in_ok-got.was, c.in_ok-judge_key.was)
+check_keys-returns t c =
+    let s = loaded_sheet c.args.scope.now.sheet.loaded in
+    keys_over s c.args.scope.now.in_force c.loop-index.invariant c.in-None.ensures.steps
 
 pub ty_of_binary-returns-in_err-l : goal.ty_of_binary-returns-in_err-l
 ty_of_binary-returns-in_err-l t c = rw (handed_on _ _ c.from_residual.ensures) (search (laws_bin, c.in_err-l.was))

@@ -1,5 +1,9 @@
 use Prim.Native.Nat.{ℕ, ◌+◌, ◌*◌, ◌-◌}
+use Rattle.std.specs.Iterator.Adapters.{zip_first, zip_second}
 use Rattle.sheet.specs.Scratch.{line_count}
+use Rattle.typing.proofs.Each.{EachLeft}
+use Rattle.typing.proofs.Arguments.{Typed}
+use Rattle.typing.proofs.Keys.{KeysLeft}
 use Rattle.typing.proofs.typing.+expression_types.Given as goal
 
 -- the lines left and a phase, of which the lines weigh more
@@ -41,3 +45,9 @@ decreases-typing l = rank (line_count l.scope.now.sheet.lines.now) l.i 5
 
 abbrev pub decreases-check_keys : goal.decreases-check_keys
 decreases-check_keys l = rank (line_count l.scope.now.sheet.lines.now) l.at 8
+
+abbrev pub invariant-ask_each-loop-arg : goal.invariant-ask_each-loop-arg
+invariant-ask_each-loop-arg l = EachLeft (Typed l.fn.scope.sheet.bytes.now l.fn.scope.env) l.fn.scope.sheet.lines.now l.fn.left l.fn.at l.fn.table l.arg-iterator l.table
+
+abbrev pub invariant-check_keys-loop-index : goal.invariant-check_keys-loop-index
+invariant-check_keys-loop-index l = KeysLeft l.fn.scope.sheet.bytes.now l.fn.scope.sheet.lines.now l.fn.scope.env l.fn.table l.fn.field l.fn.wants l.fn.left l.fn.at (zip_first l.index-iterator) (zip_second l.index-iterator) l.table

@@ -1,6 +1,6 @@
 use borrow.Author.Rules.{rules}
 use Rattle.rules.proofs.Standing.{loaded_sheet}
-use Rattle.wrapping.proofs.Reaching.{set_other, set_value, set_fine, set-refused}
+use Rattle.wrapping.proofs.Reaching.{set_other, set_value, set_reach}
 use Rattle.wrapping.proofs.reach.narrow_set.Goals as goal
 
 pub returns-then-not-sets : goal.returns-then-not-sets
@@ -9,8 +9,5 @@ returns-then-not-sets c = search (loaded_sheet, rules, set_other)
 pub reaches-requires : goal.reaches-requires
 reaches-requires c = search (loaded_sheet, rules, set_value)
 
-pub returns-then-reaches : goal.returns-then-reaches
-returns-then-reaches c = search (loaded_sheet, rules, set-refused)
-
 pub returns : goal.returns
-returns c = search (loaded_sheet, rules, set_fine)
+returns c = search (loaded_sheet, rules, set_reach)

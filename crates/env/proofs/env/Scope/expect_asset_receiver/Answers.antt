@@ -1,5 +1,5 @@
 use Rattle.sheet.proofs.Tested.{tested}
-use Rattle.env.proofs.Methods.{no_receiver, any_receiver, base_in, a_receiver, bad_receiver}
+use Rattle.env.proofs.Methods.{no_receiver, any_receiver, base_in, pool_judged}
 use Rattle.rules.proofs.Standing.{loaded_sheet}
 use Rattle.env.proofs.env.Scope.expect_asset_receiver.Goals as goal
 
@@ -12,8 +12,5 @@ returns-then-not-is_word c = search (loaded_sheet, tested, any_receiver)
 pub is_pool-requires : goal.is_pool-requires
 is_pool-requires c = search (loaded_sheet, tested, base_in)
 
-pub returns-then-is_pool : goal.returns-then-is_pool
-returns-then-is_pool c = search (loaded_sheet, tested, a_receiver)
-
-pub returns-else-is_pool : goal.returns-else-is_pool
-returns-else-is_pool c = search (loaded_sheet, tested, bad_receiver)
+pub returns : goal.returns
+returns c = search (loaded_sheet, tested, pool_judged)

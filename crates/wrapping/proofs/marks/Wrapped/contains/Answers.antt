@@ -1,18 +1,17 @@
+use mathlib.Core.Path.{◌∙◌}
+use native.Mathlib.Omega.{arith}
 use borrow.Author.Rules.{rules}
-use Rattle.wrapping.proofs.Wrapped.{seek_start, seek_line, seek_found, seek_next, seek_over}
+use borrow.Author.Tests.{tests}
+use Rattle.std.proofs.lemmas.Iterator.Search.{any_from_yields_List}
+use Rattle.sheet.proofs.RecordLines.{gives_lines}
+use Rattle.rules.proofs.Rows.{serves_row}
+use Rattle.wrapping.proofs.Wrapped.{any_marked}
 use Rattle.wrapping.proofs.marks.Wrapped.contains.Goals as goal
 
-pub loop-at-init : goal.loop-at-init
-loop-at-init c = seek_start _ _ _ _ _ _ _ c.args.self.now.few c.args.self.now.row (cc) (cc) cc
-
-pub is_marked-requires : goal.is_marked-requires
-is_marked-requires c = search (rules, seek_line, c.in-Some.ensures.steps)
-
-pub returns-then-is_marked : goal.returns-then-is_marked
-returns-then-is_marked c = search (rules, seek_found, c.in-Some.ensures.steps)
-
-pub loop-at-preserved : goal.loop-at-preserved
-loop-at-preserved c = search (rules, seek_next, c.in-Some.ensures.steps)
+pub any-requires-clause-callable : goal.any-requires-clause-callable
+any-requires-clause-callable c = serves_row c.args.self.now.row (cc) (cc) (cc) (λ x q k. search (rules, tests)) (λ x h. omega (arith, h.within, c.args.self.now.few))
 
 pub returns : goal.returns
-returns c = search (rules, seek_over, c.in-None.ensures.steps)
+returns c =
+    let w = c.args.self.now in
+    any_from_yields_List _ _ _ c.any.result c.any.ensures.ran (gives_lines (cc) (cc) (cc)) (λ x b q k. search (rules, tests)) ∙ any_marked w.sheet.bytes.now w.sheet.lines.now w.marks c.args.x.now w.bound w.body
