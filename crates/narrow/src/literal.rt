@@ -11,9 +11,7 @@ fn with_digit(n: u128, b: u8) -> Option<u128>
         .checked_add(u128::from(b.saturating_sub(b'0')))
 }
 
-// By hand: `parse` takes no underscores.
-//
-// Whether the text's number, its underscores left out, is above most; a text that is no u128 has none.
+// Whether the text's number, its underscores left out, is above most; a text that is no u128 has none. By hand: `parse` takes no underscores.
 pub fn exceeds(text: &[u8], most: u64) -> bool
     ensures { result ≡ exceeds_of text.now most }
 {

@@ -3,7 +3,7 @@ ghost use Rattle.refusals.specs.Numbers.{From, Numbers};
 
 use crate::refusal::Refusal;
 
-// In two parts, as in place.rt: a function has 40 lines at most. Their last arm can't come (`From`).
+// In two parts, as in place.rt: a function has 40 lines at most. The last arm of the second can't come (`From`).
 impl Refusal {
     #[tactic(auto, using(crate::proofs::Tags::number_told))]
     pub fn number(self) -> u32

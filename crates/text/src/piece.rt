@@ -9,11 +9,9 @@ fn either(a: u8, b: u8, x: u8) -> bool
     (x == a) | (x == b)
 }
 
-// Two bytes, which may be the same, and no closure: that would owe its promise to each caller's proof. By index, since a position may lie behind
-// the end, where no slice begins.
-//
 // Where the first a or b from a position on stands. Where there is none: the length, or the position itself if it is beyond that. No Option,
-// since a piece that no byte ends goes on to the end of the text: most callers would put the length for None.
+// since a piece that no byte ends goes on to the end of the text: most callers would put the length for None. Two bytes, which may be the same, and
+// no closure, which would owe its promise to each caller's proof. By index, since a position may lie behind the end, where no slice begins.
 pub fn find(s: &[u8], from: usize, a: u8, b: u8) -> usize
     ensures { result ≡ from + length (upto (either_of a b) (drop from s.now)) }
 {

@@ -151,8 +151,8 @@ fn type_call(scope: &Scope<'_>, table: &mut [u8], i: usize) -> Result<Ty, Refusa
     type_args(scope, table, i, keyed)
 }
 
-// ... then its arguments are typed. `keyed` is what `keyed_of` gave of the callee, handed on so that it is looked up once; a struct of it and the
-// call's line would save no clause, since `AsksCall` ties the two.
+// ... then its arguments are typed. `keyed` is what `keyed_of` gave of the callee, handed on so that it is looked up once. What ties it to the
+// call's line is a fact of the scope too (`AsksCall`), so a struct of both would hold the scope again.
 #[cycle(expression_types)]
 fn type_args(
     scope: &Scope<'_>,
