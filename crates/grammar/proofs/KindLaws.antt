@@ -139,6 +139,10 @@ place_kind s w r n e = e ∙ rw (place_told w (words_of (records_for s)), n) (by
     by_cases i true h = get_take (length (records_for s)) (drop (first_kind s) kinds) i (ltb-true i (length (records_for s)) h) ∙ get_drop (first_kind s) kinds i
     by_cases i false h = refl
 
+pub kind_at_lem : (s : Sort) (w : List ℕ) (p r : ℕ) → p ≡ index_in w (words_of (records_for s)) → r ≡ within (first_kind s) (length (records_for s)) p → r ≡ kind_for s w
+unfolding kind_for
+kind_at_lem s w p r f g = g ∙ rw f
+
 -- an arm of `kind_for`
 pub kind_arm : (s : Sort) (w : List ℕ) (r : Option Kind) → length (words_of (records_for s)) ≡ length (records_for s)
     → r ≡ option_and_then (slice_get (kinds_for s)) (place_in w (split (bytes (table s)))) → r ≡ kind_of (kind_for s w)
