@@ -6,24 +6,24 @@ use borrow.Author.Tests.{ltb-true, ltb-false}
 use lib.Dec.{ltb}
 use Prim.Native.Nat.{ℕ, ◌+◌, ◌-◌, ◌≤◌, ◌<◌}
 use native.Mathlib.Omega.{arith}
-use lib.ListN.{length, take, drop}
+use lib.ListN.{length, take, drop, length-take, length-drop}
 use mir.Val.{Fits}
 use mir.Syntax.{w64}
 use Rattle.std.specs.Prelude.{Result, Ok, Err}
 use Rattle.text.specs.Text.{either, upto, ended}
-use Rattle.sheet.specs.Line.{good, read_pieces, read_line}
+use Rattle.sheet.specs.Line.{good, read_pieces, read_line, most_lines}
 use Rattle.sheet.specs.Line as spec
 use Rattle.grammar.specs.Coded.{sort_from, sort_meant}
 use Rattle.grammar.specs.declared.sorts.Sort as code
 use Rattle.sheet.specs.Scratch.{Small, line_count, put_line}
 use Rattle.sheet.specs.Step.{code_line, code_read}
-use Rattle.sheet.specs.Open.{Top, sort_due, sort_or, taken}
+use Rattle.sheet.specs.Open.{Deepest, Top, sort_due, sort_or, taken}
 use Rattle.sheet.specs.Load.{refused}
 use Rattle.sheet.specs.Scan.{Whole, Going, Scans}
 use Rattle.sheet.specs.declared.line.Line.{Line}
 use Rattle.sheet.specs.declared.open.Depths.{Depths}
 use Rattle.sheet.specs.declared.refusal.Refused.{Refused}
-use Rattle.sheet.proofs.Scanning.{line_ends, no_lines, there, told_bad, told_good, scans_refused, turn_sort, turn_sortless, turn_read, turn_bad, turn_small, turn_room, turn_top, turn_next, end_complete, end_missing}
+use Rattle.sheet.proofs.Scanning.{line_ends, no_lines, there, told_bad, told_good, scans_refused, turn_line, turn_sort, turn_sortless, turn_read, turn_bad, turn_small, turn_room, turn_top, turn_next, end_complete, end_missing}
 
 -- where the line at `at` ends
 abbrev pub Found : List ℕ → ℕ → ℕ → Type 0
@@ -34,6 +34,18 @@ abbrev pub Got : List ℕ → ℕ → ℕ → code.Sort → ℕ → Result Line 
 Got s at i σ f r = r ≡ code_read (i + 1) (read_pieces (sort_meant σ) at (ended (either 44 10) [] (take (f + 1 - at) (drop at s))))
 
 module _ {s S T : List ℕ} {d : Depths} {at i : ℕ} (g : Going s S T d.due d.count at i) (w : Whole s S) where
+  pub few_lines : i ≤ most_lines
+  few_lines = omega (arith, g.lines, w.few)
+
+  pub next_fits : Fits w64 (i + 1)
+  next_fits = let f = few_lines in omega arith
+
+  pub next_line_lem : at < length s → i + 1 ≤ most_lines
+  next_line_lem h = turn_line s S T d.due d.count at i w g h
+
+  pub deepest : Deepest T d.due d.count
+  deepest h k = ((g.counts k).0.owned (d.count - 1) (omega arith) (omega arith)).next
+
   -- n lines are there: all are read
   module _ {n : ℕ} (t : n ≡ line_count S) (h : n ≤ i) where
     over : length s ≤ at
@@ -64,11 +76,20 @@ module _ {s S T : List ℕ} {d : Depths} {at i : ℕ} (g : Going s S T d.due d.c
     returns-sortless {f} q = scans_refused s S T f (turn_sortless s S T d.due d.count at i w g h o f p q) g.size
 
     module _ {f : ℕ} (e : Found s at f) where
+      pub after_start : at ≤ f + 1
+      after_start = omega arith
+
       pub before_end : f + 1 ≤ length s
       before_end = omega (arith, line_ends s at w.terminated h)
 
       pub end_fits : Fits w64 (f + 1)
       end_fits = let b = before_end in omega (arith, w.small)
+
+      pub falls : length s - (f + 1) < length s - at
+      falls = let q = h in omega (arith, e)
+
+      pub line-within : at + length (take (f + 1 - at) (drop at s)) ≤ 65535
+      line-within = let b = before_end in simp (length-take, length-drop) (omega (arith, w.small))
 
       module _ {σ : code.Sort} (q : o ≡ Ok σ) {r : Result Line Refused} (u : Got s at i σ f r) where
         sort : (d.count ≡ 0 → ⊥) × (d.count ≤ 65) × (σ ≡ sort_from (sort_due T d.due d.count))

@@ -13,7 +13,7 @@ use borrow.Author.Tests.{eqb-true, eqb-false, ne_eqb, le-ltb, lt-ltb, ltb-true, 
 use Rattle.text.specs.Text.{either, upto, ended}
 use Rattle.text.proofs.Pieces.{upto_front, upto_most, upto_stop, piece_next}
 use Rattle.grammar.specs.Grammar.{Sort, Contract, Expr, record_of, no_kind}
-use Rattle.sheet.specs.Line.{Line, Read, good, bad, read_pieces, read_line, fields_of}
+use Rattle.sheet.specs.Line.{Line, Read, good, bad, read_pieces, read_line, fields_of, most_lines}
 use Rattle.sheet.specs.Load.{LoadResult, lines, refused, after, lines_of, copies, sorts, due, judged, scan, unended}
 use Rattle.grammar.specs.Table.{sort_of, sort_number, sort_numbers, sorts_in, group_sorts, numbers_in, three}
 use Rattle.sheet.specs.Step.{code_line, code_read}
@@ -160,6 +160,9 @@ module _ (s S T : List ℕ) (ds : List Due) (n at i : ℕ) (w : Whole s S) (g : 
 
   fewer : i < length (lines_of s)
   fewer = let e = ap length there in omega (arith, g.lines)
+
+  pub turn_line : i + 1 ≤ most_lines
+  turn_line = omega (arith, fewer, w.few)
 
   -- what the code reads of the line
   pub turn_read : (σ : code.Sort) (f : ℕ) (r : Result CodeLine Refused) → f ≡ at + length here → r ≡ code_read (i + 1) (read_pieces (sort_meant σ) at (ended (either 44 10) [] (take (f + 1 - at) (drop at s))))
