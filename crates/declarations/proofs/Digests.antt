@@ -77,6 +77,14 @@ place_next : (s : Name) (i : ℕ) → i < length s → contains_any (lower (drop
 unfolding lower
 place_next s i h = rw (drop-cons s i 0 h, add-one, place_first) refl
 
+-- what the words from k on at place i, and the later places, say
+pub rest : List ℕ → ℕ → ℕ → Bool
+rest s i k = starts_any (lower (drop i s)) (drop k DIGEST_NAME_TOKENS) || contains_any (lower (drop (i + 1) s)) DIGEST_NAME_TOKENS
+
+pub index_in_lem : (s : List ℕ) (i : ℕ) (n : Bool) → n ≡ contains_any (lower (drop i s)) DIGEST_NAME_TOKENS → i < length s → n ≡ rest s i 0
+unfolding rest
+index_in_lem s i n e h = e ∙ place_next s i h
+
 places : (s : Name) (i n : ℕ) → n ≡ length s - i → list_any (at_place s) (range_with_len i n) ≡ contains_any (lower (drop i s)) DIGEST_NAME_TOKENS
 unfolding lower contains_any contains starts_with
 places s i zero e = sym (rw (drop_of_length-le s {i = i} (omega (arith, e))) refl)
