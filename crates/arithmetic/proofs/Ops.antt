@@ -1,25 +1,27 @@
 -- Operators by their numbers, and the lines of their operands. Assumes nothing.
 use mathlib.Core.Path.{◌≡◌, refl, sym, ◌∙◌}
-use mathlib.Core.List.{List}
+use mathlib.Core.List.{List, [], ◌∷◌}
 use mathlib.Core.Bool.{Bool, true, false, not, ◌||◌, and-eq-true_iff}
-use Prim.Native.Nat.{ℕ, ◌+◌, ◌<◌, ◌≤◌}
+use Prim.Native.Nat.{ℕ, zero, suc, ◌+◌, ◌<◌, ◌≤◌}
 use native.Mathlib.Numerals.{add-one}
 use native.Mathlib.Omega.{arith}
 use mir.Syntax.{w64}
 use mir.Val.{Fits}
-use lib.Dec.{eqb}
-use lib.ListN.{length, get_or}
-use borrow.Author.Tests.{eqb-true, eqb-false, eq-eqb, ne_eqb, not-false}
+use lib.Dec.{eqb, ltb}
+use lib.ListN.{length, get_or, drop}
+use borrow.Author.Tests.{eqb-true, eqb-false, eq-eqb, ne_eqb, ltb-true, ltb-false, not-false}
 use Rattle.sheet.specs.Scratch.{kind_at, op_at, end_at, line_count}
 use Rattle.sheet.specs.Say.{span_at}
 use Rattle.rules.specs.Ast.{Shr, bin_ops, binary}
 use Rattle.rules.specs.Arithmetic.{acknowledged, is_op, op_place}
 use Rattle.rules.specs.Standing.{expr_at, Loaded, Here}
+use Rattle.rules.proofs.Parts.{stop, ◌also◌, pick}
 use Rattle.rules.proofs.Standing.{row_first, row_rest}
 use Rattle.rules.proofs.Exprs.{bin_at, by_kind}
 use Rattle.grammar.specs.Grammar as grammar
 use Rattle.grammar.specs.Grammar.{no_kind}
 use Rattle.grammar.specs.Kinds as kinds
+use Rattle.grammar.specs.Operators as ops
 use Rattle.grammar.specs.Coded.{bin_number, bin_of}
 use Rattle.grammar.specs.declared.ops.BinOp as code
 use Rattle.grammar.specs.declared.ops.BinOp.TheVariants as op
@@ -45,6 +47,29 @@ place_meant op.Mul = refl
 place_meant op.Div = refl
 place_meant op.Rem = refl
 place_meant op.Shr = refl
+
+-- the last of a list is also what stands behind it
+last_one : {A : Type 0} (d : A) (n m : ℕ) (xs : List A) → drop m xs ≡ d ∷ [] → m ≤ n → get_or xs n d ≡ d
+last_one d n m [] e h = refl
+last_one d zero zero (x ∷ xs) e h = cc e
+last_one d zero (suc m) (x ∷ xs) e h = absurd (omega arith)
+last_one d (suc n) zero (x ∷ []) e h = refl
+last_one d (suc n) zero (x ∷ y ∷ xs) e h = absurd (let z : ◌≡◌ {A = ℕ} 0 1 = cc in omega arith)
+last_one d (suc n) (suc m) (x ∷ xs) e h = last_one d n m xs e (omega arith)
+
+-- the operator of number n stands at place n, but from the last on it is the last
+pub op_place_lem : (n p : ℕ) → p < ops.bin_shr → eqb (op_place (get_or bin_ops n Shr)) p ≡ eqb n p
+unfolding op_place
+op_place_lem n p h = by_cases (ltb n ops.bin_shr) refl
+  where
+    by_cases : (b : Bool) → ltb n ops.bin_shr ≡ b → eqb (op_place (get_or bin_ops n Shr)) p ≡ eqb n p
+    by_cases true e =
+        pick {P = λ k. eqb (op_place (get_or bin_ops k Shr)) p ≡ eqb k p} {i = 0} {n = ops.bin_shr} n
+        (refl also refl also refl also refl also refl also refl also refl also refl also refl also refl also refl also refl also refl also stop)
+        (omega arith) (ltb-true n ops.bin_shr e)
+    by_cases false e =
+        let q = ltb-false n ops.bin_shr e in
+        rw (last_one Shr n ops.bin_shr bin_ops refl q, ne_eqb n p (omega arith), ne_eqb ops.bin_shr p (omega arith)) refl
 
 -- the operator at a place, as the rules have it and as the code does
 pub op_meant : (n : ℕ) (o : code.BinOp) → is_op (get_or bin_ops n Shr) (bin_meant o) ≡ eqb (bin_number (bin_of n)) (bin_number o)

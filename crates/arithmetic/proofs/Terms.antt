@@ -1,17 +1,18 @@
 -- The terms that an operator joins, line by line, and the target among those of a sum. Assumes nothing.
 use mathlib.Core.Path.{◌≡◌, refl, sym, ap, ◌∙◌}
 use mathlib.Core.List.{List, [], ◌∷◌, ◌++◌, append-nil, append_assoc}
-use mathlib.Core.Bool.{Bool, true, false, not, ◌&&◌, ◌||◌}
+use mathlib.Core.Bool.{Bool, true, false, not, ◌&&◌, ◌||◌, and-eq-true_iff}
 use Prim.Native.Nat.{ℕ, ◌+◌, ◌<◌, ◌≤◌}
 use native.Mathlib.Omega.{arith}
 use lib.Dec.{eqb}
+use borrow.Author.Tests.{eqb-true}
 use Rattle.std.specs.Prelude.{Option, Some, None, option_map, is_some}
 use Rattle.text.specs.Text.{same}
 use Rattle.grammar.specs.Grammar as grammar
 use Rattle.sheet.specs.Scratch.{kind_at, op_at, name_at, end_at}
 use Rattle.rules.specs.Text.{Name}
 use Rattle.rules.specs.Ast.{BinOp, Add, Expr, leaf, unary, binary, field, call, wrap, Exprs, nil, more, Entry}
-use Rattle.rules.specs.Arithmetic.{is_op, any, sum_terms, same_target, without, bounded}
+use Rattle.rules.specs.Arithmetic.{op_place, is_op, any, sum_terms, same_target, without, bounded}
 use Rattle.rules.specs.Standing.{expr_at, Loaded, Here}
 use Rattle.rules.proofs.Exprs.{by_kind, ident_at}
 use Rattle.rules.proofs.Forest.{joined, parts_of}
@@ -23,6 +24,7 @@ use Rattle.grammar.specs.declared.ops.BinOp as code
 use Rattle.grammar.specs.declared.ops.BinOp.TheVariants as op
 use Rattle.rules.specs.Operators.{bin_meant}
 use Rattle.grammar.specs.Kinds as kinds
+use Rattle.grammar.specs.Operators as ops
 
 -- ------------------------------------------------------------ same_target
 
@@ -58,12 +60,26 @@ module _ (s S : List ℕ) (i : ℕ) (d : Loaded s S) (h : Here S grammar.Expr i)
       rw (the_bin s S i d h (is_bin s S i d h o b t q), terms, op_is s S i d h o b t q)
       (append_assoc (terms p (expr_at s (i + 1))) (terms p (expr_at s (end_at S (i + 1)))) (terms_any p es))
 
-  one_term : b ≡ false → terms_any (bin_meant o) (more (expr_at s i) es) ≡ expr_at s i ∷ terms_any (bin_meant o) es
+  pub one_term : b ≡ false → terms_any (bin_meant o) (more (expr_at s i) es) ≡ expr_at s i ∷ terms_any (bin_meant o) es
   unfolding terms_any terms
   one_term q =
       by_kind d h (λ k e. (eqb k kinds.bin && eqb (bin_number (bin_of (op_at S i))) (bin_number o)) ≡ false → terms (bin_meant o) e ++ terms_any (bin_meant o) es ≡ e ∷ terms_any (bin_meant o) es)
       (λ k _ _ _. refl) (λ _. refl) (λ e. rw (terms, op_meant (op_at S i) o, e) refl) (λ _. refl) (λ _. refl) (λ k w _ _. refl)
       (sym t ∙ q)
+
+-- ... and of a sum alone, as the rules have it
+unfoldable pub sums_any : Exprs → List Expr
+sums_any nil = []
+sums_any (more e es) = sum_terms e ++ sums_any es
+
+-- the test for a sum at line i
+module _ (s S : List ℕ) (i : ℕ) (d : Loaded s S) (h : Here S grammar.Expr i) (b : Bool) (t : b ≡ (eqb (kind_at S i) kinds.bin && eqb (op_at S i) ops.bin_add)) where
+  pub sum_terms_lem : b ≡ true → (es : Exprs) → sums_any (more (expr_at s i) es) ≡ sums_any (joined (parts_of (expr_at s i)) es)
+  unfolding sums_any sum_terms parts_of is_op op_place joined
+  sum_terms_lem q es =
+      let p = (and-eq-true_iff (eqb (kind_at S i) kinds.bin) (eqb (op_at S i) ops.bin_add)).0 (sym t ∙ q) in
+      rw (the_bin s S i d h (eqb-true (kind_at S i) kinds.bin p.0), eqb-true (op_at S i) ops.bin_add p.1)
+      (append_assoc (sum_terms (expr_at s (i + 1))) (sum_terms (expr_at s (end_at S (i + 1)))) (sums_any es))
 
 -- a walk over the terms: P of those that are left
 abbrev pub TermWalk : (s S : List ℕ) → code.BinOp → (List Expr → Type 0) → ℕ → ℕ → Type 0
