@@ -281,7 +281,7 @@ module _ (x : LoadedSheet) (u : Seen) (r : Records) (w : Items x u r) where
   items_over h = all_items {S = x.lines.now} u.marks (Ok tt) few (passed_over x.bytes.now x.lines.now _ _ _ _ (iter_over records w.walk h) refl)
 
   module _ (t : Records) (i : ℕ) (h : Steps r i t) where
-    item_here : Here x.lines.now grammar.Item i
+    pub item_here : Here x.lines.now grammar.Item i
     item_here = iter_here h w.walk
 
     pub item-within : i < line_count u.sheet.lines.now
