@@ -88,7 +88,7 @@ module _ (s S : List ℕ) (env : Env) (T : Table) (i : ℕ) (loaded : Loaded s S
   let_is : (stmt_at s i ≡ bind (name_at s S i) (expr_at s (suc i))) × Row S grammar.Expr 1 (suc i) × (skip S 1 (suc i) ≡ end_at S i)
   let_is = let_at loaded h.stmt.here h.kind
 
-  let_asks : Asks S T (i + 1)
+  pub let_asks : Asks S T (i + 1)
   let_asks = record { room = h.stmt.room; here = rw (add-one i) (row_first let_is.1) }
 
   module _ (a : Result Ty Refusal) (U : Table) (y : Types s (ty_of (env_of s T env) (expr_at s (i + 1))) T a U) where
@@ -157,6 +157,9 @@ stmt_expr {s} {S} {i} d h n = (
 )
 
 module _ (s S : List ℕ) (env : Env) (T : Table) (i : ℕ) (loaded : Loaded s S) (force : InForce S env) (h : BodyStmt s S env T i) where
+  pub stmt_of_lem : (k m : ℕ) → k ≡ kind_at S i → k ≡ m → StmtOf m S T i × BodyStmt s S env T i
+  stmt_of_lem k m e q = (record { stmt = record { room = h.typed.room; here = h.here }; kind = sym e ∙ q }, h)
+
   pub stmt_let : kind_at S i ≡ kinds.let' → StmtOf kinds.let' S T i
   stmt_let q = record { stmt = record { room = h.typed.room; here = h.here }; kind = q }
 

@@ -3,13 +3,13 @@ use mathlib.Core.Logic.{◌≢◌}
 use mathlib.Core.Path.{◌≡◌, refl, sym, ap, ◌∙◌}
 use mathlib.Core.List.{List, []}
 use mathlib.Core.Bool.{Bool, true, false, ◌||◌}
-use Prim.Native.Nat.{ℕ, suc, ◌≤◌}
+use Prim.Native.Nat.{ℕ, suc, ◌<◌, ◌≤◌}
 use native.Mathlib.Omega.{arith}
 use lib.Dec.{eqb}
 use Rattle.std.specs.Prelude.{Some, None}
 use Rattle.text.proofs.Tests.{or_parts}
 use Rattle.grammar.specs.Grammar as grammar
-use Rattle.sheet.specs.Scratch.{kind_at, end_at, default_count}
+use Rattle.sheet.specs.Scratch.{kind_at, end_at, default_count, line_count}
 use Rattle.sheet.proofs.Tested.{is_kind, not_kind}
 use Rattle.rules.specs.Ast.{Field, Param, param_of, field_of}
 use Rattle.rules.specs.Asking.{ok, ◌>>◌, if_some}
@@ -41,6 +41,9 @@ field_steps Γ f T = sym (kept_assoc _ _ _ T) ∙ kept_bind _ _ T
 module _ {s S : List ℕ} {T : Table} {i : ℕ} (loaded : Loaded s S) (h : KindIn kinds.field S T i) where
   pub field_typed : (kind_at S i ≡ kinds.field) × Here S grammar.Ty (suc i)
   field_typed = (h.kind, (field_at_lem loaded h.within h.kind).1)
+
+  pub field_named_lem : (i < line_count S) × Here S grammar.Ty (suc i)
+  field_named_lem = (h.within, field_typed.1)
 
   pub field_name : (field_at s i).name ≡ (param_at s i).name
   unfolding param_at field_at param_of field_of
