@@ -11,7 +11,7 @@ ghost use Rattle.grammar.specs.Grammar as grammar;
 ghost use Rattle.env.specs.Force.{env_of};
 
 use crate::env::Scope;
-use grammar::{BinOp, UnaryOp};
+use grammar::{BinOp, Tells, UnaryOp};
 use lookups::{compatible, is_zero_literal, numeric};
 use refusals::{Refusal, expect};
 use rules::Ty;
@@ -26,6 +26,19 @@ pub struct Sides {
     pub r: Ty,
 }
 
+impl Sides {
+    pub fn new<T: Tells<Ty>, U: Tells<Ty>>(left: usize, right: usize, l: T, r: U) -> Sides
+        ensures { result ≡ record { left = left; right = right; l = T.meaning l; r = U.meaning r } }
+    {
+        Sides {
+            left,
+            right,
+            l: l.told(),
+            r: r.told(),
+        }
+    }
+}
+
 // Whether the type is the wanted one, or Unknown.
 fn or_unknown(ty: Ty, want: Ty) -> bool
     ensures { result ≡ (eq_ty ty want || eq_ty ty Unknown) }
@@ -33,13 +46,24 @@ fn or_unknown(ty: Ty, want: Ty) -> bool
     (ty == want) | (ty == Ty::Unknown)
 }
 
-pub fn judge_unary(op: UnaryOp, inner: usize, ty: Ty) -> Result<Ty, Refusal>
+fn unary(op: UnaryOp, inner: usize, ty: Ty) -> Result<Ty, Refusal>
     ensures { Judged (λ s. judge_unary (unary_meant op) (expr_at s inner)) ty result }
 {
     match op {
         UnaryOp::Not => { expect(or_unknown(ty, Ty::Bool), Refusal::Not(inner)).and(Ok(Ty::Bool)) }
         UnaryOp::Neg => expect(or_unknown(ty, Ty::Int), Refusal::Neg(inner)).and(Ok(Ty::Int)),
     }
+}
+
+// Judges the type of the operand by the operator.
+pub fn judge_unary<O: Tells<UnaryOp>, T: Tells<Ty>>(
+    op: O,
+    inner: usize,
+    ty: T,
+) -> Result<Ty, Refusal>
+    ensures { Judged (λ s. judge_unary (unary_meant (O.meaning op)) (expr_at s inner)) (T.meaning ty) result }
+{
+    unary(op.told(), inner, ty.told())
 }
 
 // What two tests come to, with why each refuses and the type where both hold.
@@ -113,9 +137,8 @@ fn equality(sheet: &LoadedSheet<'_>, sides: Sides) -> Result<Ty, Refusal>
     expect(fits, Refusal::Compared { right, l, r }).and(Ok(Ty::Bool))
 }
 
-// Judges the types of both sides by the operator.
 #[tactic(auto, using(crate::proofs::Judging::in_sheet), unfolding(rules::specs::Operators::bin_meant, rules::specs::Typing::judge_binary))]
-pub fn judge_binary(sheet: &LoadedSheet<'_>, op: BinOp, sides: Sides) -> Result<Ty, Refusal>
+fn binary(sheet: &LoadedSheet<'_>, op: BinOp, sides: Sides) -> Result<Ty, Refusal>
     requires { Operands sheet.now.lines.now sides.left sides.right }
     ensures { JudgedIn sheet.now.bytes.now (judge_binary (bin_meant op)) sides result }
 {
@@ -129,6 +152,18 @@ pub fn judge_binary(sheet: &LoadedSheet<'_>, op: BinOp, sides: Sides) -> Result<
     }
 }
 
+// Judges the types of both sides by the operator.
+pub fn judge_binary<O: Tells<BinOp>>(
+    sheet: &LoadedSheet<'_>,
+    op: O,
+    sides: Sides,
+) -> Result<Ty, Refusal>
+    requires { Operands sheet.now.lines.now sides.left sides.right }
+    ensures { JudgedIn sheet.now.bytes.now (judge_binary (bin_meant (O.meaning op))) sides result }
+{
+    binary(sheet, op.told(), sides)
+}
+
 // Whether a value of the type may be moved as an amount.
 #[tactic(auto, unfolding(rules::specs::Types::is_ty, rules::specs::Types::eq_ty, rules::specs::Asking::code))]
 fn is_amount(ty: Ty) -> bool
@@ -139,10 +174,10 @@ fn is_amount(ty: Ty) -> bool
 
 // Judges the amount that the method of the dot at line callee moves.
 #[tactic(auto, using(crate::proofs::Judging::laws_judging))]
-pub fn judge_amount(callee: usize, arg: usize, got: Ty) -> Result<(), Refusal>
-    ensures { JudgesAmount callee arg got result }
+pub fn judge_amount<T: Tells<Ty>>(callee: usize, arg: usize, got: T) -> Result<(), Refusal>
+    ensures { JudgesAmount callee arg (T.meaning got) result }
 {
-    expect(is_amount(got), Refusal::Amount { callee, arg })
+    expect(is_amount(got.told()), Refusal::Amount { callee, arg })
 }
 
 impl Scope<'_> {
@@ -160,17 +195,19 @@ impl Scope<'_> {
 
     // Judges a key or value of the Map or Registry at line field.
     #[tactic(auto, using(crate::proofs::Judging::laws_judging))]
-    pub fn judge_key(
+    pub fn judge_key<T: Tells<Ty>, U: Tells<Ty>>(
         &self,
         field: usize,
         is_key: bool,
         arg: usize,
-        want: Ty,
-        got: Ty,
+        want: T,
+        got: U,
     ) -> Result<(), Refusal>
         requires { Here self.now.sheet.lines.now grammar.Expr arg }
-        ensures { JudgesKey self.now.sheet.bytes.now self.now.env field is_key arg want got result }
+        ensures { JudgesKey self.now.sheet.bytes.now self.now.env field is_key arg (T.meaning want) (U.meaning got) result }
     {
+        let want = want.told();
+        let got = got.told();
         if !self.straight(arg, got) {
             return Err(Refusal::NameNotParam { field, arg });
         }

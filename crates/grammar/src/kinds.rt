@@ -5,6 +5,7 @@ ghost use Rattle.grammar.specs.Grammar.{kind_for};
 ghost use Rattle.grammar.specs.Coded.{kind_number, kind_of, sort_meant};
 
 use crate::sorts::Sort;
+use crate::tells::Tells;
 use crate::words::expr_kind;
 use text::place_in;
 
@@ -115,7 +116,7 @@ pub fn kind_in(word: &[u8], table: &[u8], kinds: &[Kind]) -> Option<Kind>
 }
 
 // The kind of the record with this word where a sort is due, if it is allowed there.
-pub fn kind_for(sort: Sort, word: &[u8]) -> Option<Kind>
+fn kind_due(sort: Sort, word: &[u8]) -> Option<Kind>
     ensures { result ≡ kind_of (kind_for (sort_meant sort) word.now) }
 {
     match sort {
@@ -151,4 +152,11 @@ pub fn kind_for(sort: Sort, word: &[u8]) -> Option<Kind>
         ),
         Sort::Expr => expr_kind(word),
     }
+}
+
+// The same, for a sort or its number.
+pub fn kind_for<S: Tells<Sort>>(sort: S, word: &[u8]) -> Option<Kind>
+    ensures { result ≡ kind_of (kind_for (sort_meant (S.meaning sort)) word.now) }
+{
+    kind_due(sort.told(), word)
 }

@@ -6,6 +6,7 @@ mod kinds;
 mod ops;
 mod sorts;
 mod tables;
+mod tells;
 mod words;
 
 pub use field_rules::Rule;
@@ -13,4 +14,5 @@ pub use kinds::{Kind, kind_for};
 pub use ops::{AssignOp, BinOp, UnaryOp};
 pub use sorts::Sort;
 pub use tables::{always, fields, part_sort, rule, starts_with_span};
+pub use tells::Tells;
 pub use words::place_of_bin;

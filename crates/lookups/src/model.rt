@@ -11,39 +11,57 @@ ghost use Rattle.rules.specs.Ast.{type_name};
 ghost use Rattle.rules.specs.Standing.{Row, entry_at};
 ghost use Rattle.grammar.specs.Kinds as kinds;
 
-use grammar::Kind;
-use sheet::{LoadedSheet, field_count, item_count, param_count};
+use grammar::{Kind, Tells};
+use sheet::{LoadedSheet, field_count, item_count, kind, param_count};
 use text::is_word;
+
+// Whether line i is a record of the kind with the number k, and has the name x.
+fn is_of_kind(sheet: &LoadedSheet<'_>, k: usize, x: &[u8], i: usize) -> bool
+    ensures { result ≡ (eqb (kind_at sheet.now.lines.now i) k && same x.now (name_at sheet.now.bytes.now sheet.now.lines.now i)) }
+{
+    (kind(sheet.lines, i) == k) && is_word(x, sheet.name(i))
+}
 
 // Whether line i is a record of kind k with the name x.
 pub fn is_named(sheet: &LoadedSheet<'_>, k: Kind, x: &[u8], i: usize) -> bool
     ensures { result ≡ (eqb (kind_at sheet.now.lines.now i) (kind_number k) && same x.now (name_at sheet.now.bytes.now sheet.now.lines.now i)) }
 {
-    if !sheet.is(i, k) {
-        return false;
-    }
-    is_word(x, sheet.name(i))
+    is_of_kind(sheet, k.number(), x, i)
 }
 
-// The last record of kind k with the name x among count records, the first of which stands at line from. A loop, as below: of `filter(..).last()` it
-// would be left to show which lines the filter passes.
-pub fn last_named(
+// The last record of the kind with the number k that has the name x, among count records, the first of which stands at line from. A loop, as below: of
+// `filter(..).last()` it would be left to show which lines the filter passes.
+fn last_of_kind(
     sheet: &LoadedSheet<'_>,
-    k: Kind,
+    k: usize,
     x: &[u8],
     from: usize,
     count: usize,
 ) -> Option<usize>
     requires { Stretch sheet.now.lines.now count from }
-    ensures { Last sheet.now.bytes.now sheet.now.lines.now (kind_number k) x.now count from result }
+    ensures { Last sheet.now.bytes.now sheet.now.lines.now k x.now count from result }
 {
     let mut found = None;
     for at in sheet.records(from, count) {
-        if is_named(sheet, k, x, at) {
+        if is_of_kind(sheet, k, x, at) {
             found = Some(at);
         }
     }
     found
+}
+
+// The same, for a kind or its number.
+pub fn last_named<K: Tells<usize>>(
+    sheet: &LoadedSheet<'_>,
+    k: K,
+    x: &[u8],
+    from: usize,
+    count: usize,
+) -> Option<usize>
+    requires { Stretch sheet.now.lines.now count from }
+    ensures { Last sheet.now.bytes.now sheet.now.lines.now (K.meaning k) x.now count from result }
+{
+    last_of_kind(sheet, k.told(), x, from, count)
 }
 
 // The last field of the name x that the state at a line declares, else what was found before.

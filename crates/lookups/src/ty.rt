@@ -10,7 +10,7 @@ ghost use Rattle.grammar.specs.Grammar as grammar;
 ghost use Rattle.sheet.specs.Scratch.{skip, line_count};
 ghost use Rattle.lookups.specs.Named.{named_types};
 
-use grammar::Kind;
+use grammar::{Kind, Tells};
 use rules::Ty;
 use sheet::{LoadedSheet, end, type_arg_count};
 use text::{is_word, place_in};
@@ -122,21 +122,23 @@ pub fn is_keyed(name: &[u8]) -> bool
 }
 
 #[tactic(auto, unfolding(rules::specs::Types::numeric, rules::specs::Types::is_ty, rules::specs::Types::eq_ty, rules::specs::Asking::code))]
-pub fn numeric(ty: Ty) -> bool
-    ensures { result ≡ numeric ty }
+pub fn numeric<T: Tells<Ty>>(ty: T) -> bool
+    ensures { result ≡ numeric (T.meaning ty) }
 {
+    let ty = ty.told();
     matches!(ty, Ty::Int | Ty::Time | Ty::Unknown)
 }
 
 #[tactic(auto, unfolding(rules::specs::Types::one_word, rules::specs::Types::is_ty, rules::specs::Types::eq_ty, rules::specs::Asking::code))]
-pub fn one_word(ty: Ty) -> bool
-    ensures { result ≡ one_word ty }
+pub fn one_word<T: Tells<Ty>>(ty: T) -> bool
+    ensures { result ≡ one_word (T.meaning ty) }
 {
+    let ty = ty.told();
     matches!(ty, Ty::Int | Ty::Time | Ty::Bool)
 }
 
 // Whether a value of one type may stand where the other is wanted.
-pub fn compatible(want: Ty, got: Ty) -> bool
+fn fits(want: Ty, got: Ty) -> bool
     ensures { result ≡ compatible want got }
 {
     let same = want == got;
@@ -145,6 +147,13 @@ pub fn compatible(want: Ty, got: Ty) -> bool
     } else {
         same | (want == Ty::Unknown) | (got == Ty::Unknown) | (one_word(want) & one_word(got))
     }
+}
+
+// The same, for types or the bytes that tell them.
+pub fn compatible<T: Tells<Ty>, U: Tells<Ty>>(want: T, got: U) -> bool
+    ensures { result ≡ compatible (T.meaning want) (U.meaning got) }
+{
+    fits(want.told(), got.told())
 }
 
 // The line of the first or second argument of the `type` record at line ty.

@@ -1,7 +1,9 @@
 // The types of expressions, and the marks of the type table.
 ghost use Rattle.std.specs.Prelude.{◌≡◌};
 ghost use Rattle.rules.specs.Asking.{code};
-ghost use Rattle.rules.specs.Kept.{ty_of_mark};
+ghost use Rattle.rules.specs.Kept.{ty_from, ty_of_mark};
+
+use grammar::Tells;
 
 #[derive(Clone, Copy, PartialEq, Eq)]
 pub enum Ty {
@@ -56,6 +58,24 @@ impl Ty {
             Ty::Collection => 9,
             Ty::Unknown => 10,
         }
+    }
+}
+
+impl Tells<Ty> for Ty {
+    ghost meaning = { λ ty. ty };
+
+    fn told(self) -> Ty {
+        self
+    }
+}
+
+// A byte that tells no type is read as `Unknown`.
+impl Tells<Ty> for u8 {
+    ghost meaning = { ty_from };
+
+    #[tactic(auto, unfolding(crate::specs::Kept::ty_from))]
+    fn told(self) -> Ty {
+        Ty::of_mark(self).unwrap_or(Ty::Unknown)
     }
 }
 

@@ -1,6 +1,6 @@
 use borrow.Author.Rules.{rules}
 use Rattle.lookups.proofs.Codes.{alike, mixed}
-use Rattle.lookups.proofs.ty.compatible.Goals as goal
+use Rattle.lookups.proofs.ty.fits.Goals as goal
 
 pub returns-then-eq : goal.returns-then-eq
 returns-then-eq c = search (rules, alike)

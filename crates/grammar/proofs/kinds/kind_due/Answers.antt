@@ -1,8 +1,8 @@
--- `grammar::kinds::kind_for` meets its contract: each arm looks the word up among those of its sort. Assumes nothing.
+-- `grammar::kinds::kind_due` meets its contract: each arm looks the word up among those of its sort. Assumes nothing.
 use mathlib.Core.Path.{refl}
 use Rattle.grammar.specs.Grammar.{Contract, Item, Field, Param, Ty, Arg, Clause, Stmt}
 use Rattle.grammar.proofs.KindLaws.{kind_arm}
-use Rattle.grammar.proofs.kinds.kind_for.Goals as goal
+use Rattle.grammar.proofs.kinds.kind_due.Goals as goal
 
 pub returns-in-Contract : goal.returns-in-Contract
 returns-in-Contract c = rw c.in-Contract.is (kind_arm Contract _ _ refl c.kind_in.ensures)

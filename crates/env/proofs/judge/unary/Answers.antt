@@ -1,6 +1,6 @@
 use Rattle.rules.specs.Operators.{unary_meant}
 use Rattle.env.proofs.Judging.{not_is, neg_is, unary_judged}
-use Rattle.env.proofs.judge.judge_unary.Goals as goal
+use Rattle.env.proofs.judge.unary.Goals as goal
 
 pub returns-in-Not : goal.returns-in-Not
 unfolding unary_meant
