@@ -34,7 +34,11 @@ pub fn add_message(sheet: &LoadedSheet<'_>, message: &mut Message<'_>, r: Refusa
         Refusal::UnknownType(ty) => add_unknown(sheet, message, ty),
         Refusal::NoArguments(ty) => say_name(sheet, message, b"`", ty, &NO_ARGUMENTS),
         Refusal::Digest(named) => say_name(sheet, message, b"`", named, &DIGEST),
-        Refusal::Default { field, .. } => message.say(b"a ", type_name_of(sheet, field), &DEFAULT),
+        Refusal::Default { field, .. } => message.say(
+            b"a ",
+            type_name_of(sheet.bytes, sheet.lines, field),
+            &DEFAULT,
+        ),
         Refusal::Guardian(_) => message.add(&GUARDIAN),
         _ => add_from_21(sheet, message, r),
     }

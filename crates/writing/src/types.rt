@@ -5,13 +5,13 @@ ghost use Rattle.sheet.specs.Scratch.{line_count};
 ghost use Rattle.rules.specs.Text.{render};
 ghost use Rattle.rules.specs.Ast.{type_name};
 ghost use Rattle.rules.specs.Declarations.{arg_text, args_text, type_text};
-ghost use Rattle.rules.specs.Standing.{arg_at, field_at, type_at};
+ghost use Rattle.rules.specs.Standing.{arg_at, field_at, Loaded, type_at};
 ghost use Rattle.writing.specs.Writing.{Adds};
 ghost use Rattle.writing.specs.Types.{args_upto, before, closing, type_line};
 
 use crate::write::Message;
 use grammar::Kind;
-use sheet::{LoadedSheet, end, kind, line_count};
+use sheet::{LoadedSheet, end, kind, line_count, name};
 
 impl Message<'_> {
     // Adds what stands before an argument, the first or another.
@@ -101,8 +101,10 @@ fn type_line(lines: &[u16], i: usize) -> usize
 }
 
 // The name of the type that the field or parameter at line i declares, as the part of the sheet that holds it; an empty part where there is none.
-pub fn type_name_of<'a>(sheet: &LoadedSheet<'a>, i: usize) -> &'a [u8]
-    ensures { result.now ≡ type_name (field_at sheet.now.bytes.now i).ty }
+// It takes the bytes and the lines apart, since the part may be kept longer than the lines are lent, and a `LoadedSheet` has one lifetime for both.
+pub fn type_name_of<'a>(bytes: &'a [u8], lines: &[u16], i: usize) -> &'a [u8]
+    requires { Loaded bytes.now lines.now }
+    ensures { result.now ≡ type_name (field_at bytes.now i).ty }
 {
-    sheet.name(type_line(sheet.lines, i))
+    name(bytes, lines, type_line(lines, i))
 }

@@ -3,6 +3,7 @@ use mathlib.Core.Path.{refl}
 use borrow.Author.Rules.{rules}
 use Rattle.rules.specs.Text.{digits, render}
 use Rattle.refusals.specs.Refusal.{refusal_of}
+use Rattle.rules.proofs.Standing.{loaded_sheet}
 use Rattle.refusals.proofs.Tags.{from_keys, places_from}
 use Rattle.message.proofs.Told.{told, told_type, told_param}
 use Rattle.message.proofs.refusal.add_message.Goals as goal
@@ -25,3 +26,6 @@ returns-in-Digest c = search (rules, told_param)
 pub returns-in-Guardian : goal.returns-in-Guardian
 unfolding refusal_of render digits
 returns-in-Guardian c = search (rules, told)
+
+pub type_name_of-requires : goal.type_name_of-requires
+type_name_of-requires c = search (loaded_sheet, rules)
