@@ -3,10 +3,11 @@ use mathlib.Core.Path.{◌≡◌, refl, sym, ap, ◌∙◌}
 use mathlib.Core.List.{List, [], ◌∷◌, ◌++◌, append-nil}
 use mathlib.Core.Bool.{Bool, true, false, cond}
 use Prim.Native.Nat.{ℕ, zero, suc, min, ◌+◌, ◌-◌, ◌≤◌, ◌<◌}
+use native.Mathlib.Numerals.{add-one}
 use native.Mathlib.Omega.{arith}
 use lib.Dec.{leb}
-use lib.ListN.{length, take, drop, length-append, length-drop, drop_of_length-le}
-use lib.Seq.{take_all}
+use lib.ListN.{length, get_or, set, take, drop, length-append, length-drop, drop_of_length-le}
+use lib.Seq.{take-suc, length-take-le, take_all}
 use borrow.Rule.Slice.PartMut.{put_mid, mid_of}
 use borrow.Author.Tests.{le-leb, leb-true, leb-false}
 use Rattle.writing.specs.Writing.{MOST, told_as, overlay, Adds}
@@ -42,6 +43,12 @@ unfolding overlay
 overlay_none [] a = refl
 overlay_none (b ∷ B) zero = refl
 overlay_none (b ∷ B) (suc a) = ap (λ U. b ∷ U) (overlay_none B a)
+
+overlay_one : (B : List ℕ) (a c : ℕ) → overlay B a (c ∷ []) ≡ set B a c
+unfolding overlay
+overlay_one [] a c = refl
+overlay_one (b ∷ B) zero c = ap (λ U. c ∷ U) (overlay_none B zero)
+overlay_one (b ∷ B) (suc a) c = ap (λ U. b ∷ U) (overlay_one B a c)
 
 overlay-length : (B : List ℕ) (a : ℕ) (t : List ℕ) → length (overlay B a t) ≡ length B
 unfolding overlay
@@ -125,6 +132,34 @@ put_part zero (b ∷ B) (c ∷ p) e = absurd (omega (arith, e))
 put_part (suc n) [] p e = absurd (omega (arith, e))
 put_part (suc n) (b ∷ B) [] e = absurd (omega (arith, e))
 put_part (suc n) (b ∷ B) (c ∷ p) e = ap (λ U. c ∷ U) (put_part n B p (omega (arith, e)))
+
+-- what goes beyond the end is not written
+overlay_part : (n : ℕ) (B p : List ℕ) → n ≡ min (length B) (length p) → overlay B 0 (take n p) ≡ overlay B 0 p
+unfolding overlay
+overlay_part n [] p e = refl
+overlay_part zero (b ∷ B) [] e = refl
+overlay_part zero (b ∷ B) (c ∷ p) e = absurd (omega (arith, e))
+overlay_part (suc n) (b ∷ B) [] e = absurd (omega (arith, e))
+overlay_part (suc n) (b ∷ B) (c ∷ p) e = ap (λ U. c ∷ U) (overlay_part n B p (omega (arith, e)))
+
+pub put_none : (B p : List ℕ) → B ≡ overlay B 0 (take 0 p)
+put_none B p = sym (overlay_none B 0)
+
+-- A turn of `put`: U is the rest so far, B as it was, and i the place of the turn.
+module _ (B p U : List ℕ) (i : ℕ) (e : U ≡ overlay B 0 (take i p)) where
+  put_next : (t : List ℕ) → i ≤ length p → overlay U i t ≡ overlay B 0 (take i p ++ t)
+  put_next t h =
+      let q : i ≡ 0 + length (take i p) = omega (arith, length-take-le i p h) in
+      ap (λ k. overlay U k t) q ∙ ap (λ x. overlay x (0 + length (take i p)) t) e ∙ overlay_both B 0 (take i p) t
+
+  pub put_more : i < length p → set U i (get_or p i 0) ≡ overlay B 0 (take (i + 1) p)
+  put_more h = sym (overlay_one U i (get_or p i 0)) ∙ put_next (get_or p i 0 ∷ []) (omega arith) ∙ rw (add-one i, take-suc p i 0 h) refl
+
+  pub put_over : i ≡ min (length B) (length p) → U ≡ overlay B 0 p
+  put_over h = e ∙ overlay_part i B p h
+
+  pub put_same : length U ≡ length B
+  put_same = ap length e ∙ overlay-length B 0 (take i p)
 
 -- What `write` meets: the place is beyond the buffer's end, or y is what `put` left of the rest.
 module _ (B : List ℕ) (a : ℕ) (p : List ℕ) where

@@ -9,12 +9,14 @@ pub struct Message<'a> {
     pub length: usize,
 }
 
-// Writes the piece over the start of the rest, up to its end.
+// Writes the piece over the start of the rest, up to its end. By a range: `copy_from_slice` calls memmove, which the archive for C would then want of its host.
 fn put(rest: &mut [u8], piece: &[u8])
     ensures { rest.new ≡ overlay rest.old 0 piece.now }
 {
     let n = rest.len().min(piece.len());
-    rest[..n].copy_from_slice(&piece[..n]);
+    for i in 0..n {
+        rest[i] = piece[i];
+    }
 }
 
 // Writes the piece into the rest of the buffer from `at` on. No method: it tells of the buffer alone.
