@@ -1,11 +1,14 @@
 -- What `check` does with the items of a kind: what each return and each call needs. Assumes nothing.
+use mathlib.Core.Bool.{Bool, true, false}
 use mathlib.Core.List.{◌++◌, List, [], ◌∷◌, map}
 use mathlib.Core.Logic.{◌≢◌, ◌⊎◌, inl, inr}
 use mathlib.Core.Path.{◌≡◌, refl, sym, ap, ◌∙◌}
 use Prim.Native.Nat.{ℕ, suc, ◌+◌, ◌<◌, ◌≤◌}
 use native.Mathlib.Numerals.{add-one}
 use native.Mathlib.Omega.{arith}
+use lib.Dec.{eqb}
 use lib.ListN.{length}
+use borrow.Author.Tests.{eq-eqb, ne_eqb}
 use denote.Ref.{MutBor}
 use Rattle.std.specs.Prelude.{Result, Ok, Err}
 use Rattle.grammar.specs.Grammar as grammar
@@ -14,7 +17,7 @@ use Rattle.sheet.specs.Line.{most_lines}
 use Rattle.sheet.specs.Records.{Steps}
 use Rattle.sheet.specs.declared.records.Records.{Records}
 use Rattle.sheet.specs.Scratch.{kind_at, end_at, skip, item_count, field_count, param_count, genesis_count, line_count}
-use Rattle.sheet.specs.Tree.{take_nodes}
+use Rattle.sheet.specs.Tree.{Node, take_nodes}
 use Rattle.rules.specs.Ast.{Param, Expr, Field, Stmt, Event, Entry, nodes, field_of, stmt_of, item_of, event_of, entry_of}
 use Rattle.rules.specs.Standing.{field_at, stmt_at, stmts_at, param_at, next, node_at, nodes_at, expr_at, params_at, event_at, entry_at, model_in, Loaded, Here, Row, stop as none'}
 use Rattle.rules.proofs.Rows.{Listed, params, stmts}
@@ -32,7 +35,7 @@ use Rattle.refusals.specs.Answers.{Answers}
 use Rattle.refusals.specs.Refusal.{done_of}
 use Rattle.refusals.specs.declared.refusal.Refusal.{Refusal}
 use Rattle.lookups.proofs.Fields.{items_at}
-use Rattle.lookups.specs.Found.{of_kind}
+use Rattle.lookups.specs.Found.{node_kind, of_kind}
 use Rattle.lookups.specs.Lines.{KindAt}
 use Rattle.env.specs.Force.{env_of, params_in, lets, ends_in, new, in_genesis}
 use Rattle.sheet.specs.declared.loaded_sheet.LoadedSheet.{LoadedSheet}
@@ -40,9 +43,9 @@ use Rattle.env.specs.declared.env.Env.{Env}
 use Rattle.typing.proofs.Doing.{does_nothing, does_then, does_cut, asks_none}
 use Rattle.typing.specs.Asks.{KindIn, Does}
 use Rattle.statements.specs.Checked.{StmtIn}
-use Rattle.typing.specs.Each.{Step, Post, Gives, GivesEach, over, refused, onward}
+use Rattle.typing.specs.Each.{Step, Post, Gives, GivesEach, over, refused, onward, Doing, and_next, kept_each}
 use Rattle.typing.proofs.Each.{EachLeft, each_here, each_refused, each_onward, DoesEach, does_at, each_does}
-use Rattle.checking.specs.Each.{GivesOf, its_kind, other_kind}
+use Rattle.checking.specs.Each.{GivesOf, its_kind, other_kind, DoesItems}
 use Rattle.checking.specs.Walk.{SheetIn, EntryIn, ScopeIn}
 use Rattle.checking.proofs.Steps.{kept_then}
 
@@ -310,6 +313,33 @@ module _ {k : ℕ} {s S : List ℕ} (d : Loaded s S) {P : Step} {T₀ : Table} {
 
     pub items_refused : (x : Refusal) → o ≡ Err x → GivesEach (GivesOf k S P) S (item_count S 0) 1 T₀ (Err x) U
     items_refused x f = each_refused w h o U x (its_kind z p) f
+
+kind_of_node : {s S : List ℕ} → Loaded s S → {i : ℕ} → Here S grammar.Item i → node_kind (node_at s i) ≡ kind_at S i
+unfolding node_kind
+kind_of_node d {i} h = let t = stands d i h.within in rw t.here (sym t.says.kind)
+
+-- what the answers of a step come to, for all that it does at an item of the kind
+module _ {k : ℕ} {s S : List ℕ} (d : Loaded s S) where
+  module _ (m : ℕ) {i : ℕ} (h : Here S grammar.Item i) where
+    its_next : kind_at S i ≡ k → of_kind k (nodes_at s (suc m) i) ≡ node_at s i ∷ of_kind k (nodes_at s m (end_at S i))
+    unfolding of_kind
+    its_next q = rw (nodes_next d m i h.within, of_kind, let z : eqb (node_kind (node_at s i)) k ≡ true = rw (kind_of_node d h) (eq-eqb (kind_at S i) k q) in z) refl
+
+    other_next : kind_at S i ≢ k → of_kind k (nodes_at s (suc m) i) ≡ of_kind k (nodes_at s m (end_at S i))
+    unfolding of_kind
+    other_next q = rw (nodes_next d m i h.within, of_kind, let z : eqb (node_kind (node_at s i)) k ≡ false = rw (kind_of_node d h) (ne_eqb (kind_at S i) k q) in z) refl
+
+  of_kind_do : {P : Step} {m i : ℕ} {T : Table} {r : Result Unit Refusal} {U : Table} → GivesEach (GivesOf k S P) S m i T r U → Row S grammar.Item m i → (f : Doing)
+      → ((j : ℕ) (V : Table) (e : Result Unit Refusal) (W : Table) → Here S grammar.Item j → kind_at S j ≡ k → P j V e W → f (node_at s j) V ≡ record { res = done_of s e; table = W })
+      → kept_each f (of_kind k (nodes_at s m i)) T ≡ record { res = done_of s r; table = U }
+  unfolding kept_each and_next done_of of_kind
+  of_kind_do {i = i} over w f each = rw (no_nodes s i) refl
+  of_kind_do {m = suc m} {i} {T} {U = U} (refused {x = x} (its_kind q p)) (next h w) f each = rw (its_next m h q, each i T (Err x) U h q p) refl
+  of_kind_do {m = suc m} {i} {T} (onward {U = V} (its_kind q p) g) (next h w) f each = rw (its_next m h q, each i T (Ok tt) V h q p) (of_kind_do g w f each)
+  of_kind_do {m = suc m} (onward (other_kind q) g) (next h w) f each = rw (other_next m h q) (of_kind_do g w f each)
+
+  pub items_of_kind : {P : Step} {T : Table} {r : Result Unit Refusal} {U : Table} → GivesEach (GivesOf k S P) S (item_count S 0) 1 T r U → DoesItems k P s S T r U
+  items_of_kind g f each = of_kind_do g (items_at d).1 f each
 
 pub few_lines : (S : List ℕ) (T : Table) → SheetIn S T → line_count S ≤ most_lines
 few_lines S T h = h.few

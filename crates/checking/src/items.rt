@@ -12,7 +12,7 @@ ghost use Rattle.sheet.specs.Scratch.{item_count, line_count};
 ghost use Rattle.lookups.specs.Lines.{KindAt};
 ghost use Rattle.typing.specs.Asks.{Does};
 ghost use Rattle.typing.specs.Each.{Gives, GivesEach};
-ghost use Rattle.checking.specs.Each.{GivesOf, TakesItems};
+ghost use Rattle.checking.specs.Each.{DoesItems, GivesOf, TakesItems};
 ghost use Rattle.env.specs.Force.{in_genesis, new};
 ghost use Rattle.checking.specs.Walk.{ScopeIn, SheetIn};
 ghost use Rattle.grammar.specs.Kinds as kinds;
@@ -37,7 +37,8 @@ fn check_items<F: Fn(&mut [u8], usize) -> Result<(), Refusal>>(
     check: F,
 ) -> Result<(), Refusal>
     requires { TakesItems (F.pre check) sheet.now.lines.now table.old (kind_number kind) }
-    ensures { GivesEach (GivesOf (kind_number kind) sheet.now.lines.now (Gives (F.post check))) sheet.now.lines.now (item_count sheet.now.lines.now 0) 1 table.old result table.new }
+    ensures gives { GivesEach (GivesOf (kind_number kind) sheet.now.lines.now (Gives (F.post check))) sheet.now.lines.now (item_count sheet.now.lines.now 0) 1 table.old result table.new }
+    ensures does { DoesItems (kind_number kind) (Gives (F.post check)) sheet.now.bytes.now sheet.now.lines.now table.old result table.new }
 {
     for at in sheet.records(1, item_count(sheet.lines, 0)) {
         if sheet.is(at, kind) {

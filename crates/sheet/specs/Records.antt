@@ -12,5 +12,5 @@ pub record Steps (r : Records) (i : ℕ) (t : Records) : Type 0 where
 
 -- a call of `next` on r answers o, and leaves t
 abbrev pub NextOf : Records → Option ℕ → Records → Type 0
-NextOf r None t = (r.left ≡ 0) × (t.left ≡ 0)
+NextOf r None t = (r.left ≡ 0) × (t ≡ r)
 NextOf r (Some i) t = Steps r i t

@@ -1,6 +1,6 @@
 -- A step at each of the records of a row: what a loop asks that calls it. Assumes nothing.
 use mathlib.Core.Path.{◌≡◌, refl, sym, ◌∙◌}
-use mathlib.Core.List.{List}
+use mathlib.Core.List.{List, [], ◌∷◌}
 use Prim.Native.Nat.{ℕ, suc, ◌+◌, ◌<◌}
 use native.Mathlib.Omega.{arith}
 use lib.ListN.{length}
@@ -8,17 +8,22 @@ use denote.Ref.{MutBor}
 use Rattle.std.specs.Prelude.{Result, Ok, Err}
 use Rattle.grammar.specs.Grammar as grammar
 use Rattle.sheet.specs.Scratch.{end_at, skip}
+use Rattle.sheet.specs.Tree.{Node}
 use Rattle.sheet.specs.Records.{Steps}
 use Rattle.sheet.specs.declared.records.Records.{Records}
-use Rattle.rules.specs.Asking.{Rule, for_each}
-use Rattle.rules.specs.Kept.{Table}
+use Rattle.rules.specs.Asking.{Rule, Res, ok, for_each}
+use Rattle.rules.specs.Asking as asking
+use Rattle.rules.specs.Kept.{Kept, Table, kept}
 use Rattle.rules.specs.Standing.{Loaded, Here, Row, next}
 use Rattle.rules.proofs.Rows.{Listed}
-use Rattle.rules.proofs.Standing.{skip_next}
+use Rattle.rules.proofs.Binding.{then_ok, then_refused}
+use Rattle.rules.proofs.Records.{no_nodes}
+use Rattle.rules.proofs.Standing.{skip_next, nodes_next}
+use Rattle.refusals.specs.Refusal.{done_of}
 use Rattle.refusals.specs.declared.refusal.Refusal.{Refusal}
 use Rattle.typing.specs.Asks.{Does}
 use Rattle.typing.proofs.Doing.{does_then, does_cut, does_nothing}
-use Rattle.typing.specs.Each.{Step, Post, TakesEach, Gives, GivesEach, over, refused, onward}
+use Rattle.typing.specs.Each.{Step, Post, TakesEach, Gives, GivesEach, over, refused, onward, Doing, and_next, kept_each, DoesRow}
 
 -- The iterator r gives what is left of m records, the first of which stands at line i; the table was T₀ before and is T now.
 pub record EachLeft (P : Step) (S : List ℕ) (m i : ℕ) (T₀ : Table) (r : Records) (T : Table) : Type 0 where
@@ -84,3 +89,21 @@ module _ {A : Type 0} {one : List ℕ → ℕ → A} {all : List ℕ → ℕ →
   module _ (each : (j : ℕ) (T : Table) (r : Result Unit Refusal) (U : Table) → P j T r U → Does s (rule (one s j)) T r U) where
     pub each_does : {m i : ℕ} {T : Table} {r : Result Unit Refusal} {U : Table} → Row S σ m i → GivesEach P S m i T r U → Does s (for_each (all s m i) rule) T r U
     each_does w g = each_keeps (λ _ _. Unit) (λ j T r U h k p. (each j T r U p, λ _. tt)) w tt g
+
+-- `kept` of a rule at each record is what `kept` of it does at each
+pub kept-each : (rule : Node → Rule Unit) (ns : List Node) (T : Table) → kept (for_each ns rule) T ≡ kept_each (λ n. kept (rule n)) ns T
+unfolding for_each kept_each and_next kept
+kept-each rule [] T = refl
+kept-each rule (n ∷ ns) T = by_cases (kept (rule n) T).res (kept (rule n) T).table refl (kept-each rule ns)
+  where
+    by_cases : (o : Res Unit) (U : Table) → kept (rule n) T ≡ record { res = o; table = U } → ((V : Table) → kept (for_each ns rule) V ≡ kept_each (λ k. kept (rule k)) ns V)
+        → kept (for_each (n ∷ ns) rule) T ≡ and_next o U (kept_each (λ k. kept (rule k)) ns)
+    by_cases (ok t) U e rest = then_ok (rule n) (λ _. for_each ns rule) T U t _ e (rest U)
+    by_cases (asking.refused x) U e rest = then_refused (rule n) (λ _. for_each ns rule) T U x e
+
+-- what the answers of a step come to, for all that it does
+pub each_row : {s S : List ℕ} → Loaded s S → {P : Step} {m i : ℕ} {T : Table} {r : Result Unit Refusal} {U : Table} → GivesEach P S m i T r U → DoesRow P s S m i T r U
+unfolding kept_each and_next done_of
+each_row {s} d {i = i} over σ f w each = rw (no_nodes s i) refl
+each_row d {m = suc m} {i} {T} {U = U} (refused {x = x} p) σ f (next h w) each = rw (nodes_next d m i h.within, each i T (Err x) U h p) refl
+each_row d {m = suc m} {i} {T} (onward {U = V} p g) σ f (next h w) each = rw (nodes_next d m i h.within, each i T (Ok tt) V h p) (each_row d g σ f w each)

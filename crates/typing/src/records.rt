@@ -1,5 +1,5 @@
 // A step at each of the records of a row.
-ghost use Rattle.typing.specs.Each.{Gives, GivesEach, TakesEach};
+ghost use Rattle.typing.specs.Each.{DoesRow, Gives, GivesEach, TakesEach};
 
 use refusals::Refusal;
 use sheet::LoadedSheet;
@@ -13,7 +13,8 @@ pub fn check_records<F: Fn(&mut [u8], usize) -> Result<(), Refusal>>(
     check: F,
 ) -> Result<(), Refusal>
     requires { TakesEach (F.pre check) sheet.now.lines.now table.old count from }
-    ensures { GivesEach (Gives (F.post check)) sheet.now.lines.now count from table.old result table.new }
+    ensures gives { GivesEach (Gives (F.post check)) sheet.now.lines.now count from table.old result table.new }
+    ensures does { DoesRow (Gives (F.post check)) sheet.now.bytes.now sheet.now.lines.now count from table.old result table.new }
 {
     for at in sheet.records(from, count) {
         check(table, at)?;

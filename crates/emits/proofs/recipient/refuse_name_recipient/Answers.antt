@@ -14,4 +14,4 @@ pub check_records-requires : goal.check_records-requires
 check_records-requires c = search (loaded_sheet, tested, due_asks)
 
 pub returns : goal.returns
-returns c = due_done _ _ _ _ _ (loaded_sheet c.args.scope.now.sheet.loaded) c.args.scope.now.in_force c.requires (search tested) _ _ _ _ c.call_arg_count-args.ensures c.recipients-due.ensures c.end.ensures c.min.ensures _ _ c.check_records.ensures (search rules)
+returns c = due_done _ _ _ _ _ (loaded_sheet c.args.scope.now.sheet.loaded) c.args.scope.now.in_force c.requires (search tested) _ _ _ _ c.call_arg_count-args.ensures c.recipients-due.ensures c.end.ensures c.min.ensures _ _ c.check_records.ensures.gives (search rules)
