@@ -1,6 +1,7 @@
 -- What is written of an answer and of what the lent buffers hold.
-use Rattle.std.specs.Prelude.{ℕ, List, ◌-◌, ◌++◌, ◌==◌, min, length, take, replicate, codes, decimal}
+use Rattle.std.specs.Prelude.{ℕ, List, ◌-◌, ◌++◌, ◌==◌, min, length, take, codes, decimal}
 use Rattle.std.specs.List.{join_by, prefix_len, suffix_len}
+use Rattle.text.specs.Text.{copies}
 use Rattle.frames.specs.declared.Lengths.{Lengths}
 use Rattle.verdict.specs.Outcome.{outcome}
 use Rattle.verdict.specs.declared.Answer.{Answer}
@@ -41,5 +42,5 @@ sheet_size lengths = min lengths.sheet MOST
 -- the line for the sheet s, judged with lent buffers of so many cells and bytes, at most MOST, that are full of noise
 unfoldable pub line_for : List ℕ → Lengths → List ℕ
 line_for s lengths =
-    let o = outcome s (replicate (min lengths.scratch MOST) CELL) (replicate (min lengths.types MOST) BYTE) (replicate (min lengths.message MOST) BYTE) in
+    let o = outcome s (copies (min lengths.scratch MOST) CELL) (copies (min lengths.types MOST) BYTE) (copies (min lengths.message MOST) BYTE) in
     line_of o.answer o.scratch o.types o.message

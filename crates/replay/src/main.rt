@@ -19,6 +19,7 @@ use frames::Lengths;
 use noise::{BYTE, CELL, noise_len, zeros};
 use std::io;
 use std::io::{Read, Write};
+use text::fill;
 use verdict::Answer;
 
 #[tactic(auto, unfolding(crate::specs::Written::types_of))]
@@ -90,22 +91,38 @@ fn write_line<W: Write>(
 // The most that is read of a sheet, and lent of each buffer.
 const MOST: usize = 32768;
 
-// Lends what the header tells, as far as there is so much.
-fn write_answer<W: Write>(out: &mut W, sheet: &[u8], lengths: Lengths) -> io::Result<()>
+// Lends what the header tells, as far as there is so much. Here and below the buffers are four parameters: of one struct that is lent, the check of
+// borrows does not let several fields be lent at once.
+#[tactic(auto, unfolding(crate::specs::Written::line_for))]
+fn write_answer<W: Write>(
+    out: &mut W,
+    sheet: &[u8],
+    scratch: &mut [u16; MOST],
+    types: &mut [u8; MOST],
+    message: &mut [u8; MOST],
+    lengths: Lengths,
+) -> io::Result<()>
     ensures { OnOk result (Appends (W.contents out.old) (W.contents out.new) (line_for sheet.now lengths)) }
 {
-    let mut scratch = [CELL; MOST];
-    let mut types = [BYTE; MOST];
-    let mut message = [BYTE; MOST];
     let scratch = &mut scratch[..lengths.scratch.min(MOST)];
     let types = &mut types[..lengths.types.min(MOST)];
     let message = &mut message[..lengths.message.min(MOST)];
+    fill(scratch, CELL);
+    fill(types, BYTE);
+    fill(message, BYTE);
     let answer = verdict::verdict(sheet, scratch, types, message);
     write_line(out, answer, scratch, types, message)
 }
 
 // One sheet with its header; whether there was one.
-fn turn<R: Read, W: Write>(input: &mut R, out: &mut W) -> io::Result<bool>
+fn turn<R: Read, W: Write>(
+    input: &mut R,
+    out: &mut W,
+    sheet: &mut [u8; MOST],
+    scratch: &mut [u16; MOST],
+    types: &mut [u8; MOST],
+    message: &mut [u8; MOST],
+) -> io::Result<bool>
     ensures answered { IfOk result (λ there. OnTrue there (AnswersFrame (R.remaining input.old) (R.remaining input.new)
         (W.contents out.old) (W.contents out.new) (λ lengths. ⊤) sheet_size line_for)) }
     ensures ended { IfOk result (λ there. OnFalse there (EndsFrames (R.remaining input.old) (R.remaining input.new) sheet_size)) }
@@ -114,12 +131,11 @@ fn turn<R: Read, W: Write>(input: &mut R, out: &mut W) -> io::Result<bool>
     let Some(lengths) = frames::header(input)? else {
         return Ok(false);
     };
-    let mut sheet = [0u8; MOST];
     let sheet = &mut sheet[..lengths.sheet.min(MOST)];
     if !frames::filled(input, sheet)? {
         return Ok(false);
     }
-    write_answer(out, sheet, lengths)?;
+    write_answer(out, sheet, scratch, types, message, lengths)?;
     Ok(true)
 }
 
@@ -130,8 +146,19 @@ const MOST_SHEETS: u32 = 1000000;
 fn main(rt: HostRuntime) -> io::Result<()> {
     let mut input = rt.stdin();
     let mut out = rt.stdout();
+    let mut sheet = [0; MOST];
+    let mut scratch = [0; MOST];
+    let mut types = [0; MOST];
+    let mut message = [0; MOST];
     for _ in 0..MOST_SHEETS {
-        if !turn(&mut input, &mut out)? {
+        if !turn(
+            &mut input,
+            &mut out,
+            &mut sheet,
+            &mut scratch,
+            &mut types,
+            &mut message,
+        )? {
             break;
         }
     }

@@ -1,6 +1,7 @@
 -- What is written of a sheet that was read.
-use Rattle.std.specs.Prelude.{ℕ, List, Option, Some, Result, Ok, Err, ◌⊎◌, ◌<◌, ◌+◌, ◌++◌, max, replicate, cond, ltb, count_by, codes, decimal}
+use Rattle.std.specs.Prelude.{ℕ, List, Option, Some, Result, Ok, Err, ◌⊎◌, ◌<◌, ◌+◌, ◌++◌, max, cond, ltb, count_by, codes, decimal}
 use Rattle.std.specs.List.{join_by, range_with_len}
+use Rattle.text.specs.Text.{copies}
 use Rattle.frames.specs.Frame.{EndsFrames, TakesHeader}
 use Rattle.frames.specs.declared.Lengths.{Lengths}
 use Rattle.sheet.specs.Load.{load}
@@ -34,7 +35,7 @@ answer_of s S (Err r) = decimal r.number ++ codes "," ++ decimal r.line ++ codes
 -- what is written of the sheet s, read with a scratch of zeros and with the other buffers that are told
 unfoldable pub text_for : List ℕ → Lengths → List ℕ
 text_for s lengths =
-    answer_of s (scratch_after s lengths.types (replicate lengths.scratch 0)) (answer (load s lengths.types lengths.scratch))
+    answer_of s (scratch_after s lengths.types (copies lengths.scratch 0)) (answer (load s lengths.types lengths.scratch))
 
 -- no whole frame was left in the input, or the header that was taken asks for more bytes or cells than there are
 abbrev pub EndsReader : (input input' : Option (List ℕ)) → Type 0

@@ -12,6 +12,7 @@ use frames::Lengths;
 use sheet::Refused;
 use std::io;
 use std::io::{Read, Write};
+use text::fill;
 
 // A line's number, counted from 1; 0 for one that no sheet has.
 fn from_one(i: usize) -> u64
@@ -72,18 +73,29 @@ fn write_loaded<W: Write>(
 // The most bytes of a sheet, and the most cells that are lent.
 const MOST: usize = 32768;
 
-fn write_answer<W: Write>(out: &mut W, text: &[u8], lengths: Lengths) -> io::Result<()>
+#[tactic(auto, unfolding(crate::specs::Written::text_for))]
+fn write_answer<W: Write>(
+    out: &mut W,
+    text: &[u8],
+    scratch: &mut [u16; MOST],
+    lengths: Lengths,
+) -> io::Result<()>
     requires { lengths.scratch ≤ MOST }
     ensures { OnOk result (Appends (W.contents out.old) (W.contents out.new) (text_for text.now lengths)) }
 {
-    let mut scratch = [0u16; MOST];
     let scratch = &mut scratch[..lengths.scratch];
+    fill(scratch, 0);
     let answer = sheet::load(text, scratch, lengths.types);
     write_loaded(out, text, scratch, answer)
 }
 
 // One sheet with its header; whether it was answered.
-fn turn<R: Read, W: Write>(input: &mut R, out: &mut W) -> io::Result<bool>
+fn turn<R: Read, W: Write>(
+    input: &mut R,
+    out: &mut W,
+    text: &mut [u8; MOST],
+    scratch: &mut [u16; MOST],
+) -> io::Result<bool>
     ensures answered { IfOk result (λ there. OnTrue there (AnswersFrame (R.remaining input.old) (R.remaining input.new)
         (W.contents out.old) (W.contents out.new) (λ lengths. max lengths.sheet lengths.scratch ≤ MOST) (λ lengths. lengths.sheet) text_for)) }
     ensures ended { IfOk result (λ there. OnFalse there (EndsReader (R.remaining input.old) (R.remaining input.new))) }
@@ -95,12 +107,11 @@ fn turn<R: Read, W: Write>(input: &mut R, out: &mut W) -> io::Result<bool>
     if MOST < lengths.sheet.max(lengths.scratch) {
         return Ok(false);
     }
-    let mut text = [0u8; MOST];
     let text = &mut text[..lengths.sheet];
     if !frames::filled(input, text)? {
         return Ok(false);
     }
-    write_answer(out, text, lengths)?;
+    write_answer(out, text, scratch, lengths)?;
     Ok(true)
 }
 
@@ -111,8 +122,10 @@ const MOST_SHEETS: u32 = 100000;
 fn main(rt: HostRuntime) -> io::Result<()> {
     let mut input = rt.stdin();
     let mut out = rt.stdout();
+    let mut text = [0; MOST];
+    let mut scratch = [0; MOST];
     for _ in 0..MOST_SHEETS {
-        if !turn(&mut input, &mut out)? {
+        if !turn(&mut input, &mut out, &mut text, &mut scratch)? {
             break;
         }
     }
