@@ -91,7 +91,7 @@ fn write_line<W: Write>(
 // The most that is read of a sheet, and lent of each buffer.
 const MOST: usize = 32768;
 
-// Lends what the header tells, as far as there is so much. Here and below the buffers are four parameters: of one struct that is lent, the check of
+// Lends what the header tells, as far as there is so much. Here and below each buffer is a parameter: of one struct that is lent, the check of
 // borrows does not let several fields be lent at once.
 #[tactic(auto, unfolding(crate::specs::Written::line_for))]
 fn write_answer<W: Write>(
